@@ -1,0 +1,2 @@
+-- The definitions of a run, one file a subject.
+pub mod Text
