@@ -1,4 +1,9 @@
 //! The definitions of a run: what MPI 3.1, chapter 11, and this project's profile of it say of scripts, logs and reports.
 //!
-//! The definitions stand in `specs/`, one file a subject. There is no code here; contracts of the crates above cite them.
+//! The definitions stand in `specs/`, one file a subject, and contracts of the crates above cite them. The code here is
+//! the plain structs that they speak of.
 #![tactic(auto)]
+
+mod elements;
+
+pub use elements::{Change, Piece};
