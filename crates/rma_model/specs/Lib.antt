@@ -1,10 +1,15 @@
 -- The definitions of a run, one file a subject.
 pub mod Board
+pub mod BuiltForm
+pub mod Canon
+pub mod Delivery
 pub mod Elements
 pub mod Entries
 pub mod Epochs
 pub mod Forms
+pub mod Generator
 pub mod Knowledge
+pub mod Layout
 pub mod Numbers
 pub mod OwnTests
 pub mod Pieces
