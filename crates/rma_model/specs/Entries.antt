@@ -83,10 +83,11 @@ creations rows rank win =
 abbrev pub window_of : List Row → Row → ℕ
 window_of before row = option_map_or numbered (window_named row.call) 0
   where
-  begins : Bool
-  begins = is_arrive row.step && is_creation row.call
-  numbered : ℕ → ℕ
-  numbered win = 32 * (if begins then creations before row.rank win else creations before row.rank win - 1) + win
+    begins : Bool
+    begins = is_arrive row.step && is_creation row.call
+
+    numbered : ℕ → ℕ
+    numbered win = 32 * (if begins then creations before row.rank win else creations before row.rank win - 1) + win
 
 -- an entry with the number of its window
 pub record Act : Type 0 where
@@ -110,5 +111,5 @@ calls_on test entries rank window =
 abbrev pub arrivals : List Act → Call → ℕ → ℕ → List Call
 arrivals entries collective rank window =
     map (λ (act : Act). act.row.call) (filter
-      (λ (act : Act). act.row.rank == rank && act.window == window && is_arrive act.row.step && is_same_collective collective act.row.call)
-      entries)
+    (λ (act : Act). act.row.rank == rank && act.window == window && is_arrive act.row.step && is_same_collective collective act.row.call)
+    entries)

@@ -83,10 +83,10 @@ may_reach AllLocked rank = true
 abbrev pub may_transfer : AccessState → Transfer → Bool
 may_transfer state t = reaches t.target
   where
-  reaches : Target → Bool
-  reaches Own = true
-  reaches Null = true
-  reaches (Named rank) = if is_some t.request then is_locked_at state (rank_number rank) else may_reach state (rank_number rank)
+    reaches : Target → Bool
+    reaches Own = true
+    reaches Null = true
+    reaches (Named rank) = if is_some t.request then is_locked_at state (rank_number rank) else may_reach state (rank_number rank)
 
 -- the call is allowed in the states
 abbrev pub is_in_epoch : AccessState → ExposureState → Call → Bool
@@ -126,10 +126,10 @@ used AllLocked = AllLocked
 abbrev pub after_transfer : AccessState → Transfer → AccessState
 after_transfer access t = reached t.target
   where
-  reached : Target → AccessState
-  reached Own = access
-  reached Null = access
-  reached (Named rank) = if is_some t.request then access else used access
+    reached : Target → AccessState
+    reached Own = access
+    reached Null = access
+    reached (Named rank) = if is_some t.request then access else used access
 
 -- the access state after the accepted call
 abbrev pub access_after : AccessState → Call → AccessState

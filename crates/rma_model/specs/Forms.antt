@@ -59,4 +59,5 @@ access_of seat window t = record {
   target = rank_reached seat t.target;
   lo = address_of seat window t;
   len = bytes_of t;
-  kind = t.kind }
+  kind = t.kind;
+}

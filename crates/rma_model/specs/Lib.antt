@@ -1,7 +1,9 @@
 -- The definitions of a run, one file a subject.
 pub mod Board
+pub mod BoardLaw
 pub mod BuiltForm
 pub mod Canon
+pub mod Cells
 pub mod Delivery
 pub mod Elements
 pub mod Entries
@@ -9,11 +11,17 @@ pub mod Epochs
 pub mod Forms
 pub mod Generator
 pub mod Knowledge
+pub mod LawfulRun
 pub mod Layout
 pub mod Numbers
 pub mod OwnTests
 pub mod Pieces
+pub mod RankLaw
+pub mod StepRun
 pub mod Synchronising
 pub mod Text
+pub mod Touches
 pub mod Transfers
+pub mod Turns
 pub mod Windows
+pub mod World

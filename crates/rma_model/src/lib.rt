@@ -4,6 +4,8 @@
 //! the plain structs that they speak of.
 #![tactic(auto)]
 
+mod cells;
 mod elements;
 
+pub use cells::Cell;
 pub use elements::{Change, Piece};
