@@ -13,6 +13,8 @@ pub mod Layout
 pub mod Numbers
 pub mod OwnTests
 pub mod Pieces
+pub mod Report
+pub mod Status
 pub mod Synchronising
 pub mod Text
 pub mod Transfers

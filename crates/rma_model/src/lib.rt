@@ -5,5 +5,7 @@
 #![tactic(auto)]
 
 mod elements;
+mod modes;
 
 pub use elements::{Change, Piece};
+pub use modes::Mode;
