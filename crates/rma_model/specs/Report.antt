@@ -26,7 +26,7 @@ use Rattle.rma_model.specs.Entries.{is_testwin}
 use Rattle.rma_model.specs.Knowledge.{accepted_by}
 use Rattle.rma_model.specs.Layout.{layout as layout_of, calls_of}
 use Rattle.rma_model.specs.Numbers.{number_of}
-use Rattle.rma_model.specs.Pieces.{numbers_from, piece_at}
+use Rattle.rma_model.specs.Pieces.{numbers_from}
 use Rattle.rma_model.specs.Text.{line, spaced, number, integer}
 use Rattle.rma_model.specs.Transfers.{Transfer, transfer_of}
 
@@ -83,28 +83,31 @@ abbrev pub is_touch_of : ℕ → Item → Bool
 is_touch_of index (Touch issue element cell place bits) = issue == index
 is_touch_of index item = false
 
--- the number that a touch of the access found in its element (MPI 3.1, sections 11.2 and 11.3)
-abbrev pub fetched : Layout → Access → Dtype → Item → ℤ
-fetched layout access dtype (Touch issue element cell place bits) =
-    let piece = piece_at layout access.target (access.lo + element * size_of dtype) in
-    number_of dtype (element_in bits piece.first_byte dtype)
-fetched layout access dtype item = pos 0
+-- the number that a touch of an element finds in the bits of its cell, where the element begins at the byte that its
+-- address names, modulo 4 (MPI 3.1, sections 11.2 and 11.3)
+abbrev pub fetched : Access → Dtype → ℕ → ℕ → ℤ
+fetched access dtype element bits =
+    let address = access.lo + element * size_of dtype in
+    number_of dtype (element_in bits (address % 4) dtype)
+
+abbrev pub fetched_word : Access → Dtype → Item → List ℕ
+fetched_word access dtype (Touch issue element cell place bits) = integer (fetched access dtype element bits)
+fetched_word access dtype item = []
 
 -- the numbers that the touches of an access found, which stand in the order of the elements
-abbrev pub fetched_words : Layout → List Item → ℕ → Access → Dtype → List (List ℕ)
-fetched_words layout log index access dtype =
-    map (λ touch. integer (fetched layout access dtype touch)) (filter (is_touch_of index) log)
+abbrev pub fetched_words : List Item → ℕ → Access → Dtype → List (List ℕ)
+fetched_words log index access dtype = map (fetched_word access dtype) (filter (is_touch_of index) log)
 
 -- what the item at an index of a rank's log says of its call: that it fetched, was refused, or was a test
-abbrev pub said : Layout → List Call → List Item → ℕ → Item → List Answer
-said layout calls log index (Issue call access) = option_map_or
-    (λ (t : Transfer). if t.fetches then answer call (codes "value" ∷ fetched_words layout log index access t.dtype) else [])
+abbrev pub said : List Call → List Item → ℕ → Item → List Answer
+said calls log index (Issue call access) = option_map_or
+    (λ (t : Transfer). if t.fetches then answer call (codes "value" ∷ fetched_words log index access t.dtype) else [])
     (option_and_then transfer_of (slice_get calls call)) []
-said layout calls log index (Refused call class seen) = answer call (codes "refused" ∷ class_text class ∷ [])
-said layout calls log index (Tested call seen) = answer call (codes "test" ∷ codes "false" ∷ [])
-said layout calls log index (Entry call place step) = option_map_or
+said calls log index (Refused call class seen) = answer call (codes "refused" ∷ class_text class ∷ [])
+said calls log index (Tested call seen) = answer call (codes "test" ∷ codes "false" ∷ [])
+said calls log index (Entry call place step) = option_map_or
     (λ entered. if is_testwin entered then answer call (codes "test" ∷ codes "true" ∷ []) else []) (slice_get calls call) []
-said layout calls log index item = []
+said calls log index item = []
 
 -- the number of the call that an item ends
 abbrev pub ended_by : List Call → Item → Option ℕ
@@ -129,9 +132,9 @@ waiting calls None = []
 waiting calls (Some call) = answer call (codes "waits" ∷ option_map_or word_of (slice_get calls call) [] ∷ [])
 
 -- all that a rank's log says of its calls
-abbrev pub answers : Layout → List Call → List Item → List Answer
-answers layout calls log =
-    flat_map (λ one. said layout calls log one.0 one.1) (enumerate_from 0 log) ++ waiting calls (standing calls log)
+abbrev pub answers : List Call → List Item → List Answer
+answers calls log =
+    flat_map (λ one. said calls log one.0 one.1) (enumerate_from 0 log) ++ waiting calls (standing calls log)
 
 -- ---- lines
 
@@ -143,8 +146,8 @@ abbrev pub lines_of_calls : ℕ → List Answer → ℕ → List ℕ
 lines_of_calls rank said count =
     flat_map (λ call. flat_map (answer_line rank) (filter (λ (a : Answer). a.call == call) said)) (numbers_from 0 count)
 
-abbrev pub call_lines : Layout → ℕ → List Call → List Item → List ℕ
-call_lines layout rank calls log = lines_of_calls rank (answers layout calls log) (length calls)
+abbrev pub call_lines : ℕ → List Call → List Item → List ℕ
+call_lines rank calls log = lines_of_calls rank (answers calls log) (length calls)
 
 -- two lower-case hexadecimal digits
 abbrev pub byte_hex : ℕ → List ℕ
@@ -213,7 +216,7 @@ summary_line run found = line (spaced
 abbrev pub full_report : Script → Run → List Finding → List ℕ
 full_report script run found =
     first_line run
-    ++ flat_map (λ rank. call_lines (layout_of script) rank (calls_at script rank) (log_at run rank)) (numbers_from 0 script.ranks)
+    ++ flat_map (λ rank. call_lines rank (calls_at script rank) (log_at run rank)) (numbers_from 0 script.ranks)
     ++ flat_map (λ rank. memory_lines rank (cells_at (layout_of script) run.memory rank)) (numbers_from 0 script.ranks)
     ++ flat_map (finding_line run) found
     ++ summary_line run found
