@@ -4,19 +4,16 @@ use Rattle.std.specs.List.{count_by, filter, fold}
 use Rattle.std.specs.Option.{option_map_or}
 use Rattle.rma_types.specs.declared.accesses.Step.{Step}
 use Rattle.rma_types.specs.declared.accesses.Step.TheVariants.{Arrive, Leave, One}
-use Rattle.rma_types.specs.declared.accesses.Access.{Access}
 use Rattle.rma_types.specs.declared.calls.Flavor.{Flavor}
 use Rattle.rma_types.specs.declared.calls.Call.{Call}
 use Rattle.rma_types.specs.declared.calls.Call.TheVariants.{Create, Free, Attach, Detach, WaitReq, TestReq}
 use Rattle.rma_record.specs.declared.items.Item.{Item}
 use Rattle.rma_record.specs.declared.items.Item.TheVariants.{Issue, Null, Touch, Flush, Request, Entry, Tested, Refused, Ended}
 use Rattle.rma_types.specs.declared.scripts.Part.{Part}
-use Rattle.rma_types.specs.declared.scripts.Layout.{Layout}
-use Rattle.rma_model.specs.Entries.{Act}
 use Rattle.rma_model.specs.Transfers.{Transfer, transfer_of}
 use Rattle.rma_model.specs.Synchronising.{window_named, flavor_made}
-use Rattle.rma_model.specs.Epochs.{AccessState, Idle, ExposureState, Unexposed, access_after, exposure_after}
-use Rattle.rma_model.specs.Windows.{Window, Region, natural, shape_of}
+use Rattle.rma_model.specs.Epochs.{Idle, Unexposed, access_after, exposure_after}
+use Rattle.rma_model.specs.Windows.{Window, Region, natural}
 
 -- a live request: its name, and the number of the call that made it
 pub record LiveRequest : Type 0 where
