@@ -125,13 +125,19 @@ accepted_by calls (Tested number seen) = None
 accepted_by calls (Refused number class seen) = None
 accepted_by calls Ended = None
 
--- what is known after one more item
-abbrev pub learn : (ℕ → List Part) → List Call → Knowledge → Item → Knowledge
+-- the place of an item that is an entry
+abbrev pub entry_place : Item → ℕ
+entry_place (Entry number place step) = place
+entry_place item = 0
+
+-- What is known after one more item. shapes gives the parts of a window by its number, at a place of the board: those
+-- that the arrivals before this place brought.
+abbrev pub learn : (ℕ → ℕ → List Part) → List Call → Knowledge → Item → Knowledge
 learn shapes calls known item = option_map_or heard (accepted_by calls item) known
   where
     heard : ℕ → Knowledge
-    heard number = option_map_or (λ (call : Call). after_call shapes known number call) (slice_get calls number) known
+    heard number = option_map_or (λ (call : Call). after_call (shapes (entry_place item)) known number call) (slice_get calls number) known
 
 -- what a rank knows after these items of its log
-abbrev pub known_after : (ℕ → List Part) → List Call → List Item → Knowledge
+abbrev pub known_after : (ℕ → ℕ → List Part) → List Call → List Item → Knowledge
 known_after shapes calls items = fold (learn shapes calls) nothing_known items
