@@ -1,4 +1,6 @@
--- Scripts with the reports of their runs, one file a subject.
+-- Scripts with the reports of their runs, and laws of the definitions, one file a subject.
+pub mod BoardLaws
+pub mod CellLaws
 pub mod Deliveries
 pub mod Elements
 pub mod Epochs

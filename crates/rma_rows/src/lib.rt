@@ -3,6 +3,8 @@
 //! Each function does nothing: its clauses are the theorems. The statements stand in `specs/`.
 #![tactic(auto)]
 
+mod boards;
+mod cells;
 mod deliveries;
 mod elements;
 mod epochs;
@@ -13,6 +15,8 @@ mod posts;
 mod regions;
 mod standing;
 
+pub use boards::{held_locks_agree, locks_are_given_back, rounds_are_full};
+pub use cells::updates_of_a_cell;
 pub use deliveries::late_touches;
 pub use elements::operations_on_elements;
 pub use epochs::{names_and_requests, refusals};
