@@ -1,13 +1,15 @@
 -- Accesses that are touched after their calls: MPI 3.1, section 11.7.
-use Rattle.std.specs.Prelude.{[], ◌∷◌, codes}
-use Rattle.rma_types.specs.declared.calls.Call.TheVariants.{Barrier, UnlockAll}
+use Rattle.std.specs.Prelude.{◌≡◌, [], ◌∷◌, codes}
+use Rattle.rma_types.specs.declared.calls.Call.TheVariants.{Barrier, FlushAll, FlushLocalAll, Sync, UnlockAll}
 use Rattle.rma_types.specs.declared.dtypes.Dtype.TheVariants.{Int32}
-use Rattle.rma_types.specs.declared.findings.Rule.TheVariants.{S1}
-use Rattle.rma_types.specs.declared.schedules.Delay.TheVariants.{End as EndDelay}
+use Rattle.rma_types.specs.declared.findings.Rule.TheVariants.{S1, S2}
+use Rattle.rma_types.specs.declared.ops.Op.TheVariants.{Sum}
+use Rattle.rma_model.specs.Generator.{seeded, stirred, drawn_from, order_stream}
+use Rattle.rma_types.specs.declared.schedules.Delay.TheVariants.{End as EndDelay, Seeded as SeededDelay}
 use Rattle.rma_types.specs.declared.schedules.Order.TheVariants.{Robin}
 use Rattle.rma_types.specs.declared.scripts.Script.{Script}
 use Rattle.rma_model.specs.StepRun.{step_run}
-use Rattle.rma_rows.specs.Scripts.{Gives, allocate, fence, load, lock_all, pair, plain_run, put, script}
+use Rattle.rma_rows.specs.Scripts.{Gives, acc, allocate, fence, flush_local, fop, get, load, lock_all, pair, plain_run, put, script}
 
 abbrev pub put_and_load : Script
 put_and_load = script
@@ -19,6 +21,7 @@ put_and_load = script
     ∷ [])
     ∷ [])
 
+-- the put is touched at the unlock_all
 abbrev pub LoadsBeforeThePut : Type 0
 LoadsBeforeThePut = Gives put_and_load (step_run put_and_load Robin EndDelay 0) (pair S1 0 3 0 4 ∷ [])
     (codes "ended"
@@ -29,6 +32,7 @@ LoadsBeforeThePut = Gives put_and_load (step_run put_and_load Robin EndDelay 0) 
     ∷ [])
     1
 
+-- the put is touched at once
 abbrev pub LoadsAfterThePut : Type 0
 LoadsAfterThePut = Gives put_and_load (plain_run put_and_load) (pair S1 0 3 0 5 ∷ [])
     (codes "ended"
@@ -51,6 +55,7 @@ put_and_wait = script
     ∷ [])
     ∷ [])
 
+-- rank 0 stands in a barrier with its put pending
 abbrev pub DeliversWhatAWaitingRankPut : Type 0
 DeliversWhatAWaitingRankPut = Gives put_and_wait (step_run put_and_wait Robin EndDelay 0) []
     (codes "stuck"
@@ -60,3 +65,113 @@ DeliversWhatAWaitingRankPut = Gives put_and_wait (step_run put_and_wait Robin En
     ∷ codes "summary accesses 1 touches 1 entries 7 refused 0 findings 0"
     ∷ [])
     7
+
+abbrev pub sum_before_fop : Script
+sum_before_fop = script
+    ((allocate 0 4 4
+    ∷ lock_all 0
+    ∷ acc 0 0 0 Int32 Sum (3 ∷ [])
+    ∷ fop 0 0 0 Int32 Sum 4
+    ∷ flush_local 0 0
+    ∷ UnlockAll 0
+    ∷ [])
+    ∷ [])
+
+-- a local flush completes what fetches, which gives way to the earlier accumulate of its cell
+abbrev pub GivesWayToTheFirstSum : Type 0
+GivesWayToTheFirstSum = Gives sum_before_fop (step_run sum_before_fop Robin EndDelay 0) []
+    (codes "ended"
+    ∷ codes "0:3 value 3"
+    ∷ codes "memory 0 0 0700000000000000"
+    ∷ codes "summary accesses 2 touches 2 entries 4 refused 0 findings 0"
+    ∷ [])
+    0
+
+abbrev pub put_and_get : Script
+put_and_get = script
+    ((allocate 0 4 4
+    ∷ lock_all 0
+    ∷ put 0 0 0 Int32 (5 ∷ [])
+    ∷ get 0 0 0 Int32 1
+    ∷ FlushLocalAll 0
+    ∷ FlushAll 0
+    ∷ Sync 0
+    ∷ load 0 0 Int32 1
+    ∷ UnlockAll 0
+    ∷ [])
+    ∷ [])
+
+-- a local flush completes the get alone, and a flush the put
+abbrev pub CompletesByFlushes : Type 0
+CompletesByFlushes = Gives put_and_get (step_run put_and_get Robin EndDelay 0) (pair S2 0 3 0 4 ∷ [])
+    (codes "ended"
+    ∷ codes "0:3 value 0"
+    ∷ codes "0:7 value 5"
+    ∷ codes "memory 0 0 0500000000000000"
+    ∷ codes "finding S2 0:2 0:3"
+    ∷ codes "summary accesses 3 touches 3 entries 4 refused 0 findings 1"
+    ∷ [])
+    1
+
+-- the draws of the order's stream from seed 1
+abbrev pub DrawsByTheGenerator : Type 0
+DrawsByTheGenerator =
+    let first = stirred (seeded 1 order_stream) in
+    let second = stirred first in
+    let third = stirred second in
+    drawn_from first ∷ drawn_from second ∷ drawn_from third ∷ [] ≡ 1456530643 ∷ 1542738009 ∷ 103528102 ∷ []
+
+-- the draw before the load is odd
+abbrev pub DeliversAtAnOddDraw : Type 0
+DeliversAtAnOddDraw = Gives put_and_load (step_run put_and_load Robin SeededDelay 0) (pair S1 0 3 0 5 ∷ [])
+    (codes "ended"
+    ∷ codes "0:3 value 5"
+    ∷ codes "memory 0 0 0500000000000000"
+    ∷ codes "finding S1 0:2 0:3"
+    ∷ codes "summary accesses 2 touches 2 entries 4 refused 0 findings 1"
+    ∷ [])
+    1
+
+-- the draw before the load is even
+abbrev pub WaitsAtAnEvenDraw : Type 0
+WaitsAtAnEvenDraw = Gives put_and_load (step_run put_and_load Robin SeededDelay 2) (pair S1 0 3 0 4 ∷ [])
+    (codes "ended"
+    ∷ codes "0:3 value 0"
+    ∷ codes "memory 0 0 0500000000000000"
+    ∷ codes "finding S1 0:2 0:3"
+    ∷ codes "summary accesses 2 touches 2 entries 4 refused 0 findings 1"
+    ∷ [])
+    1
+
+abbrev pub two_puts : Script
+two_puts = script
+    ((allocate 0 8 4
+    ∷ lock_all 0
+    ∷ put 0 0 0 Int32 (5 ∷ [])
+    ∷ put 0 0 1 Int32 (6 ∷ [])
+    ∷ load 0 0 Int32 2
+    ∷ UnlockAll 0
+    ∷ [])
+    ∷ [])
+
+-- the draw before the load is odd, and half of it is even
+abbrev pub DeliversTheFirst : Type 0
+DeliversTheFirst = Gives two_puts (step_run two_puts Robin SeededDelay 2) (pair S1 0 3 0 6 ∷ [])
+    (codes "ended"
+    ∷ codes "0:4 value 5 0"
+    ∷ codes "memory 0 0 0500000006000000"
+    ∷ codes "finding S1 0:2 0:4"
+    ∷ codes "summary accesses 3 touches 4 entries 4 refused 0 findings 1"
+    ∷ [])
+    1
+
+-- the draw before the load is odd, and half of it is odd
+abbrev pub DeliversTheSecond : Type 0
+DeliversTheSecond = Gives two_puts (step_run two_puts Robin SeededDelay 12) (pair S1 0 3 0 6 ∷ [])
+    (codes "ended"
+    ∷ codes "0:4 value 0 6"
+    ∷ codes "memory 0 0 0500000006000000"
+    ∷ codes "finding S1 0:2 0:4"
+    ∷ codes "summary accesses 3 touches 4 entries 4 refused 0 findings 1"
+    ∷ [])
+    1

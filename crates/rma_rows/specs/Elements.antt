@@ -1,11 +1,15 @@
 -- Elements of a cell, and operations on them: MPI 3.1, sections 5.9.2 and 11.3.
-use Rattle.std.specs.Prelude.{pos, [], ◌∷◌, None, codes}
+use Rattle.std.specs.Prelude.{ℕ, ◌≡◌, List, map, pos, [], ◌∷◌, None, codes}
 use Rattle.rma_types.specs.declared.calls.Call.TheVariants.{Put, Sync, UnlockAll}
 use Rattle.rma_types.specs.declared.calls.Lock.TheVariants.{Exclusive}
-use Rattle.rma_types.specs.declared.dtypes.Dtype.TheVariants.{Byte, Int32, Int8, Uint32}
-use Rattle.rma_types.specs.declared.ops.Op.TheVariants.{NoOp, Prod, Sum}
+use Rattle.rma_types.specs.declared.dtypes.Dtype.TheVariants.{Byte, Int16, Int32, Int8, Uint16, Uint32, Uint8}
+use Rattle.rma_types.specs.declared.ops.Op.TheVariants.{Band, Bor, Bxor, Land, Lor, Lxor, Max, Min, NoOp, Prod, Replace, Sum}
+use Rattle.rma_record.specs.declared.items.Item.TheVariants.{Touch}
+use Rattle.rma_types.specs.declared.dtypes.Dtype.{Dtype}
+use Rattle.rma_types.specs.declared.ops.Op.{Op}
+use Rattle.rma_model.specs.Elements.{combined}
 use Rattle.rma_types.specs.declared.scripts.Script.{Script}
-use Rattle.rma_rows.specs.Scripts.{Gives, acc, allocate, cas, fence, flush, fop, load, lock, lock_all, plain_run, put, script, store, unlock}
+use Rattle.rma_rows.specs.Scripts.{Gives, HasItem, acc, allocate, cas, fence, flush, fop, load, lock, lock_all, plain_run, put, script, store, unlock}
 
 abbrev pub sum_of_a_byte : Script
 sum_of_a_byte = script
@@ -59,6 +63,63 @@ WrapsInBothCells = Gives sums_in_a_lock (plain_run sums_in_a_lock) []
     ∷ [])
     0
 
+-- an operation on an element: the old bit pattern, that of the operand, and the new one
+pub record Operation : Type 0 where
+  pub op : Op
+  pub dtype : Dtype
+  pub old : ℕ
+  pub operand : ℕ
+  pub new : ℕ
+
+abbrev pub example : Op → Dtype → ℕ → ℕ → ℕ → Operation
+example op dtype old operand new = record { op = op; dtype = dtype; old = old; operand = operand; new = new }
+
+-- signed numbers are two's complement, and 1 stands for true
+abbrev pub operations : List Operation
+operations =
+    example Replace Int8 1 255 255
+    ∷ example NoOp Int8 7 9 7
+    ∷ example Max Int8 255 1 1
+    ∷ example Max Uint8 255 1 255
+    ∷ example Min Int8 1 255 255
+    ∷ example Min Uint8 1 255 1
+    ∷ example Max Int16 32768 32767 32767
+    ∷ example Min Int16 32768 32767 32768
+    ∷ example Max Uint16 32768 32767 32768
+    ∷ example Max Int32 2147483648 0 0
+    ∷ example Min Int32 2147483648 0 2147483648
+    ∷ example Min Uint32 2147483648 0 0
+    ∷ example Sum Int8 127 1 128
+    ∷ example Sum Int8 255 255 254
+    ∷ example Sum Uint8 255 1 0
+    ∷ example Sum Int16 32767 1 32768
+    ∷ example Sum Uint16 65535 2 1
+    ∷ example Sum Int32 2147483647 1 2147483648
+    ∷ example Sum Int32 4294967295 1 0
+    ∷ example Sum Uint32 4294967295 1 0
+    ∷ example Prod Int8 100 3 44
+    ∷ example Prod Int8 255 128 128
+    ∷ example Prod Uint8 16 17 16
+    ∷ example Prod Int16 65535 2 65534
+    ∷ example Prod Int32 65536 32768 2147483648
+    ∷ example Prod Uint32 65536 65536 0
+    ∷ example Land Int8 2 5 1
+    ∷ example Land Int8 0 5 0
+    ∷ example Lor Int8 0 5 1
+    ∷ example Lor Int8 0 0 0
+    ∷ example Lxor Int8 2 5 0
+    ∷ example Lxor Int8 0 5 1
+    ∷ example Lxor Int8 5 0 1
+    ∷ example Lxor Int8 0 0 0
+    ∷ example Band Byte 12 10 8
+    ∷ example Bor Byte 12 10 14
+    ∷ example Bxor Byte 12 10 6
+    ∷ []
+
+abbrev pub OperatesOnItsRange : Type 0
+OperatesOnItsRange =
+    map (λ (one : Operation). combined one.op one.dtype one.old one.operand) operations ≡ map (λ (one : Operation). one.new) operations
+
 abbrev pub two_swaps : Script
 two_swaps = script
     ((allocate 0 4 4
@@ -79,6 +140,10 @@ SwapsWhatIsEqual = Gives two_swaps (plain_run two_swaps) []
     ∷ codes "summary accesses 2 touches 2 entries 4 refused 0 findings 0"
     ∷ [])
     0
+
+-- the second swap is the second update of the cell, and finds what the first one left
+abbrev pub HasPlaceOne : Type 0
+HasPlaceOne = HasItem (plain_run two_swaps) 0 6 (Touch 5 0 0 1 0)
 
 abbrev pub wrong_operations : Script
 wrong_operations = script

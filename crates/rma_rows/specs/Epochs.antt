@@ -7,6 +7,23 @@ use Rattle.rma_types.specs.declared.scripts.Script.{Script}
 use Rattle.rma_model.specs.BuiltForm.{no_asserts}
 use Rattle.rma_rows.specs.Scripts.{Gives, allocate, attach, create, fence, flush, get, load, lock_all, pair, plain_run, put, script, spaced_script, store}
 
+abbrev pub before_a_fence : Script
+before_a_fence = script
+    ((allocate 0 4 4
+    ∷ put 0 0 0 Int32 (1 ∷ [])
+    ∷ fence 0
+    ∷ [])
+    ∷ [])
+
+-- a put needs an epoch, and a fence none
+abbrev pub RefusesBeforeAFence : Type 0
+RefusesBeforeAFence = Gives before_a_fence (plain_run before_a_fence) []
+    (codes "ended"
+    ∷ codes "0:1 refused MPI_ERR_RMA_SYNC"
+    ∷ codes "summary accesses 0 touches 0 entries 4 refused 1 findings 0"
+    ∷ [])
+    1
+
 abbrev pub outside_epochs : Script
 outside_epochs = script
     ((allocate 0 4 4
@@ -28,6 +45,45 @@ RefusesOutsideEpochs = Gives outside_epochs (plain_run outside_epochs) []
     ∷ codes "0:4 refused MPI_ERR_RMA_SYNC"
     ∷ codes "memory 0 0 0300000000000000"
     ∷ codes "summary accesses 1 touches 1 entries 6 refused 3 findings 0"
+    ∷ [])
+    1
+
+abbrev pub no_succeeding : Script
+no_succeeding = script
+    ((allocate 0 4 4
+    ∷ Fence 0 (record no_asserts { nosucceed = true })
+    ∷ put 0 0 0 Int32 (1 ∷ [])
+    ∷ lock_all 0
+    ∷ UnlockAll 0
+    ∷ [])
+    ∷ [])
+
+-- a fence with nosucceed begins no epoch
+abbrev pub EndsFencesByNosucceed : Type 0
+EndsFencesByNosucceed = Gives no_succeeding (plain_run no_succeeding) []
+    (codes "ended"
+    ∷ codes "0:2 refused MPI_ERR_RMA_SYNC"
+    ∷ codes "summary accesses 0 touches 0 entries 6 refused 1 findings 0"
+    ∷ [])
+    1
+
+abbrev pub two_assertions : Script
+two_assertions = script
+    ((allocate 0 4 4
+    ∷ Fence 0 (record no_asserts { nosucceed = true })
+    ∷ fence 0
+    ∷ [])
+    ∷ (allocate 0 4 4
+    ∷ fence 0
+    ∷ [])
+    ∷ [])
+
+-- the ranks of a fence agree in nosucceed: here rank 1 comes first
+abbrev pub RefusesAnotherAssertion : Type 0
+RefusesAnotherAssertion = Gives two_assertions (plain_run two_assertions) []
+    (codes "ended"
+    ∷ codes "0:1 refused MPI_ERR_ASSERT"
+    ∷ codes "summary accesses 0 touches 0 entries 8 refused 1 findings 0"
     ∷ [])
     1
 
@@ -112,7 +168,7 @@ two_requests = script
     ∷ [])
     ∷ [])
 
--- two puts to one place, where the test of the first one's request is no flush, are a forbidden pair
+-- a get and a put with requests; the pair that is given is of the two puts to one place
 abbrev pub CompletesRequests : Type 0
 CompletesRequests = Gives two_requests (plain_run two_requests) (pair S2 0 8 0 11 ∷ [])
     (codes "ended"

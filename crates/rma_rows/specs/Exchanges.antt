@@ -23,6 +23,7 @@ exchange number right left =
 abbrev pub ring : Script
 ring = script (exchange 10 1 3 ∷ exchange 11 2 0 ∷ exchange 12 3 1 ∷ exchange 13 0 2 ∷ [])
 
+-- each access is touched at once
 abbrev pub ExchangesAtOnce : Type 0
 ExchangesAtOnce = Gives ring (plain_run ring) []
     (codes "ended"
@@ -38,6 +39,7 @@ ExchangesAtOnce = Gives ring (plain_run ring) []
     ∷ [])
     0
 
+-- each access is touched when a call must have it
 abbrev pub ExchangesAtTheFence : Type 0
 ExchangesAtTheFence = Gives ring (step_run ring Robin EndDelay 0) []
     (codes "ended"
@@ -53,6 +55,7 @@ ExchangesAtTheFence = Gives ring (step_run ring Robin EndDelay 0) []
     ∷ [])
     0
 
+-- accesses are touched at drawn moments
 abbrev pub ExchangesAtDrawnMoments : Type 0
 ExchangesAtDrawnMoments = Gives ring (step_run ring Robin SeededDelay 7) []
     (codes "ended"

@@ -1,8 +1,8 @@
 -- Runs with fences: MPI 3.1, section 11.5.1.
 use Rattle.std.specs.Prelude.{[], ◌∷◌, codes}
-use Rattle.rma_types.specs.declared.dtypes.Dtype.TheVariants.{Int32, Int8}
+use Rattle.rma_types.specs.declared.dtypes.Dtype.TheVariants.{Byte, Int32, Int8}
 use Rattle.rma_types.specs.declared.scripts.Script.{Script}
-use Rattle.rma_rows.specs.Scripts.{Gives, allocate, fence, load, plain_run, put, script}
+use Rattle.rma_rows.specs.Scripts.{Gives, allocate, create, fence, load, plain_run, put, script, spaced_script, store}
 
 abbrev pub one_put : Script
 one_put = script
@@ -69,6 +69,53 @@ CountsInUnitsOfTheTarget = Gives two_units (plain_run two_units) []
     ∷ codes "memory 0 0 000007000000000000000000000000000000000000000000"
     ∷ codes "memory 1 0 000000000000000000000000000000000700000000000000"
     ∷ codes "summary accesses 2 touches 2 entries 12 refused 0 findings 0"
+    ∷ [])
+    0
+
+abbrev pub space_and_memory : Script
+space_and_memory = spaced_script (0 ∷ 12 ∷ [])
+    ((create 0 0 0 1
+    ∷ allocate 1 4 4
+    ∷ fence 0
+    ∷ fence 1
+    ∷ put 0 1 1 Int32 (5 ∷ [])
+    ∷ put 1 1 0 Int32 (6 ∷ [])
+    ∷ fence 0
+    ∷ fence 1
+    ∷ [])
+    ∷ (create 0 4 8 4
+    ∷ allocate 1 4 4
+    ∷ fence 0
+    ∷ fence 1
+    ∷ fence 0
+    ∷ fence 1
+    ∷ [])
+    ∷ [])
+
+-- a created window lies in the space from its base on, and allocated memory follows the space, rounded up to 8 bytes
+abbrev pub ReachesSpaceAndMemory : Type 0
+ReachesSpaceAndMemory = Gives space_and_memory (plain_run space_and_memory) []
+    (codes "ended"
+    ∷ codes "memory 1 0 000000000000000005000000000000000600000000000000"
+    ∷ codes "summary accesses 2 touches 2 entries 24 refused 0 findings 0"
+    ∷ [])
+    0
+
+abbrev pub far_stores : Script
+far_stores = script
+    ((allocate 0 72 1
+    ∷ store 0 33 Byte (255 ∷ [])
+    ∷ store 0 71 Byte (1 ∷ [])
+    ∷ [])
+    ∷ [])
+
+-- memory stands in pieces of 32 bytes, without those that are 0
+abbrev pub HasALineForEach32Bytes : Type 0
+HasALineForEach32Bytes = Gives far_stores (plain_run far_stores) []
+    (codes "ended"
+    ∷ codes "memory 0 32 00ff000000000000000000000000000000000000000000000000000000000000"
+    ∷ codes "memory 0 64 0000000000000001"
+    ∷ codes "summary accesses 2 touches 2 entries 2 refused 0 findings 0"
     ∷ [])
     0
 

@@ -20,8 +20,9 @@ puts_in_a_lock = script
     ∷ [])
     ∷ [])
 
-abbrev pub PairsPutsInOneEpoch : Type 0
-PairsPutsInOneEpoch = Gives puts_in_a_lock (plain_run puts_in_a_lock) (pair S2 0 3 0 5 ∷ [])
+-- the second put stays, and the pair is of both
+abbrev pub ReportsTwoPuts : Type 0
+ReportsTwoPuts = Gives puts_in_a_lock (plain_run puts_in_a_lock) (pair S2 0 3 0 5 ∷ [])
     (codes "ended"
     ∷ codes "memory 1 0 0200000000000000"
     ∷ codes "finding S2 0:2 0:3"
@@ -42,8 +43,9 @@ flush_between_puts = script
     ∷ [])
     ∷ [])
 
-abbrev pub FlushOrdersPuts : Type 0
-FlushOrdersPuts = Gives flush_between_puts (plain_run flush_between_puts) []
+-- with a flush between them, and no finding
+abbrev pub PutsAfterAFlush : Type 0
+PutsAfterAFlush = Gives flush_between_puts (plain_run flush_between_puts) []
     (codes "ended"
     ∷ codes "memory 1 0 0200000000000000"
     ∷ codes "summary accesses 2 touches 2 entries 6 refused 0 findings 0"
@@ -63,8 +65,9 @@ put_then_get = script
     ∷ [])
     ∷ [])
 
-abbrev pub LocalFlushLeavesThePutOpen : Type 0
-LocalFlushLeavesThePutOpen = Gives put_then_get (plain_run put_then_get) (pair S2 0 3 0 6 ∷ [])
+-- the get fetches what was put
+abbrev pub ReportsTheGetOfAPut : Type 0
+ReportsTheGetOfAPut = Gives put_then_get (plain_run put_then_get) (pair S2 0 3 0 6 ∷ [])
     (codes "ended"
     ∷ codes "0:4 value 1"
     ∷ codes "memory 1 0 0100000000000000"
@@ -86,8 +89,9 @@ get_then_put = script
     ∷ [])
     ∷ [])
 
-abbrev pub LocalFlushEndsTheGet : Type 0
-LocalFlushEndsTheGet = Gives get_then_put (plain_run get_then_put) []
+-- the get fetches what was there before the put
+abbrev pub GetsBeforeThePut : Type 0
+GetsBeforeThePut = Gives get_then_put (plain_run get_then_put) []
     (codes "ended"
     ∷ codes "0:2 value 0"
     ∷ codes "memory 1 0 0100000000000000"
@@ -109,6 +113,7 @@ two_sums = script
     ∷ [])
     ∷ [])
 
+-- 3 and 4
 abbrev pub AddsBothSums : Type 0
 AddsBothSums = Gives two_sums (plain_run two_sums) []
     (codes "ended"
@@ -131,8 +136,9 @@ sum_and_max = script
     ∷ [])
     ∷ [])
 
-abbrev pub PairsOtherOperations : Type 0
-PairsOtherOperations = Gives sum_and_max (plain_run sum_and_max) (pair S2 0 3 1 3 ∷ [])
+-- a sum of 3 after the greater of 0 and 4
+abbrev pub ReportsOtherOperations : Type 0
+ReportsOtherOperations = Gives sum_and_max (plain_run sum_and_max) (pair S2 0 3 1 3 ∷ [])
     (codes "ended"
     ∷ codes "memory 0 0 0700000000000000"
     ∷ codes "finding S2 0:2 1:2"
@@ -154,8 +160,9 @@ two_datatypes = script
     ∷ [])
     ∷ [])
 
-abbrev pub PairsOtherDatatypes : Type 0
-PairsOtherDatatypes = Gives two_datatypes (plain_run two_datatypes) (pair S2 0 3 1 3 ∷ [])
+-- a signed and an unsigned sum
+abbrev pub ReportsOtherDatatypes : Type 0
+ReportsOtherDatatypes = Gives two_datatypes (plain_run two_datatypes) (pair S2 0 3 1 3 ∷ [])
     (codes "ended"
     ∷ codes "memory 0 0 0700000000000000"
     ∷ codes "finding S2 0:2 1:2"
@@ -177,6 +184,7 @@ sum_and_read = script
     ∷ [])
     ∷ [])
 
+-- rank 1 has the first turn after the allocate, and fetches 0 before the sum
 abbrev pub ReadsBesideASum : Type 0
 ReadsBesideASum = Gives sum_and_read (plain_run sum_and_read) []
     (codes "ended"
@@ -203,8 +211,9 @@ load_without_sync = script
     ∷ [])
     ∷ [])
 
-abbrev pub PairsTheLoad : Type 0
-PairsTheLoad = Gives load_without_sync (plain_run load_without_sync) (pair S1 0 3 1 5 ∷ [])
+-- the pair is of the put and the load
+abbrev pub ReportsTheLoad : Type 0
+ReportsTheLoad = Gives load_without_sync (plain_run load_without_sync) (pair S1 0 3 1 5 ∷ [])
     (codes "ended"
     ∷ codes "1:3 value 5"
     ∷ codes "memory 1 0 0500000000000000"
@@ -231,8 +240,9 @@ load_after_sync = script
     ∷ [])
     ∷ [])
 
-abbrev pub SyncOrdersTheLoad : Type 0
-SyncOrdersTheLoad = Gives load_after_sync (plain_run load_after_sync) []
+-- with a sync, and no finding
+abbrev pub LoadsAfterASync : Type 0
+LoadsAfterASync = Gives load_after_sync (plain_run load_after_sync) []
     (codes "ended"
     ∷ codes "1:4 value 5"
     ∷ codes "memory 1 0 0500000000000000"
@@ -252,8 +262,9 @@ store_beside_a_put = script
     ∷ [])
     ∷ [])
 
-abbrev pub PairsTheStore : Type 0
-PairsTheStore = Gives store_beside_a_put (plain_run store_beside_a_put) (pair S3 0 3 1 2 ∷ [])
+-- the pair is of the put and the store to another byte
+abbrev pub ReportsTheStore : Type 0
+ReportsTheStore = Gives store_beside_a_put (plain_run store_beside_a_put) (pair S3 0 3 1 2 ∷ [])
     (codes "ended"
     ∷ codes "memory 1 0 01000000000000000100000000000000"
     ∷ codes "finding S3 0:2 1:1"

@@ -4,11 +4,14 @@ use Rattle.rma_types.specs.declared.calls.Call.TheVariants.{Barrier, Complete, T
 use Rattle.rma_types.specs.declared.calls.Lock.TheVariants.{Shared}
 use Rattle.rma_types.specs.declared.dtypes.Dtype.TheVariants.{Int32}
 use Rattle.rma_types.specs.declared.findings.Rule.TheVariants.{S2}
+use Rattle.rma_types.specs.declared.classes.Class.TheVariants.{Sync as SyncClass}
+use Rattle.rma_types.specs.declared.accesses.Step.TheVariants.{One}
+use Rattle.rma_record.specs.declared.items.Item.TheVariants.{Entry, Refused}
 use Rattle.rma_types.specs.declared.schedules.Delay.TheVariants.{None as NoDelay}
 use Rattle.rma_types.specs.declared.schedules.Order.TheVariants.{Greedy, Reverse, Seeded as SeededOrder}
 use Rattle.rma_types.specs.declared.scripts.Script.{Script}
 use Rattle.rma_model.specs.StepRun.{step_run}
-use Rattle.rma_rows.specs.Scripts.{Gives, allocate, get, lock, pair, plain_run, post, put, script, start, unlock}
+use Rattle.rma_rows.specs.Scripts.{Gives, HasItem, allocate, get, lock, pair, plain_run, post, put, script, start, unlock}
 
 abbrev pub put_and_get : Script
 put_and_get = script
@@ -31,8 +34,9 @@ put_and_get = script
     ∷ [])
     ∷ [])
 
-abbrev pub PairsBeforeTheWait : Type 0
-PairsBeforeTheWait = Gives put_and_get (plain_run put_and_get) (pair S2 1 3 2 5 ∷ [])
+-- the pair is of the put and the get
+abbrev pub ReportsTheGetBeforeTheWait : Type 0
+ReportsTheGetBeforeTheWait = Gives put_and_get (plain_run put_and_get) (pair S2 1 3 2 5 ∷ [])
     (codes "ended"
     ∷ codes "2:3 value 5"
     ∷ codes "memory 0 0 0500000000000000"
@@ -56,6 +60,7 @@ lock_of_a_posted_rank = script
     ∷ [])
     ∷ [])
 
+-- the start after the refusal meets the post
 abbrev pub RefusesALockOfAPostedRank : Type 0
 RefusesALockOfAPostedRank = Gives lock_of_a_posted_rank (plain_run lock_of_a_posted_rank) []
     (codes "ended"
@@ -63,6 +68,11 @@ RefusesALockOfAPostedRank = Gives lock_of_a_posted_rank (plain_run lock_of_a_pos
     ∷ codes "summary accesses 0 touches 0 entries 12 refused 1 findings 0"
     ∷ [])
     1
+
+-- the look that refused the lock saw 9 entries, and the post has place 5
+abbrev pub LooksAfterThePost : Type 0
+LooksAfterThePost = HasItem (plain_run lock_of_a_posted_rank) 0 2 (Entry 1 5 One)
+    × HasItem (plain_run lock_of_a_posted_rank) 1 4 (Refused 2 SyncClass 9)
 
 abbrev pub post_of_a_locked_rank : Script
 post_of_a_locked_rank = script
@@ -73,6 +83,7 @@ post_of_a_locked_rank = script
     ∷ [])
     ∷ [])
 
+-- the rank has locked itself
 abbrev pub RefusesAPostOfALockedRank : Type 0
 RefusesAPostOfALockedRank = Gives post_of_a_locked_rank (plain_run post_of_a_locked_rank) []
     (codes "ended"
@@ -98,6 +109,7 @@ two_tests = script
     ∷ [])
     ∷ [])
 
+-- the next rank after the last one
 abbrev pub TestsInRobin : Type 0
 TestsInRobin = Gives two_tests (plain_run two_tests) []
     (codes "ended"
@@ -107,6 +119,7 @@ TestsInRobin = Gives two_tests (plain_run two_tests) []
     ∷ [])
     0
 
+-- the next rank before the last one
 abbrev pub TestsInReverse : Type 0
 TestsInReverse = Gives two_tests (step_run two_tests Reverse NoDelay 0) []
     (codes "ended"
@@ -116,6 +129,7 @@ TestsInReverse = Gives two_tests (step_run two_tests Reverse NoDelay 0) []
     ∷ [])
     0
 
+-- the lowest rank
 abbrev pub TestsInGreedy : Type 0
 TestsInGreedy = Gives two_tests (step_run two_tests Greedy NoDelay 0) []
     (codes "ended"
@@ -125,6 +139,7 @@ TestsInGreedy = Gives two_tests (step_run two_tests Greedy NoDelay 0) []
     ∷ [])
     0
 
+-- a drawn rank
 abbrev pub TestsInSeeded : Type 0
 TestsInSeeded = Gives two_tests (step_run two_tests SeededOrder NoDelay 0) []
     (codes "ended"

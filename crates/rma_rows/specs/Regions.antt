@@ -30,6 +30,7 @@ between_barriers = spaced_script (0 ∷ 32 ∷ [])
     ∷ [])
     ∷ [])
 
+-- before the attach, after it, and after the detach
 abbrev pub ReachesAttachedBytes : Type 0
 ReachesAttachedBytes = Gives between_barriers (plain_run between_barriers) []
     (codes "ended"
@@ -61,6 +62,7 @@ between_fences = spaced_script (0 ∷ 32 ∷ [])
     ∷ [])
     ∷ [])
 
+-- before the attach, and after it
 abbrev pub ReachesAttachedBytesAfterAFence : Type 0
 ReachesAttachedBytesAfterAFence = Gives between_fences (plain_run between_fences) []
     (codes "ended"

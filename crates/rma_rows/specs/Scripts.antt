@@ -1,7 +1,6 @@
 -- Scripts in few words, and what their runs give.
-use Rattle.std.specs.Prelude.{ℕ, ◌≡◌, ℤ, pos, List, [], ◌∷◌, ◌++◌, length, map, replicate, Some, None}
+use Rattle.std.specs.Prelude.{ℕ, ◌≡◌, not, ◌==◌, pos, List, [], length, map, replicate, slice_get, slice_index_or, Some, None}
 use Rattle.std.specs.List.{flat_map}
-use Rattle.rma_types.specs.declared.accesses.Id.{Id}
 use Rattle.rma_types.specs.declared.calls.Call.{Call}
 use Rattle.rma_types.specs.declared.calls.Call.TheVariants.{Allocate, Create, Attach, Detach, Fence, Post, Start, LockOne, Unlock, LockAll, Flush, FlushLocal, Put, Get, Acc, Fop, Cas, Load, Store}
 use Rattle.rma_types.specs.declared.calls.Lock.{Lock}
@@ -12,6 +11,7 @@ use Rattle.rma_types.specs.declared.ops.Op.{Op}
 use Rattle.rma_types.specs.declared.schedules.Delay.TheVariants.{None as NoDelay}
 use Rattle.rma_types.specs.declared.schedules.Order.TheVariants.{Robin}
 use Rattle.rma_types.specs.declared.scripts.Script.{Script}
+use Rattle.rma_record.specs.declared.items.Item.{Item}
 use Rattle.rma_record.specs.declared.runs.Run.{Run}
 use Rattle.rma_model.specs.declared.modes.Mode.TheVariants.{Step}
 use Rattle.rma_model.specs.BuiltForm.{no_asserts}
@@ -105,7 +105,14 @@ pair rule first_rank first_index second_rank second_index = record {
 abbrev pub lines_text : List (List ℕ) → List ℕ
 lines_text lines = flat_map line lines
 
--- the report on the run with these findings has these lines, and this is the exit status
+-- The report on the run with these findings has these lines, and this is the exit status. The run has ended unless that
+-- is 7.
 abbrev pub Gives : Script → Run → List Finding → List (List ℕ) → ℕ → Type 0
 Gives script run findings lines code =
-    (report script run findings Step ≡ lines_text lines) × (status run findings ≡ code)
+    (report script run findings Step ≡ lines_text lines)
+    × (status run findings ≡ code)
+    × (run.ended ≡ not (code == 7))
+
+-- the item at an index of a rank's log
+abbrev pub HasItem : Run → ℕ → ℕ → Item → Type 0
+HasItem run rank index item = slice_get (slice_index_or run.logs rank []) index ≡ Some item

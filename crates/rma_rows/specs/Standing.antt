@@ -4,7 +4,7 @@ use Rattle.rma_types.specs.declared.calls.Call.TheVariants.{Barrier, Dynamic}
 use Rattle.rma_types.specs.declared.calls.Lock.TheVariants.{Exclusive, Shared}
 use Rattle.rma_types.specs.declared.dtypes.Dtype.TheVariants.{Int32}
 use Rattle.rma_types.specs.declared.schedules.Delay.TheVariants.{None as NoDelay}
-use Rattle.rma_types.specs.declared.schedules.Order.TheVariants.{Reverse}
+use Rattle.rma_types.specs.declared.schedules.Order.TheVariants.{Reverse, Seeded as SeededOrder}
 use Rattle.rma_types.specs.declared.scripts.Script.{Script}
 use Rattle.rma_model.specs.StepRun.{step_run}
 use Rattle.rma_rows.specs.Scripts.{Gives, allocate, fence, lock, plain_run, put, script}
@@ -19,6 +19,7 @@ barrier_and_fence = script
     ∷ [])
     ∷ [])
 
+-- rank 0 in a barrier, and rank 1 in a fence
 abbrev pub WaitInTwoCollectives : Type 0
 WaitInTwoCollectives = Gives barrier_and_fence (plain_run barrier_and_fence) []
     (codes "stuck"
@@ -40,6 +41,7 @@ kept_lock = script
     ∷ [])
     ∷ [])
 
+-- rank 0 ends with an exclusive lock
 abbrev pub WaitsForTheKeptLock : Type 0
 WaitsForTheKeptLock = Gives kept_lock (plain_run kept_lock) []
     (codes "stuck"
@@ -56,6 +58,7 @@ open_lock = script
     ∷ [])
     ∷ [])
 
+-- what was put is there
 abbrev pub EndsWithAnOpenLock : Type 0
 EndsWithAnOpenLock = Gives open_lock (plain_run open_lock) []
     (codes "ended"
@@ -73,6 +76,7 @@ two_flavors = script
     ∷ [])
     ∷ [])
 
+-- rank 0 has the first turn
 abbrev pub RefusesTheSecondFlavor : Type 0
 RefusesTheSecondFlavor = Gives two_flavors (plain_run two_flavors) []
     (codes "ended"
@@ -81,8 +85,28 @@ RefusesTheSecondFlavor = Gives two_flavors (plain_run two_flavors) []
     ∷ [])
     1
 
+-- rank 1 has the first turn
 abbrev pub WaitsForTheFlavor : Type 0
 WaitsForTheFlavor = Gives two_flavors (step_run two_flavors Reverse NoDelay 0) []
+    (codes "stuck"
+    ∷ codes "0:0 refused MPI_ERR_RMA_FLAVOR"
+    ∷ codes "1:0 waits dynamic"
+    ∷ codes "summary accesses 0 touches 0 entries 1 refused 1 findings 0"
+    ∷ [])
+    7
+
+-- the first draw is even, and gives rank 0 the first turn
+abbrev pub RefusesTheRankDrawnSecond : Type 0
+RefusesTheRankDrawnSecond = Gives two_flavors (step_run two_flavors SeededOrder NoDelay 3) []
+    (codes "ended"
+    ∷ codes "1:0 refused MPI_ERR_RMA_FLAVOR"
+    ∷ codes "summary accesses 0 touches 0 entries 4 refused 1 findings 0"
+    ∷ [])
+    1
+
+-- the first draw is odd, and gives rank 1 the first turn
+abbrev pub WaitsAsTheRankDrawnFirst : Type 0
+WaitsAsTheRankDrawnFirst = Gives two_flavors (step_run two_flavors SeededOrder NoDelay 0) []
     (codes "stuck"
     ∷ codes "0:0 refused MPI_ERR_RMA_FLAVOR"
     ∷ codes "1:0 waits dynamic"

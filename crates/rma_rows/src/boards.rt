@@ -5,17 +5,14 @@ ghost use Rattle.rma_rows.specs.BoardLaws.{UnlockGivesBack, UnlockAllGivesBack, 
 pub fn locks_are_given_back()
     ensures one { UnlockGivesBack }
     ensures all { UnlockAllGivesBack }
-{
-}
+{}
 
 /// No two locks that are held on one window at one target exclude each other (MPI 3.1, section 11.5.3).
 pub fn held_locks_agree()
     ensures { NoHeldLocksExclude }
-{
-}
+{}
 
 /// A rank leaves a collective exactly where each rank has arrived at it (MPI 3.1, section 11.5.1).
 pub fn rounds_are_full()
     ensures { LeavesFullRounds }
-{
-}
+{}

@@ -7,5 +7,4 @@ pub fn updates_of_a_cell()
     ensures one_at_a_time { FoldsOneAtATime }
     ensures without_an_update { StaysWithoutAnUpdate }
     ensures before { ChangesNothingBefore }
-{
-}
+{}

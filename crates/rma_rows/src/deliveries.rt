@@ -1,11 +1,22 @@
 //! Accesses that are touched after their calls.
-ghost use Rattle.rma_rows.specs.Deliveries.{LoadsBeforeThePut, LoadsAfterThePut, DeliversWhatAWaitingRankPut};
+ghost use Rattle.rma_rows.specs.Deliveries.{LoadsBeforeThePut, LoadsAfterThePut, DeliversWhatAWaitingRankPut, GivesWayToTheFirstSum, CompletesByFlushes, DrawsByTheGenerator, DeliversAtAnOddDraw, WaitsAtAnEvenDraw, DeliversTheFirst, DeliversTheSecond};
 
-/// A put that is touched late is not seen by a load of its own rank, and is there in the end, also where its rank waits for
-/// ever (MPI 3.1, sections 11.5.4 and 11.7).
+/// A put that is touched late is not seen by a load of its own rank, and is there in the end, also where its rank waits
+/// for ever (MPI 3.1, sections 11.5.4 and 11.7).
 pub fn late_touches()
     ensures late { LoadsBeforeThePut }
     ensures at_once { LoadsAfterThePut }
     ensures in_the_end { DeliversWhatAWaitingRankPut }
-{
-}
+{}
+
+/// A call has the accesses touched that it completes, a fetching one after an earlier accumulate of its cell. Draws choose
+/// among the others (MPI 3.1, sections 11.5.4 and 11.7).
+pub fn touches_that_are_due()
+    ensures gives_way { GivesWayToTheFirstSum }
+    ensures flushes { CompletesByFlushes }
+    ensures draws { DrawsByTheGenerator }
+    ensures odd_draw { DeliversAtAnOddDraw }
+    ensures even_draw { WaitsAtAnEvenDraw }
+    ensures first_drawn { DeliversTheFirst }
+    ensures second_drawn { DeliversTheSecond }
+{}

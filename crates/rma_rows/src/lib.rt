@@ -1,6 +1,7 @@
 //! Small scripts with the reports of their runs, as theorems over the definitions of a run, and laws of the definitions.
 //!
-//! Each function does nothing: its clauses are the theorems. The statements stand in `specs/`.
+//! Each function does nothing: its clauses are the theorems, whose statements stand in `specs/`. A theorem on a script is about
+//! the run of that script alone. The findings of a report are given to it: nothing here says which pairs are forbidden.
 #![tactic(auto)]
 
 mod boards;
@@ -17,7 +18,7 @@ mod standing;
 
 pub use boards::{held_locks_agree, locks_are_given_back, rounds_are_full};
 pub use cells::updates_of_a_cell;
-pub use deliveries::late_touches;
+pub use deliveries::{late_touches, touches_that_are_due};
 pub use elements::operations_on_elements;
 pub use epochs::{names_and_requests, refusals};
 pub use exchanges::exchange_on_a_ring;

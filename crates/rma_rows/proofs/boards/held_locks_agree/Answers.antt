@@ -1,12 +1,11 @@
 -- Each entry that is allowed keeps the held locks in agreement.
-use Rattle.std.proofs.Common.{◌≡◌, ℕ, zero, suc, ◌+◌, Bool, true, false, not, ◌&&◌, ◌||◌, cond, List, [], ◌∷◌, ◌++◌, map, Option, Some, None, refl, sym, ap, ◌∙◌, subst, inl, inr, append_assoc}
-use Rattle.std.specs.Prelude.{◌==◌, if◌then◌else◌, ℤ}
-use Rattle.std.specs.List.{list_all, filter, fold, AllByRecursion}
-use Rattle.std.proofs.lemmas.Bool.{cases_Bool, both_ways, cond-true, cond-false, cond_both, eq-eqb, eqb-true, and_parts, and_cases, not-true}
+use Rattle.std.proofs.Common.{◌≡◌, ℕ, Bool, true, false, not, ◌&&◌, List, [], ◌∷◌, ◌++◌, map, Option, Some, None, refl, sym, ap, ◌∙◌, subst, inl, inr, append_assoc}
+use Rattle.std.specs.Prelude.{◌==◌, if◌then◌else◌}
+use Rattle.std.specs.List.{list_all, filter, AllByRecursion}
+use Rattle.std.proofs.lemmas.Bool.{cases_Bool, both_ways, cond-true, cond-false, cond_both, eq-eqb, and_parts, and_cases, not-true}
 use Rattle.std.proofs.lemmas.List.{append-nil}
 use Rattle.std.proofs.lemmas.List.Sums.{fold_push}
 use Rattle.rma_types.specs.declared.accesses.Step.{Step}
-use Rattle.rma_types.specs.declared.accesses.Step.TheVariants.{One}
 use Rattle.rma_types.specs.declared.calls.Call.{Call}
 use Rattle.rma_types.specs.declared.calls.Call.TheVariants.{LockOne, Unlock, LockAll, UnlockAll}
 use Rattle.rma_types.specs.declared.calls.Lock.{Lock}
@@ -18,31 +17,31 @@ use Rattle.rma_model.specs.Entries.{Row, Act, acts, acts_after, window_of}
 use Rattle.rma_model.specs.Pieces.{numbers_from}
 use Rattle.rma_model.specs.Synchronising.{rank_number}
 use Rattle.rma_model.specs.Touches.{EachPair}
-use Rattle.rma_rows.specs.BoardLaws.{NoHeldLocksExclude, AgreeAtTheirTarget, LocksInOneStep}
+use Rattle.rma_rows.specs.BoardLaws.{AgreeAtTheirTarget, LocksInOneStep}
 use Rattle.rma_rows.proofs.boards.held_locks_agree.Goals as goal
 
 -- ---- lists
 
 all_append : {X : Type 0} (P : X → Type 0) (xs ys : List X) → AllByRecursion P xs → AllByRecursion P ys → AllByRecursion P (xs ++ ys)
 all_append P [] ys front back = back
-all_append P (x ∷ xs) ys front back = (front.0 , all_append P xs ys front.1 back)
+all_append P (x ∷ xs) ys front back = (front.0, all_append P xs ys front.1 back)
 
 all_filter : {X : Type 0} (P : X → Type 0) (p : X → Bool) (xs : List X) → AllByRecursion P xs → AllByRecursion P (filter p xs)
 all_filter P p [] all = tt
 all_filter P p (x ∷ xs) all =
     cond_both (p x) (x ∷ filter p xs) (filter p xs) (λ ys. AllByRecursion P ys)
-    (λ passes. (all.0 , all_filter P p xs all.1)) (λ fails. all_filter P p xs all.1)
+    (λ passes. (all.0, all_filter P p xs all.1)) (λ fails. all_filter P p xs all.1)
 
 pairs_append : {X : Type 0} (R : X → X → Type 0) (xs ys : List X) → EachPair R xs → EachPair R ys → AllByRecursion (λ x. AllByRecursion (R x) ys) xs → EachPair R (xs ++ ys)
 pairs_append R [] ys front back across = back
 pairs_append R (x ∷ xs) ys front back across =
-    (all_append (R x) xs ys front.0 across.0 , pairs_append R xs ys front.1 back across.1)
+    (all_append (R x) xs ys front.0 across.0, pairs_append R xs ys front.1 back across.1)
 
 pairs_filter : {X : Type 0} (R : X → X → Type 0) (p : X → Bool) (xs : List X) → EachPair R xs → EachPair R (filter p xs)
 pairs_filter R p [] pairs = tt
 pairs_filter R p (x ∷ xs) pairs =
     cond_both (p x) (x ∷ filter p xs) (filter p xs) (λ ys. EachPair R ys)
-    (λ passes. (all_filter (R x) p xs pairs.0 , pairs_filter R p xs pairs.1)) (λ fails. pairs_filter R p xs pairs.1)
+    (λ passes. (all_filter (R x) p xs pairs.0, pairs_filter R p xs pairs.1)) (λ fails. pairs_filter R p xs pairs.1)
 
 -- what a test of a list's part says of the whole
 part_passes : {X : Type 0} (here ok : X → Bool) (xs : List X) → list_all ok (filter here xs) ≡ true → AllByRecursion (λ x. here x ≡ true → ok x ≡ true) xs
@@ -51,23 +50,23 @@ part_passes here ok (x ∷ xs) all = elim (cases_Bool (here x)) [
   | inl is ↦
       let kept = sym (ap (λ ys. list_all ok ys) (cond-true (here x) (x ∷ filter here xs) (filter here xs) is)) ∙ all in
       let parts = and_parts (ok x) (list_all ok (filter here xs)) kept in
-      ((λ _. parts.0) , part_passes here ok xs parts.1)
+      ((λ _. parts.0), part_passes here ok xs parts.1)
   | inr other ↦
       let kept = sym (ap (λ ys. list_all ok ys) (cond-false (here x) (x ∷ filter here xs) (filter here xs) other)) ∙ all in
-      ((λ is. absurd (both_ways (here x) other is)) , part_passes here ok xs kept)
+      ((λ is. absurd (both_ways (here x) other is)), part_passes here ok xs kept)
 ]
 
 all_map : {X : Type 0} (P Q : X → Type 0) → ((x : X) → P x → Q x) → (xs : List X) → AllByRecursion P xs → AllByRecursion Q xs
 all_map P Q gives [] all = tt
-all_map P Q gives (x ∷ xs) all = (gives x all.0 , all_map P Q gives xs all.1)
+all_map P Q gives (x ∷ xs) all = (gives x all.0, all_map P Q gives xs all.1)
 
 all_made : {X Y : Type 0} (P : X → Type 0) (f : Y → X) → ((y : Y) → P (f y)) → (ys : List Y) → AllByRecursion P (map f ys)
 all_made P f gives [] = tt
-all_made P f gives (y ∷ ys) = (gives y , all_made P f gives ys)
+all_made P f gives (y ∷ ys) = (gives y, all_made P f gives ys)
 
 pairs_made : {X Y : Type 0} (R : X → X → Type 0) (f : Y → X) → ((y z : Y) → R (f y) (f z)) → (ys : List Y) → EachPair R (map f ys)
 pairs_made R f gives [] = tt
-pairs_made R f gives (y ∷ ys) = (all_made (R (f y)) f (gives y) ys , pairs_made R f gives ys)
+pairs_made R f gives (y ∷ ys) = (all_made (R (f y)) f (gives y) ys, pairs_made R f gives ys)
 
 -- ---- entries
 
@@ -154,7 +153,7 @@ keeps ranks before rank number (LockOne win kind target asserts) step one_step i
     let q = question ranks before row in
     let passes = subst (λ s. is_allowed_now q s ≡ true) one_step (allowed q step is) in
     pairs_append AgreeAtTheirTarget held (record { holder = rank; window = window; target = rank_number target; kind = kind } ∷ [])
-    pairs (tt , tt) (agrees_with rank window (rank_number target) kind held passes)
+    pairs (tt, tt) (agrees_with rank window (rank_number target) kind held passes)
 keeps ranks before rank number (LockAll win asserts) step one_step is pairs =
     let row : Row = record { rank = rank; number = number; call = LockAll win asserts; step = step } in
     let window = window_of before row in
@@ -181,7 +180,7 @@ held_from ranks before (row ∷ rows) one_step allowed pairs =
     let act : Act = record { row = row; window = window_of before row } in
     let pushed = ap (λ (all : List Act). held_locks ranks all) (acts_push [] before row) ∙ fold_push (held_after ranks) [] (acts before) act in
     let here = subst (λ (held : List Held). EachPair AgreeAtTheirTarget held) (sym pushed)
-        (keeps ranks before row.rank row.number row.call row.step one_step.0 allowed.0 pairs) in
+    (keeps ranks before row.rank row.number row.call row.step one_step.0 allowed.0 pairs) in
     subst (λ (all : List Row). EachPair AgreeAtTheirTarget (held_locks ranks (acts all))) (append_assoc before (row ∷ []) rows)
     (held_from ranks (before ++ row ∷ []) rows one_step.1 allowed.1 here)
 

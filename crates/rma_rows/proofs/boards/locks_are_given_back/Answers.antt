@@ -1,14 +1,14 @@
 -- A release keeps the locks of others, and no lock that was just taken.
-use Rattle.std.proofs.Common.{◌≡◌, ℕ, zero, suc, ◌+◌, Bool, true, false, not, ◌&&◌, ◌||◌, cond, List, [], ◌∷◌, ◌++◌, map, refl, ap, ◌∙◌}
+use Rattle.std.proofs.Common.{◌≡◌, ℕ, Bool, true, false, not, ◌&&◌, ◌||◌, List, [], ◌∷◌, ◌++◌, map, refl, ap, ◌∙◌}
 use Rattle.std.specs.Prelude.{◌==◌, ⊤}
-use Rattle.std.specs.List.{list_any, filter, fold}
+use Rattle.std.specs.List.{list_any, filter}
 use Rattle.std.proofs.lemmas.Bool.{cond-true, cond-false, eq-eqb, or_parts, not_from_true, not_from_false, and_from}
 use Rattle.std.proofs.lemmas.List.{append-nil}
 use Rattle.std.proofs.lemmas.List.Elements.{filter-append}
 use Rattle.std.proofs.lemmas.List.Sums.{fold-append}
 use Rattle.rma_types.specs.declared.calls.Lock.TheVariants.{Shared}
 use Rattle.rma_types.specs.declared.calls.Call.TheVariants.{LockOne, Unlock, LockAll, UnlockAll}
-use Rattle.rma_model.specs.Board.{Held, held_after, held_locks, locks_of_all}
+use Rattle.rma_model.specs.Board.{Held, held_after, held_locks}
 use Rattle.rma_model.specs.Pieces.{numbers_from}
 use Rattle.rma_model.specs.Synchronising.{rank_number}
 use Rattle.rma_rows.specs.BoardLaws.{UnlockGivesBack, UnlockAllGivesBack, made_on, is_held_at, is_held_by}

@@ -1,9 +1,9 @@
 -- A test of each rank is a test of each number below their count.
-use Rattle.std.proofs.Common.{◌≡◌, ℕ, zero, suc, ◌+◌, ◌<◌, ◌≤◌, Bool, true, false, ◌&&◌, cond, List, [], ◌∷◌, length, refl, sym, ap, ◌∙◌, subst, inl, inr, arith}
-use Rattle.std.specs.Prelude.{◌↔◌, nat_le, if◌then◌else◌}
+use Rattle.std.proofs.Common.{◌≡◌, ℕ, zero, suc, ◌+◌, ◌<◌, ◌≤◌, Bool, true, false, length, refl, ap, ◌∙◌, inl, inr, arith}
+use Rattle.std.specs.Prelude.{nat_le, if◌then◌else◌}
 use Rattle.std.specs.List.{list_all}
-use Rattle.std.proofs.lemmas.Bool.{cases_Bool, cases_eq, and_parts, and_from, leb-true, le-leb}
-use Rattle.rma_model.specs.Board.{Decision, Allow, NotYet}
+use Rattle.std.proofs.lemmas.Bool.{cases_eq, and_parts, and_from, leb-true, le-leb}
+use Rattle.rma_model.specs.Board.{Allow, NotYet}
 use Rattle.rma_types.specs.declared.accesses.Step.TheVariants.{Leave}
 use Rattle.rma_model.specs.Entries.{Row, acts, arrivals, window_of}
 use Rattle.rma_model.specs.Pieces.{numbers_from}
@@ -33,8 +33,7 @@ rounds : LeavesFullRounds
 rounds ranks before rank number call =
     let leaving : Row = record { rank = rank; number = number; call = call; step = Leave } in
     let count : ℕ → ℕ = λ other. length (arrivals (acts before) call other (window_of before leaving)) in
-    let test : ℕ → Bool = λ other. nat_le (count rank) (count other) in
-    (
+    let test : ℕ → Bool = λ other. nat_le (count rank) (count other) in (
       (λ is other below. leb-true (count rank) (count other) (all_below test 0 ranks (allowed (list_all test (numbers_from 0 ranks)) is) other (omega arith) (omega (arith, below)))),
       (λ each. ap (λ (now : Bool). if now then Allow else NotYet) (from_each test 0 ranks (λ k from below. le-leb (count rank) (count k) (each k (omega (arith, below)))))),
     )

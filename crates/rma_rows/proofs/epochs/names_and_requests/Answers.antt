@@ -8,11 +8,11 @@ use Rattle.rma_rows.proofs.epochs.names_and_requests.Goals as goal
 
 name_used_again : HasItsOwnMemory
 unfolding step_run report digits
-name_used_again = (refl , refl)
+name_used_again = (refl, refl, refl)
 
 two_requests : CompletesRequests
 unfolding step_run report digits
-two_requests = (refl , refl)
+two_requests = (refl, refl, refl)
 
 pub returns : goal.returns
 returns c = record { name_used_again = name_used_again; two_requests = two_requests }

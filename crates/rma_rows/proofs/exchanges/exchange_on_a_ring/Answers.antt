@@ -8,15 +8,15 @@ use Rattle.rma_rows.proofs.exchanges.exchange_on_a_ring.Goals as goal
 
 at_once : ExchangesAtOnce
 unfolding step_run report digits
-at_once = (refl , refl)
+at_once = (refl, refl, refl)
 
 at_the_fence : ExchangesAtTheFence
 unfolding step_run report digits
-at_the_fence = (refl , refl)
+at_the_fence = (refl, refl, refl)
 
 at_drawn_moments : ExchangesAtDrawnMoments
 unfolding step_run report digits
-at_drawn_moments = (refl , refl)
+at_drawn_moments = (refl, refl, refl)
 
 pub returns : goal.returns
 returns c = record { at_once = at_once; at_the_fence = at_the_fence; at_drawn_moments = at_drawn_moments }

@@ -3,24 +3,24 @@ use Rattle.std.specs.Fmt.{digits}
 use Rattle.std.specs.Prelude.{refl}
 use Rattle.rma_model.specs.Report.{report}
 use Rattle.rma_model.specs.StepRun.{step_run}
-use Rattle.rma_rows.specs.Locks.{PairsPutsInOneEpoch, FlushOrdersPuts, LocalFlushLeavesThePutOpen, LocalFlushEndsTheGet}
+use Rattle.rma_rows.specs.Locks.{ReportsTwoPuts, PutsAfterAFlush, ReportsTheGetOfAPut, GetsBeforeThePut}
 use Rattle.rma_rows.proofs.locks.accesses_in_a_lock.Goals as goal
 
-no_flush : PairsPutsInOneEpoch
+no_flush : ReportsTwoPuts
 unfolding step_run report digits
-no_flush = (refl , refl)
+no_flush = (refl, refl, refl)
 
-flush_between : FlushOrdersPuts
+flush_between : PutsAfterAFlush
 unfolding step_run report digits
-flush_between = (refl , refl)
+flush_between = (refl, refl, refl)
 
-local_flush_of_a_put : LocalFlushLeavesThePutOpen
+local_flush_of_a_put : ReportsTheGetOfAPut
 unfolding step_run report digits
-local_flush_of_a_put = (refl , refl)
+local_flush_of_a_put = (refl, refl, refl)
 
-local_flush_of_a_get : LocalFlushEndsTheGet
+local_flush_of_a_get : GetsBeforeThePut
 unfolding step_run report digits
-local_flush_of_a_get = (refl , refl)
+local_flush_of_a_get = (refl, refl, refl)
 
 pub returns : goal.returns
 returns c = record { no_flush = no_flush; flush_between = flush_between; local_flush_of_a_put = local_flush_of_a_put; local_flush_of_a_get = local_flush_of_a_get }

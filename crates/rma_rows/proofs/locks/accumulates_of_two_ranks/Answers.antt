@@ -3,24 +3,24 @@ use Rattle.std.specs.Fmt.{digits}
 use Rattle.std.specs.Prelude.{refl}
 use Rattle.rma_model.specs.Report.{report}
 use Rattle.rma_model.specs.StepRun.{step_run}
-use Rattle.rma_rows.specs.Locks.{AddsBothSums, PairsOtherOperations, PairsOtherDatatypes, ReadsBesideASum}
+use Rattle.rma_rows.specs.Locks.{AddsBothSums, ReportsOtherOperations, ReportsOtherDatatypes, ReadsBesideASum}
 use Rattle.rma_rows.proofs.locks.accumulates_of_two_ranks.Goals as goal
 
 sums : AddsBothSums
 unfolding step_run report digits
-sums = (refl , refl)
+sums = (refl, refl, refl)
 
-operations : PairsOtherOperations
+operations : ReportsOtherOperations
 unfolding step_run report digits
-operations = (refl , refl)
+operations = (refl, refl, refl)
 
-datatypes : PairsOtherDatatypes
+datatypes : ReportsOtherDatatypes
 unfolding step_run report digits
-datatypes = (refl , refl)
+datatypes = (refl, refl, refl)
 
 read : ReadsBesideASum
 unfolding step_run report digits
-read = (refl , refl)
+read = (refl, refl, refl)
 
 pub returns : goal.returns
 returns c = record { sums = sums; operations = operations; datatypes = datatypes; read = read }

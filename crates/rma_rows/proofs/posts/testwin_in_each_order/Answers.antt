@@ -8,19 +8,19 @@ use Rattle.rma_rows.proofs.posts.testwin_in_each_order.Goals as goal
 
 robin : TestsInRobin
 unfolding step_run report digits
-robin = (refl , refl)
+robin = (refl, refl, refl)
 
 reverse : TestsInReverse
 unfolding step_run report digits
-reverse = (refl , refl)
+reverse = (refl, refl, refl)
 
 greedy : TestsInGreedy
 unfolding step_run report digits
-greedy = (refl , refl)
+greedy = (refl, refl, refl)
 
 seeded : TestsInSeeded
 unfolding step_run report digits
-seeded = (refl , refl)
+seeded = (refl, refl, refl)
 
 pub returns : goal.returns
 returns c = record { robin = robin; reverse = reverse; greedy = greedy; seeded = seeded }

@@ -8,11 +8,11 @@ use Rattle.rma_rows.proofs.regions.attached_regions.Goals as goal
 
 between_barriers : ReachesAttachedBytes
 unfolding step_run report digits
-between_barriers = (refl , refl)
+between_barriers = (refl, refl, refl)
 
 between_fences : ReachesAttachedBytesAfterAFence
 unfolding step_run report digits
-between_fences = (refl , refl)
+between_fences = (refl, refl, refl)
 
 pub returns : goal.returns
 returns c = record { between_barriers = between_barriers; between_fences = between_fences }
