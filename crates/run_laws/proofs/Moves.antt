@@ -14,6 +14,7 @@ use Rattle.rma_model.specs.Entries.{Row, is_testwin}
 use Rattle.rma_model.specs.Forms.{Form, NullForm, IssueForm, LookUpForm, FlushForm, RequestForm, CollectiveForm, TestForm, EntryForm, form_of}
 use Rattle.rma_model.specs.OwnTests.{own, window_at}
 use Rattle.rma_model.specs.RankLaw.{needs_board}
+use Rattle.rma_model.specs.StepRun.{is_ready}
 use Rattle.rma_model.specs.Transfers.{Transfer, transfer_of}
 use Rattle.rma_model.specs.Turns.{row_of, answer, with_item, with_mark, opened, with_issue}
 use Rattle.rma_model.specs.Windows.{Window}
@@ -124,10 +125,10 @@ pub data Move (stage : Stage) (world : World) (rank : ℕ) : World → Type 0 wh
     form_at stage world rank call ≡ CollectiveForm → answer stage world rank call Leave ≡ Allow →
     Move stage world rank (entered_by stage world rank call Leave finished)
 
--- one move, or two
+-- one move, or two, between which the rank may have a turn
 pub data Moves (stage : Stage) (world : World) (rank : ℕ) : World → Type 0 where
   OneMove : (next : World) → Move stage world rank next → Moves stage world rank next
-  TwoMoves : (middle next : World) → Move stage world rank middle → Move stage middle rank next → Moves stage world rank next
+  TwoMoves : (middle next : World) → Move stage world rank middle → is_ready (agent_at middle rank) ≡ true → Move stage middle rank next → Moves stage world rank next
 
 -- the first entry of the call at which a rank is, is put, and its other item can follow
 abbrev pub IsInside : Stage → World → ℕ → Call → Type 0

@@ -21,6 +21,7 @@ use Rattle.rma_model.specs.Synchronising.{window_named}
 use Rattle.rma_model.specs.Forms.{Form, NullForm, IssueForm, LookUpForm, FlushForm, RequestForm, CollectiveForm, TestForm, EntryForm, form_of}
 use Rattle.rma_model.specs.OwnTests.{Seat, own, tests, first_class, window_at, has_wrong_window}
 use Rattle.rma_model.specs.RankLaw.{needs_board}
+use Rattle.rma_model.specs.StepRun.{is_ready}
 use Rattle.rma_model.specs.Transfers.{Transfer, transfer_of}
 use Rattle.rma_model.specs.Turns.{row_of, answer, with_item, with_mark, opened, with_issue, turn, turn_at, end_turn, has_pending, call_turn, go_in, begin, judge, wait_or_go_on, go_on, enter, enter_by, arrive, arrive_by, leave, fail_to_enter, issue, must_draw}
 use Rattle.rma_model.specs.Windows.{Window}
@@ -123,20 +124,35 @@ arrived stage world rank call inside here form =
      ap (λ (agent : Agent). agent.entered) is,
      collective_anywhere (seat_of stage rank (agent_at world rank)) call form (seat_of stage rank (agent_at next rank)))
 
+ready_has_not_ended : (agent : Agent) → is_ready agent ≡ true → agent.ended ≡ false
+ready_has_not_ended agent e = not_true agent.ended (not agent.marked) e
+  where
+  not_true : (a b : Bool) → (not a && b) ≡ true → a ≡ false
+  not_true true b e = sym e
+  not_true false b e = refl
+
+-- the rank may have a turn after its Arrive
+ready_inside : (stage : Stage) (world : World) (rank : ℕ) (call : Call) → rank < length world.agents → is_ready (agent_at world rank) ≡ true →
+    is_ready (agent_at (entered_by stage world rank call Arrive opened) rank) ≡ true
+ready_inside stage world rank call inside ready =
+    let is = agent_after_entry stage world rank (agent_at world rank) (row_of rank (agent_at world rank) call Arrive) opened inside in
+    let ended = ready_has_not_ended (agent_at world rank) ready in
+    ap is_ready is ∙ ap (λ b. not b && true) ended
+
 -- a collective is begun
-arrives : (stage : Stage) (world : World) (rank : ℕ) (call : Call) → rank < length world.agents → Begins stage world rank call →
+arrives : (stage : Stage) (world : World) (rank : ℕ) (call : Call) → rank < length world.agents → is_ready (agent_at world rank) ≡ true → Begins stage world rank call →
     form_at stage world rank call ≡ CollectiveForm → (d : Decision) → answer stage world rank call Arrive ≡ d →
     Moves stage world rank (arrive_by d stage world rank call)
-arrives stage world rank call inside begins form (Refuse class) e =
+arrives stage world rank call inside ready begins form (Refuse class) e =
     OneMove _ (IsRefused call class begins (ap needs_board form) (ap (λ f. answer stage world rank call (step_by f)) form ∙ e))
-arrives stage world rank call inside begins form NotYet e =
+arrives stage world rank call inside ready begins form NotYet e =
     subst (Moves stage world rank) (sym (no_test_waits stage world rank call (collective_is_no_test (seat_of stage rank (agent_at world rank)) call form)))
       (OneMove _ (Waits call begins (ap needs_board form) (collective_is_no_test (seat_of stage rank (agent_at world rank)) call form)
         (ap (λ f. answer stage world rank call (step_by f)) form ∙ e)))
-arrives stage world rank call inside begins form Allow e =
+arrives stage world rank call inside ready begins form Allow e =
     let next = entered_by stage world rank call Arrive opened in
     let there = arrived stage world rank call inside begins.here form in
-    TwoMoves next (leave stage next rank call) (Arrives call begins form e)
+    TwoMoves next (leave stage next rank call) (Arrives call begins form e) (ready_inside stage world rank call inside ready)
       (leaves stage next rank call there.0 there.1 there.2 (answer stage next rank call Leave) refl)
 
 -- a transfer's Issue is made
@@ -145,29 +161,29 @@ issue_is : (stage : Stage) (world : World) (rank : ℕ) (call : Call) (t : Trans
 issue_is stage world rank call t window moves live = rw (live, moves) refl
 
 -- the call goes on by its form
-goes_on : (stage : Stage) (world : World) (rank : ℕ) (call : Call) → rank < length world.agents → Begins stage world rank call →
+goes_on : (stage : Stage) (world : World) (rank : ℕ) (call : Call) → rank < length world.agents → is_ready (agent_at world rank) ≡ true → Begins stage world rank call →
     (form : Form) → form_at stage world rank call ≡ form → Moves stage world rank (go_on form stage world rank call)
-goes_on stage world rank call inside begins NullForm e =
+goes_on stage world rank call inside ready begins NullForm e =
     OneMove _ (Passes call (Null (agent_at world rank).at) begins (subst (λ f. IsPlainItem f (agent_at world rank).at (Null (agent_at world rank).at)) (sym e) refl))
-goes_on stage world rank call inside begins IssueForm e =
+goes_on stage world rank call inside ready begins IssueForm e =
     let moves = issue_moves (seat_of stage rank (agent_at world rank)) call e in
     let live = live_window (seat_of stage rank (agent_at world rank)) call moves.0 moves.1 begins.passes in
     subst (Moves stage world rank) (sym (issue_is stage world rank call moves.0 live.0 moves.1 live.1))
       (OneMove _ (Issues call moves.0 live.0 begins e moves.1 live.1))
-goes_on stage world rank call inside begins LookUpForm e =
+goes_on stage world rank call inside ready begins LookUpForm e =
     enters stage world rank call opened begins (ap needs_board e) (ap step_by e)
       (subst (λ f. GoesOn f opened) (sym e) (λ agent. refl))
       (inl (look_up_is_no_test (seat_of stage rank (agent_at world rank)) call e)) (answer stage world rank call One) refl
-goes_on stage world rank call inside begins FlushForm e =
+goes_on stage world rank call inside ready begins FlushForm e =
     OneMove _ (Passes call (Flush (agent_at world rank).at) begins (subst (λ f. IsPlainItem f (agent_at world rank).at (Flush (agent_at world rank).at)) (sym e) refl))
-goes_on stage world rank call inside begins RequestForm e =
+goes_on stage world rank call inside ready begins RequestForm e =
     OneMove _ (Passes call (Request (agent_at world rank).at) begins (subst (λ f. IsPlainItem f (agent_at world rank).at (Request (agent_at world rank).at)) (sym e) refl))
-goes_on stage world rank call inside begins CollectiveForm e =
-    arrives stage world rank call inside begins e (answer stage world rank call Arrive) refl
-goes_on stage world rank call inside begins TestForm e =
+goes_on stage world rank call inside ready begins CollectiveForm e =
+    arrives stage world rank call inside ready begins e (answer stage world rank call Arrive) refl
+goes_on stage world rank call inside ready begins TestForm e =
     enters stage world rank call finished begins (ap needs_board e) (ap step_by e)
       (subst (λ f. GoesOn f finished) (sym e) (λ agent. refl)) (inr e) (answer stage world rank call One) refl
-goes_on stage world rank call inside begins EntryForm e =
+goes_on stage world rank call inside ready begins EntryForm e =
     enters stage world rank call finished begins (ap needs_board e) (ap step_by e)
       (subst (λ f. GoesOn f finished) (sym e) (λ agent. refl))
       (inl (entry_is_no_test (seat_of stage rank (agent_at world rank)) call e)) (answer stage world rank call One) refl
@@ -176,15 +192,15 @@ goes_on stage world rank call inside begins EntryForm e =
 pub nothing_awaited : (seat : Seat) (call : Call) (pending : List Issued) → pending ≡ [] → awaited seat call pending ≡ None
 nothing_awaited seat call pending e = rw e refl
 
-judges : (stage : Stage) (world : World) (rank : ℕ) (call : Call) → rank < length world.agents → (agent_at world rank).pending ≡ [] →
+judges : (stage : Stage) (world : World) (rank : ℕ) (call : Call) → rank < length world.agents → is_ready (agent_at world rank) ≡ true → (agent_at world rank).pending ≡ [] →
     IsAt stage world rank call → (agent_at world rank).entered ≡ false →
     (o : Option Class) → own (seat_of stage rank (agent_at world rank)) call ≡ o → Moves stage world rank (judge o stage world rank call)
-judges stage world rank call inside idle here new (Some class) e = OneMove _ (RefusesAlone call class here new e)
-judges stage world rank call inside idle here new None e =
+judges stage world rank call inside ready idle here new (Some class) e = OneMove _ (RefusesAlone call class here new e)
+judges stage world rank call inside ready idle here new None e =
     let begins : Begins stage world rank call = record { here = here; new = new; passes = e } in
     let none = nothing_awaited (seat_of stage rank (agent_at world rank)) call (agent_at world rank).pending idle in
     subst (λ o. Moves stage world rank (wait_or_go_on o stage world rank call)) (sym none)
-      (goes_on stage world rank call inside begins (form_at stage world rank call) refl)
+      (goes_on stage world rank call inside ready begins (form_at stage world rank call) refl)
 
 -- with delay none nothing is drawn
 no_draw : (stage : Stage) (agent : Agent) → stage.delay ≡ NoDelay → must_draw stage agent ≡ false
@@ -207,25 +223,25 @@ goes_in stage world rank call inside (here, inr (form, t, window, moves, live)) 
       (subst (Moves stage world rank) (sym (issue_is stage world rank call t window moves live))
         (OneMove _ (IssuesInside call t window here inside form moves live)))
 
-call_turns : (stage : Stage) (world : World) (rank : ℕ) (call : Call) → rank < length world.agents → IsCalm stage world →
+call_turns : (stage : Stage) (world : World) (rank : ℕ) (call : Call) → rank < length world.agents → is_ready (agent_at world rank) ≡ true → IsCalm stage world →
     IsAt stage world rank call → (entered : Bool) → (agent_at world rank).entered ≡ entered →
     Moves stage world rank (call_turn entered stage world rank call)
-call_turns stage world rank call inside calm here true e =
+call_turns stage world rank call inside ready calm here true e =
     let within = calm.inside rank e in
     goes_in stage world rank call e
       (subst (IsInside stage world rank) (some_is (slice_get (calls_at stage rank) (agent_at world rank).at) call within.0 here within.1.0) within.1)
-call_turns stage world rank call inside calm here false e =
+call_turns stage world rank call inside ready calm here false e =
     subst (λ b. Moves stage world rank (begin b stage world rank call)) (sym (no_draw stage (agent_at world rank) calm.delay))
-      (judges stage world rank call inside (calm.pending rank) here e (own (seat_of stage rank (agent_at world rank)) call) refl)
+      (judges stage world rank call inside ready (calm.pending rank) here e (own (seat_of stage rank (agent_at world rank)) call) refl)
 
-turns : (stage : Stage) (world : World) (rank : ℕ) → rank < length world.agents → IsCalm stage world →
+turns : (stage : Stage) (world : World) (rank : ℕ) → rank < length world.agents → is_ready (agent_at world rank) ≡ true → IsCalm stage world →
     (o : Option Call) → slice_get (calls_at stage rank) (agent_at world rank).at ≡ o → Moves stage world rank (turn_at o stage world rank)
-turns stage world rank inside calm None e =
+turns stage world rank inside ready calm None e =
     subst (λ b. Moves stage world rank (end_turn b stage world rank)) (sym (no_pending (agent_at world rank) (calm.pending rank))) (OneMove _ (Ends e))
-turns stage world rank inside calm (Some call) e = call_turns stage world rank call inside calm e (agent_at world rank).entered refl
+turns stage world rank inside ready calm (Some call) e = call_turns stage world rank call inside ready calm e (agent_at world rank).entered refl
 
 -- a turn of a rank from a calm state is one move or two
-pub turn_is_moves : (stage : Stage) (world : World) (rank : ℕ) → rank < length world.agents → IsCalm stage world →
+pub turn_is_moves : (stage : Stage) (world : World) (rank : ℕ) → rank < length world.agents → is_ready (agent_at world rank) ≡ true → IsCalm stage world →
     Moves stage world rank (turn stage world rank)
-turn_is_moves stage world rank inside calm =
-    turns stage world rank inside calm (slice_get (calls_at stage rank) (agent_at world rank).at) refl
+turn_is_moves stage world rank inside ready calm =
+    turns stage world rank inside ready calm (slice_get (calls_at stage rank) (agent_at world rank).at) refl
