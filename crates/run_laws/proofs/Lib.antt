@@ -4,4 +4,5 @@ pub mod CallForms
 pub mod Calm
 pub mod Moves
 pub mod Picks
+pub mod Runs
 pub mod Turns
