@@ -1,9 +1,8 @@
 -- Facts of every rank's agent, kept as one agent changes or all marks are cleared.
-use Rattle.std.proofs.Common.{◌≡◌, ℕ, zero, suc, ◌+◌, ◌<◌, Bool, List, [], ◌∷◌, length, get_or, refl, sym, ◌∙◌, ap, subst, length-set}
+use Rattle.std.proofs.Common.{ℕ, zero, suc, List, [], ◌∷◌, get_or, sym, subst}
 use Rattle.std.specs.Prelude.{slice_set, map}
 use Rattle.std.proofs.Math.ListN.{get_or-map}
-use Rattle.std.proofs.lemmas.List.{length-map}
-use Rattle.rma_model.specs.World.{Agent, World, agent_at, new_agent, unmarked}
+use Rattle.rma_model.specs.World.{Agent, new_agent, unmarked}
 
 -- a fact of each element holds after one changes, where it holds of the new one
 pub each_set : {X : Type 0} (P : ℕ → X → Type 0) (xs : List X) (d : X) (i : ℕ) (x : X) → P i x → ((k : ℕ) → P k (get_or xs k d)) →
