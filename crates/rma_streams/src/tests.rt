@@ -1,0 +1,1 @@
+//! What the clauses do not say: that calls succeed.
