@@ -43,7 +43,7 @@ drop-copied old bytes whole at n copied buf view same within e =
     let count : at + n - at ≡ n = omega arith in
     let room : n ≤ length (drop at bytes) = simp length-drop (omega arith) in
     let is_copied : copied ≡ take n (drop at bytes) =
-        e ∙ ap (λ (m : ℕ). take m (drop at whole)) count ∙ ap (λ (xs : List ℕ). take n (drop at xs)) same in
+    e ∙ ap (λ (m : ℕ). take m (drop at whole)) count ∙ ap (λ (xs : List ℕ). take n (drop at xs)) same in
     let size : length copied ≡ n = ap (length {A = ℕ}) is_copied ∙ length-take-le n (drop at bytes) room in
     sym view ∙ sym (take-append-drop n (drop at bytes))
     ∙ ap (λ (xs : List ℕ). take n (drop at bytes) ++ xs) (drop-drop n at bytes)
@@ -53,7 +53,7 @@ drop-copied old bytes whole at n copied buf view same within e =
 pub Wrote-more : (old mid new : Option (List ℕ)) (bytes : List ℕ) (done n : ℕ) → Wrote old (take done bytes) mid → Wrote mid (take n (take (length bytes - done) (drop done bytes))) new → Wrote old (take (done + n) bytes) new
 Wrote-more old mid new bytes done n wrote then =
     let whole : take done bytes ++ take n (take (length bytes - done) (drop done bytes)) ≡ take (done + n) bytes =
-        ap (λ (xs : List ℕ). take done bytes ++ take n xs) (take_rest bytes done) ∙ sym (take-add done n bytes) in
+    ap (λ (xs : List ℕ). take done bytes ++ take n xs) (take_rest bytes done) ∙ sym (take-add done n bytes) in
     subst (λ (xs : List ℕ). Wrote old xs new) whole (Wrote-append old (take done bytes) mid (take n (take (length bytes - done) (drop done bytes))) new wrote then)
 
 -- a fact that holds holds after an error

@@ -27,7 +27,11 @@ impl Model for MemorySink {
     ghost Value = { Pit };
 
     ghost view = { λ sink. record {
-        written = sink.bytes.items; room = vec_capacity sink.bytes; piece = sink.piece; plan = sink.plan } };
+      written = sink.bytes.items;
+      room = vec_capacity sink.bytes;
+      piece = sink.piece;
+      plan = sink.plan;
+    } };
 
     ghost invariant = { λ sink. 1 ≤ sink.piece };
 }
@@ -50,7 +54,12 @@ impl MemorySink {
     }
 
     /// The same with room for `room` bytes, for which it asks for no more memory.
-    pub fn with_room(alloc: Global, room: usize, piece: usize, failing: Vec<u64>) -> Result<Self, AllocError>
+    pub fn with_room(
+        alloc: Global,
+        room: usize,
+        piece: usize,
+        failing: Vec<u64>,
+    ) -> Result<Self, AllocError>
         requires { 1 ≤ piece }
         ensures written { IfOk result (λ sink. sink.written ≡ []) }
         ensures room { IfOk result (λ sink. sink.room ≡ room) }
@@ -98,7 +107,7 @@ impl Sink for MemorySink {
 
         ensures room { self.old.room ≤ self.new.room }
         ensures piece { self.new.piece ≡ self.old.piece }
-        ensures piece_given { 1 ≤ self.old.piece }
+        ensures piece_at_least_one { 1 ≤ self.old.piece }
     {
         if self.plan.count_call() {
             self.plan.count_fault();

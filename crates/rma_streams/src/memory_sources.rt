@@ -68,7 +68,7 @@ impl Source for MemorySource {
         ensures rose { OnErr result (Rose self.old.plan.faults self.new.plan.faults) }
         ensures never_falls { self.old.plan.faults ≤ self.new.plan.faults }
         ensures piece { self.new.piece ≡ self.old.piece }
-        ensures piece_given { 1 ≤ self.old.piece }
+        ensures piece_at_least_one { 1 ≤ self.old.piece }
     {
         if self.plan.count_call() {
             self.plan.count_fault();

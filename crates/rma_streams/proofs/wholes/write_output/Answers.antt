@@ -7,7 +7,7 @@ pub turns-preserved : goal.turns-preserved
 turns-preserved g c = record {
   within = omega (arith, c.in_ok-done.ensures.within, length-take {A = ℕ}, length-drop {A = ℕ});
   wrote =
-    Wrote-more (g.K.Sink.written c.args.sink.now) (g.K.Sink.written c.turns.sink) (g.K.Sink.written c.write.new.self)
+      Wrote-more (g.K.Sink.written c.args.sink.now) (g.K.Sink.written c.turns.sink) (g.K.Sink.written c.write.new.self)
       c.args.bytes.now c.turns.done c.in_ok-done.field-0 c.turns.invariant.wrote c.in_ok-done.ensures.appended;
   no_fault = cc c.in_ok-done.ensures.no_fault;
 }
