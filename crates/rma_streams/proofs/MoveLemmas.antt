@@ -1,31 +1,15 @@
--- Bytes that move in several steps, and what a caller learns where they are told.
-use Rattle.std.proofs.Common.{◌≡◌, ℕ, ◌+◌, ◌-◌, ◌≤◌, Option, Some, None, Result, Ok, Err, OnErr, List, [], ◌++◌, length, take, drop, refl, sym, ap, ◌∙◌, subst, arith, append_assoc}
+-- Bytes that move in several steps.
+use Rattle.std.proofs.Common.{◌≡◌, ℕ, ◌+◌, ◌-◌, ◌≤◌, Option, Some, None, Result, Ok, Err, OnErr, List, ◌++◌, length, take, drop, sym, ap, ◌∙◌, subst, arith, append_assoc}
 use Rattle.std.specs.Option.{option_map}
 use Rattle.std.proofs.Math.Seq.{take-append_seam, take-add}
-use Rattle.std.proofs.lemmas.Grind.{common_steps}
 use Rattle.std.proofs.lemmas.List.{take-append-drop, drop-drop, length-drop, length-take-le, take_rest}
 use Rattle.rma_streams.specs.Moves.{Took, Wrote}
-
--- nothing was taken
-pub Took-none : (left : Option (List ℕ)) → Took left [] left
-Took-none None = refl
-Took-none (Some rest) = refl
 
 -- two takes in a row
 pub Took-append : (old : Option (List ℕ)) (first : List ℕ) (mid : Option (List ℕ)) (second : List ℕ) (new : Option (List ℕ)) → Took old first mid → Took mid second new → Took old (first ++ second) new
 Took-append old first mid second None took then = took ∙ ap (λ m. option_map (λ rest. first ++ rest) m) then
 Took-append old first mid second (Some rest) took then =
     took ∙ ap (λ m. option_map (λ rest. first ++ rest) m) then ∙ ap Some (sym (append_assoc first second rest))
-
--- what is left where the source tells it
-pub Took-told : (bytes taken : List ℕ) (new : Option (List ℕ)) → Took (Some bytes) taken new → (rest : List ℕ) × (new ≡ Some rest) × (bytes ≡ taken ++ rest)
-Took-told bytes taken None took = cc
-Took-told bytes taken (Some rest) took = (rest, refl, cc)
-
--- nothing was written
-pub Wrote-none : (written : Option (List ℕ)) → Wrote written [] written
-Wrote-none None = refl
-Wrote-none (Some held) = grind (arith, common_steps)
 
 -- two writes in a row
 pub Wrote-append : (old : Option (List ℕ)) (first : List ℕ) (mid : Option (List ℕ)) (second : List ℕ) (new : Option (List ℕ)) → Wrote old first mid → Wrote mid second new → Wrote old (first ++ second) new

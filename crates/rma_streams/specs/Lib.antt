@@ -2,3 +2,4 @@
 pub mod Faults
 pub mod Moves
 pub mod Memory
+pub mod System

@@ -22,20 +22,20 @@ abbrev pub faulted : Plan → Plan
 faulted plan = record plan { faults = counted plan.faults }
 
 -- a source in memory: the bytes that are left, the greatest piece of a call, and the plan of its failures
-pub record Feed : Type 0 where
+pub record SourceState : Type 0 where
   pub left : List ℕ
   pub piece : ℕ
   pub plan : Plan
 
 -- a sink in memory: the bytes written, the room that it has without asking for more memory, the greatest
 -- piece of a call, and the plan of its failures
-pub record Pit : Type 0 where
+pub record SinkState : Type 0 where
   pub written : List ℕ
   pub room : ℕ
   pub piece : ℕ
   pub plan : Plan
 
 -- a sink that never fails: the bytes that it holds, and the most that it can hold
-pub record Shelf : Type 0 where
+pub record HeldBytes : Type 0 where
   pub held : List ℕ
   pub room : ℕ

@@ -22,9 +22,9 @@ pub struct MemorySink {
 
 impl Model for MemorySink {
     ghost use Rattle.std.specs.Prelude.{◌≤◌, vec_capacity};
-    ghost use Rattle.rma_streams.specs.Memory.{Pit};
+    ghost use Rattle.rma_streams.specs.Memory.{SinkState};
 
-    ghost Value = { Pit };
+    ghost Value = { SinkState };
 
     ghost view = { λ sink. record {
       written = sink.bytes.items;

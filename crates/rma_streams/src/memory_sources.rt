@@ -22,9 +22,9 @@ pub struct MemorySource {
 
 impl Model for MemorySource {
     ghost use Rattle.std.specs.Prelude.{◌≤◌};
-    ghost use Rattle.rma_streams.specs.Memory.{Feed};
+    ghost use Rattle.rma_streams.specs.Memory.{SourceState};
 
-    ghost Value = { Feed };
+    ghost Value = { SourceState };
 
     ghost view = { λ source. record { left = source.rest; piece = source.piece; plan = source.plan } };
 

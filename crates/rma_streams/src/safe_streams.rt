@@ -22,6 +22,7 @@ impl Model for SafeSource {
 }
 
 impl SafeSource {
+    /// A source of `bytes`.
     pub fn new(bytes: Vec<u8>) -> Self
         ensures { result ≡ bytes.items }
     {
@@ -60,9 +61,9 @@ pub struct SafeSink {
 
 impl Model for SafeSink {
     ghost use Rattle.std.specs.Prelude.{◌≤◌, vec_len, vec_capacity};
-    ghost use Rattle.rma_streams.specs.Memory.{Shelf};
+    ghost use Rattle.rma_streams.specs.Memory.{HeldBytes};
 
-    ghost Value = { Shelf };
+    ghost Value = { HeldBytes };
 
     ghost view = { λ sink. record { held = sink.bytes.items; room = sink.room } };
 

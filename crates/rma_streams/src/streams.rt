@@ -12,8 +12,10 @@ pub struct Failed;
 /// Contracts see two things of a source: the bytes that are left, where it tells them, and the count of its
 /// faults, which never falls and stands still at 2^64 - 1.
 pub trait Source {
+    // The bytes that are left, where the source tells them.
     ghost left: { Self → Option (List ℕ) };
 
+    // How often it failed.
     ghost faults: { Self → ℕ };
 
     /// Moves the next bytes into the front of `buf`, and answers how many: at most the length of `buf`, and
@@ -35,8 +37,10 @@ pub trait Source {
 /// Contracts see two things of a sink: the bytes written, where it tells them, and the count of its faults,
 /// which never falls and stands still at 2^64 - 1.
 pub trait Sink {
+    // The bytes written so far, where the sink tells them.
     ghost written: { Self → Option (List ℕ) };
 
+    // How often it failed.
     ghost faults: { Self → ℕ };
 
     /// Writes the first of `bytes`, and answers how many: at least one where there is one. After an `Err`
