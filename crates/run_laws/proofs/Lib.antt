@@ -1,3 +1,9 @@
 -- Theorems over the definitions of a run.
+pub mod Agents
+pub mod CallForms
+pub mod Calm
+pub mod Ending
 pub mod Moves
+pub mod Picks
+pub mod Runs
 pub mod Turns
