@@ -1,14 +1,14 @@
--- Laws of the board's answers: MPI 3.1, sections 11.5.1 and 11.5.3.
-use Rattle.std.specs.Prelude.{ℕ, ℤ, ◌≡◌, ◌<◌, ◌≤◌, ◌↔◌, Bool, false, ◌&&◌, ◌==◌, List, [], ◌∷◌, ◌++◌, length}
+-- Laws of the board's answers: MPI 3.1, sections 11.5.1 to 11.5.3.
+use Rattle.std.specs.Prelude.{ℕ, ℤ, ◌≡◌, ◌<◌, ◌≤◌, ◌↔◌, Bool, false, ◌&&◌, ◌==◌, nat_lt, List, [], ◌∷◌, ◌++◌, length}
 use Rattle.std.specs.List.{list_any, AllByRecursion}
 use Rattle.rma_types.specs.declared.accesses.Step.TheVariants.{Leave, One}
 use Rattle.rma_types.specs.declared.calls.Asserts.{Asserts}
 use Rattle.rma_types.specs.declared.calls.Call.{Call}
-use Rattle.rma_types.specs.declared.calls.Call.TheVariants.{LockOne, Unlock, LockAll, UnlockAll}
+use Rattle.rma_types.specs.declared.calls.Call.TheVariants.{Post, LockOne, Unlock, LockAll, UnlockAll}
 use Rattle.rma_types.specs.declared.calls.Lock.{Lock}
 use Rattle.rma_model.specs.Board.{Held, Allow, decide, excludes, held_locks}
 use Rattle.rma_model.specs.BoardLaw.{AreAllowed}
-use Rattle.rma_model.specs.Entries.{Row, Act, acts, arrivals, window_of}
+use Rattle.rma_model.specs.Entries.{Row, Act, acts, arrivals, calls_on, is_post, is_wait, window_of}
 use Rattle.rma_model.specs.Synchronising.{rank_number}
 use Rattle.rma_model.specs.Touches.{EachPair}
 
@@ -61,6 +61,27 @@ abbrev pub NoHeldLocksExclude : Type 0
 NoHeldLocksExclude = (ranks : ℕ) (rows : List Row) →
     AllByRecursion LocksInOneStep rows → AreAllowed ranks [] rows →
     EachPair AgreeAtTheirTarget (held_locks ranks (acts rows))
+
+-- a lock, a lock_all or a post is an entry in one step
+abbrev pub OpensInOneStep : Row → Type 0
+OpensInOneStep row = by_call row.call
+  where
+    by_call : Call → Type 0
+    by_call (LockOne win kind target asserts) = row.step ≡ One
+    by_call (LockAll win asserts) = row.step ≡ One
+    by_call (Post win group asserts) = row.step ≡ One
+    by_call call = Unit {0}
+
+-- the rank has made more posts on the window than waits
+abbrev pub is_posted : List Act → ℕ → ℕ → Bool
+is_posted entries window rank =
+    nat_lt (length (calls_on is_wait entries rank window)) (length (calls_on is_post entries rank window))
+
+-- after entries that were allowed, no lock is held on a window at a rank that is posted there
+abbrev pub NoPostedRankIsLocked : Type 0
+NoPostedRankIsLocked = (ranks : ℕ) (rows : List Row) →
+    AllByRecursion OpensInOneStep rows → AreAllowed ranks [] rows →
+    AllByRecursion (λ (one : Held). is_posted (acts rows) one.window one.target ≡ false) (held_locks ranks (acts rows))
 
 -- ---- collectives (11.5.1)
 

@@ -18,80 +18,9 @@ use Rattle.rma_model.specs.Pieces.{numbers_from}
 use Rattle.rma_model.specs.Synchronising.{rank_number}
 use Rattle.rma_model.specs.Touches.{EachPair}
 use Rattle.rma_rows.specs.BoardLaws.{AgreeAtTheirTarget, LocksInOneStep}
+use Rattle.rma_rows.proofs.EachElement.{all_append, all_filter, pairs_append, pairs_filter, part_passes, all_map, all_made, pairs_made}
+use Rattle.rma_rows.proofs.LastEntry.{acts_push, allowed}
 use Rattle.rma_rows.proofs.boards.held_locks_agree.Goals as goal
-
--- ---- lists
-
-all_append : {X : Type 0} (P : X → Type 0) (xs ys : List X) → AllByRecursion P xs → AllByRecursion P ys → AllByRecursion P (xs ++ ys)
-all_append P [] ys front back = back
-all_append P (x ∷ xs) ys front back = (front.0, all_append P xs ys front.1 back)
-
-all_filter : {X : Type 0} (P : X → Type 0) (p : X → Bool) (xs : List X) → AllByRecursion P xs → AllByRecursion P (filter p xs)
-all_filter P p [] all = tt
-all_filter P p (x ∷ xs) all =
-    cond_both (p x) (x ∷ filter p xs) (filter p xs) (λ ys. AllByRecursion P ys)
-    (λ passes. (all.0, all_filter P p xs all.1)) (λ fails. all_filter P p xs all.1)
-
-pairs_append : {X : Type 0} (R : X → X → Type 0) (xs ys : List X) → EachPair R xs → EachPair R ys → AllByRecursion (λ x. AllByRecursion (R x) ys) xs → EachPair R (xs ++ ys)
-pairs_append R [] ys front back across = back
-pairs_append R (x ∷ xs) ys front back across =
-    (all_append (R x) xs ys front.0 across.0, pairs_append R xs ys front.1 back across.1)
-
-pairs_filter : {X : Type 0} (R : X → X → Type 0) (p : X → Bool) (xs : List X) → EachPair R xs → EachPair R (filter p xs)
-pairs_filter R p [] pairs = tt
-pairs_filter R p (x ∷ xs) pairs =
-    cond_both (p x) (x ∷ filter p xs) (filter p xs) (λ ys. EachPair R ys)
-    (λ passes. (all_filter (R x) p xs pairs.0, pairs_filter R p xs pairs.1)) (λ fails. pairs_filter R p xs pairs.1)
-
--- what a test of a list's part says of the whole
-part_passes : {X : Type 0} (here ok : X → Bool) (xs : List X) → list_all ok (filter here xs) ≡ true → AllByRecursion (λ x. here x ≡ true → ok x ≡ true) xs
-part_passes here ok [] all = tt
-part_passes here ok (x ∷ xs) all = elim (cases_Bool (here x)) [
-  | inl is ↦
-      let kept = sym (ap (λ ys. list_all ok ys) (cond-true (here x) (x ∷ filter here xs) (filter here xs) is)) ∙ all in
-      let parts = and_parts (ok x) (list_all ok (filter here xs)) kept in
-      ((λ _. parts.0), part_passes here ok xs parts.1)
-  | inr other ↦
-      let kept = sym (ap (λ ys. list_all ok ys) (cond-false (here x) (x ∷ filter here xs) (filter here xs) other)) ∙ all in
-      ((λ is. absurd (both_ways (here x) other is)), part_passes here ok xs kept)
-]
-
-all_map : {X : Type 0} (P Q : X → Type 0) → ((x : X) → P x → Q x) → (xs : List X) → AllByRecursion P xs → AllByRecursion Q xs
-all_map P Q gives [] all = tt
-all_map P Q gives (x ∷ xs) all = (gives x all.0, all_map P Q gives xs all.1)
-
-all_made : {X Y : Type 0} (P : X → Type 0) (f : Y → X) → ((y : Y) → P (f y)) → (ys : List Y) → AllByRecursion P (map f ys)
-all_made P f gives [] = tt
-all_made P f gives (y ∷ ys) = (gives y, all_made P f gives ys)
-
-pairs_made : {X Y : Type 0} (R : X → X → Type 0) (f : Y → X) → ((y z : Y) → R (f y) (f z)) → (ys : List Y) → EachPair R (map f ys)
-pairs_made R f gives [] = tt
-pairs_made R f gives (y ∷ ys) = (all_made (R (f y)) f (gives y) ys, pairs_made R f gives ys)
-
--- ---- entries
-
--- one more entry is the last of the acts, on its window
-acts_push : (front rows : List Row) (row : Row) → acts_after front (rows ++ row ∷ []) ≡ acts_after front rows ++ record { row = row; window = window_of (front ++ rows) row } ∷ []
-acts_push front [] row = ap (λ (before : List Row). record { row = row; window = window_of before row } ∷ []) (sym (append-nil front))
-acts_push front (first ∷ rows) row =
-    let head : Act = record { row = first; window = window_of front first } in
-    ap (λ (rest : List Act). head ∷ rest) (acts_push (front ++ first ∷ []) rows row
-    ∙ ap (λ (before : List Row). acts_after (front ++ first ∷ []) rows ++ record { row = row; window = window_of before row } ∷ []) (append_assoc front (first ∷ []) rows))
-
--- the board's answer, from whether the entry is allowed and the class that refuses it
-abbrev answered : Bool → Option Class → Decision
-answered now (Some class) = Refuse class
-answered now None = if now then Allow else NotYet
-
-allowed_by : (now : Bool) (refused : Option Class) → answered now refused ≡ Allow → now ≡ true
-allowed_by now (Some class) is = absurd (cc is)
-allowed_by true None is = refl
-allowed_by false None is = absurd (cc is)
-
-allowed : (q : Question) (step : Step) → decision q step ≡ Allow → is_allowed_now q step ≡ true
-allowed q step is = allowed_by (is_allowed_now q step) (refusal q step) is
-
--- ---- locks
 
 excludes_both_ways : (a b : Lock) → excludes a b ≡ excludes b a
 excludes_both_ways Shared Shared = refl
