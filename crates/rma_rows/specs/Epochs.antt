@@ -1,11 +1,12 @@
 -- Calls that are refused, names that are used again, and requests: MPI 3.1, sections 11.2, 11.5 and 11.6.
 use Rattle.std.specs.Prelude.{true, pos, negsuc, [], ◌∷◌, Some, None, codes}
-use Rattle.rma_types.specs.declared.calls.Call.TheVariants.{Allocate, Fence, Free, Get, Put, TestReq, UnlockAll, WaitReq}
+use Rattle.rma_types.specs.declared.calls.Call.TheVariants.{Allocate, Complete, Fence, FlushAll, FlushLocalAll, Free, Get, Put, Sync, TestReq, TestWin, UnlockAll, WaitReq, WaitWin}
+use Rattle.rma_types.specs.declared.calls.Lock.TheVariants.{Shared}
 use Rattle.rma_types.specs.declared.dtypes.Dtype.TheVariants.{Int32}
 use Rattle.rma_types.specs.declared.findings.Rule.TheVariants.{S2}
 use Rattle.rma_types.specs.declared.scripts.Script.{Script}
 use Rattle.rma_model.specs.BuiltForm.{no_asserts}
-use Rattle.rma_rows.specs.Scripts.{Gives, allocate, attach, create, fence, flush, get, load, lock_all, pair, plain_run, put, script, spaced_script, store}
+use Rattle.rma_rows.specs.Scripts.{Gives, allocate, attach, create, fence, flush, get, load, lock, lock_all, pair, plain_run, post, put, script, spaced_script, start, store, unlock}
 
 abbrev pub before_a_fence : Script
 before_a_fence = script
@@ -131,6 +132,92 @@ RefusesByEachTest = Gives each_test (plain_run each_test) []
     ∷ codes "0:18 refused MPI_ERR_WIN"
     ∷ codes "memory 0 0 050000000000000000000000000000000000000000000000"
     ∷ codes "summary accesses 1 touches 1 entries 8 refused 14 findings 0"
+    ∷ [])
+    1
+
+abbrev pub each_epoch : Script
+each_epoch = script
+    ((allocate 0 8 4
+    ∷ Complete 0
+    ∷ WaitWin 0
+    ∷ TestWin 0
+    ∷ unlock 0 0
+    ∷ UnlockAll 0
+    ∷ flush 0 0
+    ∷ FlushAll 0
+    ∷ Sync 0
+    ∷ lock 0 Shared 0
+    ∷ lock 0 Shared 0
+    ∷ lock_all 0
+    ∷ fence 0
+    ∷ Free 0
+    ∷ start 0 (0 ∷ [])
+    ∷ Sync 0
+    ∷ FlushLocalAll 0
+    ∷ UnlockAll 0
+    ∷ unlock 0 0
+    ∷ fence 0
+    ∷ flush 0 0
+    ∷ post 0 (0 ∷ [])
+    ∷ put 0 0 0 Int32 (1 ∷ [])
+    ∷ post 0 (0 ∷ [])
+    ∷ fence 0
+    ∷ Free 0
+    ∷ start 0 (0 ∷ [])
+    ∷ lock 0 Shared 0
+    ∷ put 0 0 0 Int32 (5 ∷ [])
+    ∷ Put (Some 0) 0 (Some (pos 0)) (pos 0) Int32 (5 ∷ [])
+    ∷ Complete 0
+    ∷ WaitWin 0
+    ∷ fence 0
+    ∷ put 0 0 1 Int32 (6 ∷ [])
+    ∷ post 0 (0 ∷ [])
+    ∷ lock_all 0
+    ∷ start 0 (0 ∷ [])
+    ∷ Free 0
+    ∷ fence 0
+    ∷ lock_all 0
+    ∷ lock 0 Shared 0
+    ∷ unlock 0 0
+    ∷ Put (Some 0) 0 (Some (pos 0)) (pos 0) Int32 (7 ∷ [])
+    ∷ UnlockAll 0
+    ∷ Free 0
+    ∷ [])
+    ∷ [])
+
+-- calls in each epoch of a window, in those that allow them and in others
+abbrev pub FollowsTheEpochs : Type 0
+FollowsTheEpochs = Gives each_epoch (plain_run each_epoch) []
+    (codes "ended"
+    ∷ codes "0:1 refused MPI_ERR_RMA_SYNC"
+    ∷ codes "0:2 refused MPI_ERR_RMA_SYNC"
+    ∷ codes "0:3 refused MPI_ERR_RMA_SYNC"
+    ∷ codes "0:4 refused MPI_ERR_RMA_SYNC"
+    ∷ codes "0:5 refused MPI_ERR_RMA_SYNC"
+    ∷ codes "0:6 refused MPI_ERR_RMA_SYNC"
+    ∷ codes "0:7 refused MPI_ERR_RMA_SYNC"
+    ∷ codes "0:8 refused MPI_ERR_RMA_SYNC"
+    ∷ codes "0:10 refused MPI_ERR_RMA_SYNC"
+    ∷ codes "0:11 refused MPI_ERR_RMA_SYNC"
+    ∷ codes "0:12 refused MPI_ERR_RMA_SYNC"
+    ∷ codes "0:13 refused MPI_ERR_RMA_SYNC"
+    ∷ codes "0:14 refused MPI_ERR_RMA_SYNC"
+    ∷ codes "0:17 refused MPI_ERR_RMA_SYNC"
+    ∷ codes "0:20 refused MPI_ERR_RMA_SYNC"
+    ∷ codes "0:22 refused MPI_ERR_RMA_SYNC"
+    ∷ codes "0:23 refused MPI_ERR_RMA_SYNC"
+    ∷ codes "0:24 refused MPI_ERR_RMA_SYNC"
+    ∷ codes "0:25 refused MPI_ERR_RMA_SYNC"
+    ∷ codes "0:27 refused MPI_ERR_RMA_SYNC"
+    ∷ codes "0:29 refused MPI_ERR_RMA_SYNC"
+    ∷ codes "0:34 refused MPI_ERR_RMA_SYNC"
+    ∷ codes "0:35 refused MPI_ERR_RMA_SYNC"
+    ∷ codes "0:36 refused MPI_ERR_RMA_SYNC"
+    ∷ codes "0:37 refused MPI_ERR_RMA_SYNC"
+    ∷ codes "0:40 refused MPI_ERR_RMA_SYNC"
+    ∷ codes "0:41 refused MPI_ERR_RMA_SYNC"
+    ∷ codes "memory 0 0 0700000006000000"
+    ∷ codes "summary accesses 3 touches 3 entries 18 refused 27 findings 0"
     ∷ [])
     1
 

@@ -16,9 +16,11 @@ mod posts;
 mod regions;
 mod standing;
 
-pub use boards::{held_locks_agree, locks_are_given_back, posted_ranks_are_not_locked, rounds_are_full};
+pub use boards::{
+    held_locks_agree, locks_are_given_back, posted_ranks_are_not_locked, rounds_are_full,
+};
 pub use cells::updates_of_a_cell;
-pub use deliveries::{late_touches, touches_that_are_due};
+pub use deliveries::{late_touches, touches_of_completed_accesses, touches_that_are_due};
 pub use elements::operations_on_elements;
 pub use epochs::{names_and_requests, refusals};
 pub use exchanges::exchange_on_a_ring;

@@ -51,9 +51,9 @@ stays entries act window rank other unposted =
     let new_waits = length (calls_on is_wait (act ∷ []) rank window) in
     let waited = calls_more is_wait entries act rank window in
     let posted : more_posts ≡ posts =
-        calls_more is_post entries act rank window
-        ∙ ap (λ (new : ℕ). posts + new) (adds_none is_post act rank window other)
-        ∙ omega arith in
+    calls_more is_post entries act rank window
+    ∙ ap (λ (new : ℕ). posts + new) (adds_none is_post act rank window other)
+    ∙ omega arith in
     let enough : posts ≤ waits = ltb-false waits posts unposted in
     le-ltb more_waits more_posts (omega (arith, waited, posted, enough))
 
@@ -146,7 +146,7 @@ held_from ranks before (row ∷ rows) one_step allowed all =
     let act : Act = record { row = row; window = window_of before row } in
     let next = keeps ranks before row.rank row.number row.call row.step one_step.0 allowed.0 all in
     let held = subst (λ (locks : List Held). AllByRecursion (Unposted (acts before ++ act ∷ [])) locks)
-        (sym (fold_push (held_after ranks) [] (acts before) act)) next in
+    (sym (fold_push (held_after ranks) [] (acts before) act)) next in
     let here = subst (λ (entries : List Act). AllByRecursion (Unposted entries) (held_locks ranks entries)) (sym (acts_push [] before row)) held in
     subst (λ (whole : List Row). AllByRecursion (Unposted (acts whole)) (held_locks ranks (acts whole))) (append_assoc before (row ∷ []) rows)
     (held_from ranks (before ++ row ∷ []) rows one_step.1 allowed.1 here)
