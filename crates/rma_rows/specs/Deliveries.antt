@@ -1,5 +1,5 @@
 -- Accesses that are touched after their calls: MPI 3.1, section 11.7.
-use Rattle.std.specs.Prelude.{ℕ, ◌≡◌, pos, [], ◌∷◌, Some, codes}
+use Rattle.std.specs.Prelude.{◌≡◌, pos, [], ◌∷◌, Some, codes}
 use Rattle.rma_types.specs.declared.calls.Call.TheVariants.{Barrier, Complete, FlushAll, FlushLocalAll, Get, Put, Sync, TestReq, UnlockAll, WaitReq, WaitWin}
 use Rattle.rma_types.specs.declared.calls.Lock.TheVariants.{Exclusive, Shared}
 use Rattle.rma_types.specs.declared.dtypes.Dtype.TheVariants.{Int32}

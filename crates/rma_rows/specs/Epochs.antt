@@ -1,6 +1,6 @@
 -- Calls that are refused, names that are used again, and requests: MPI 3.1, sections 11.2, 11.5 and 11.6.
 use Rattle.std.specs.Prelude.{true, pos, negsuc, [], ◌∷◌, Some, None, codes}
-use Rattle.rma_types.specs.declared.calls.Call.TheVariants.{Allocate, Complete, Fence, FlushAll, FlushLocalAll, Free, Get, Put, Sync, TestReq, TestWin, UnlockAll, WaitReq, WaitWin}
+use Rattle.rma_types.specs.declared.calls.Call.TheVariants.{Allocate, Complete, Fence, FlushAll, FlushLocalAll, Free, Get, LockAll, LockOne, Post, Put, Start, Sync, TestReq, TestWin, UnlockAll, WaitReq, WaitWin}
 use Rattle.rma_types.specs.declared.calls.Lock.TheVariants.{Shared}
 use Rattle.rma_types.specs.declared.dtypes.Dtype.TheVariants.{Int32}
 use Rattle.rma_types.specs.declared.findings.Rule.TheVariants.{S2}
@@ -132,6 +132,36 @@ RefusesByEachTest = Gives each_test (plain_run each_test) []
     ∷ codes "0:18 refused MPI_ERR_WIN"
     ∷ codes "memory 0 0 050000000000000000000000000000000000000000000000"
     ∷ codes "summary accesses 1 touches 1 entries 8 refused 14 findings 0"
+    ∷ [])
+    1
+
+abbrev pub assertions_and_ranks : Script
+assertions_and_ranks = script
+    ((allocate 0 4 4
+    ∷ Post 0 (pos 0 ∷ []) (record no_asserts { noprecede = true })
+    ∷ Start 0 (pos 0 ∷ []) (record no_asserts { nostore = true })
+    ∷ LockOne 0 Shared (pos 0) (record no_asserts { nostore = true })
+    ∷ LockAll 0 (record no_asserts { noput = true })
+    ∷ Post 0 (pos 0 ∷ []) (record no_asserts { nocheck = true })
+    ∷ Start 0 (pos 0 ∷ []) (record no_asserts { nocheck = true })
+    ∷ Complete 0
+    ∷ WaitWin 0
+    ∷ post 0 (0 ∷ 0 ∷ [])
+    ∷ lock 0 Shared 1
+    ∷ [])
+    ∷ [])
+
+-- assertions that are not for the call, a rank that is named twice, and one that is not there
+abbrev pub RefusesAssertionsAndRanks : Type 0
+RefusesAssertionsAndRanks = Gives assertions_and_ranks (plain_run assertions_and_ranks) []
+    (codes "ended"
+    ∷ codes "0:1 refused MPI_ERR_ASSERT"
+    ∷ codes "0:2 refused MPI_ERR_ASSERT"
+    ∷ codes "0:3 refused MPI_ERR_ASSERT"
+    ∷ codes "0:4 refused MPI_ERR_ASSERT"
+    ∷ codes "0:9 refused MPI_ERR_RANK"
+    ∷ codes "0:10 refused MPI_ERR_RANK"
+    ∷ codes "summary accesses 0 touches 0 entries 6 refused 6 findings 0"
     ∷ [])
     1
 

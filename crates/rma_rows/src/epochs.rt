@@ -1,5 +1,5 @@
 //! Calls that are refused, and requests.
-ghost use Rattle.rma_rows.specs.Epochs.{RefusesBeforeAFence, RefusesOutsideEpochs, EndsFencesByNosucceed, RefusesAnotherAssertion, RefusesByEachTest, FollowsTheEpochs, HasItsOwnMemory, CompletesRequests};
+ghost use Rattle.rma_rows.specs.Epochs.{RefusesBeforeAFence, RefusesOutsideEpochs, EndsFencesByNosucceed, RefusesAnotherAssertion, RefusesByEachTest, RefusesAssertionsAndRanks, FollowsTheEpochs, HasItsOwnMemory, CompletesRequests};
 
 /// A call outside its epoch is refused, and its rank goes on. Each test of a call gives its class
 /// (MPI 3.1, sections 11.5 and 11.6).
@@ -9,6 +9,7 @@ pub fn refusals()
     ensures no_succeeding { EndsFencesByNosucceed }
     ensures two_assertions { RefusesAnotherAssertion }
     ensures each_test { RefusesByEachTest }
+    ensures assertions_and_ranks { RefusesAssertionsAndRanks }
     ensures each_epoch { FollowsTheEpochs }
 {}
 

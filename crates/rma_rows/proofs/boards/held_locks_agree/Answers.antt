@@ -1,8 +1,8 @@
 -- Each entry that is allowed keeps the held locks in agreement.
-use Rattle.std.proofs.Common.{◌≡◌, ℕ, Bool, true, false, not, ◌&&◌, List, [], ◌∷◌, ◌++◌, map, Option, Some, None, refl, sym, ap, ◌∙◌, subst, inl, inr, append_assoc}
-use Rattle.std.specs.Prelude.{◌==◌, if◌then◌else◌}
+use Rattle.std.proofs.Common.{◌≡◌, ℕ, Bool, true, false, not, ◌&&◌, List, [], ◌∷◌, ◌++◌, refl, sym, ap, ◌∙◌, subst, inl, inr, append_assoc}
+use Rattle.std.specs.Prelude.{◌==◌}
 use Rattle.std.specs.List.{list_all, filter, AllByRecursion}
-use Rattle.std.proofs.lemmas.Bool.{cases_Bool, both_ways, cond-true, cond-false, cond_both, eq-eqb, and_parts, and_cases, not-true}
+use Rattle.std.proofs.lemmas.Bool.{both_ways, eq-eqb, and_cases, not-true}
 use Rattle.std.proofs.lemmas.List.{append-nil}
 use Rattle.std.proofs.lemmas.List.Sums.{fold_push}
 use Rattle.rma_types.specs.declared.accesses.Step.{Step}
@@ -10,15 +10,14 @@ use Rattle.rma_types.specs.declared.calls.Call.{Call}
 use Rattle.rma_types.specs.declared.calls.Call.TheVariants.{LockOne, Unlock, LockAll, UnlockAll}
 use Rattle.rma_types.specs.declared.calls.Lock.{Lock}
 use Rattle.rma_types.specs.declared.calls.Lock.TheVariants.{Shared, Exclusive}
-use Rattle.rma_types.specs.declared.classes.Class.{Class}
-use Rattle.rma_model.specs.Board.{Decision, Refuse, Allow, NotYet, Held, Question, decide, decision, question, refusal, is_allowed_now, excludes, is_exclusive, held_after, held_locks, locks_of_all}
+use Rattle.rma_model.specs.Board.{Allow, Held, decide, question, is_allowed_now, excludes, is_exclusive, held_after, held_locks, locks_of_all}
 use Rattle.rma_model.specs.BoardLaw.{AreAllowed}
-use Rattle.rma_model.specs.Entries.{Row, Act, acts, acts_after, window_of}
+use Rattle.rma_model.specs.Entries.{Row, Act, acts, window_of}
 use Rattle.rma_model.specs.Pieces.{numbers_from}
 use Rattle.rma_model.specs.Synchronising.{rank_number}
 use Rattle.rma_model.specs.Touches.{EachPair}
 use Rattle.rma_rows.specs.BoardLaws.{AgreeAtTheirTarget, LocksInOneStep}
-use Rattle.rma_rows.proofs.EachElement.{all_append, all_filter, pairs_append, pairs_filter, part_passes, all_map, all_made, pairs_made}
+use Rattle.rma_rows.proofs.EachElement.{pairs_append, pairs_filter, part_passes, all_map, all_made, pairs_made}
 use Rattle.rma_rows.proofs.LastEntry.{acts_push, allowed}
 use Rattle.rma_rows.proofs.boards.held_locks_agree.Goals as goal
 

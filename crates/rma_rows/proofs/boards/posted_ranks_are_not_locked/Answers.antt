@@ -1,23 +1,22 @@
 -- Each entry that is allowed leaves no held lock at a posted rank.
-use Rattle.std.proofs.Common.{◌≡◌, None, ℕ, ◌+◌, ◌<◌, ◌≤◌, Bool, true, false, not, ◌&&◌, cond, List, [], ◌∷◌, ◌++◌, map, length, refl, sym, ap, ◌∙◌, subst, inl, inr, append_assoc, arith}
-use Rattle.std.specs.Prelude.{◌==◌, nat_lt}
+use Rattle.std.proofs.Common.{◌≡◌, None, ℕ, ◌+◌, ◌≤◌, Bool, true, false, not, ◌&&◌, List, [], ◌∷◌, ◌++◌, map, length, refl, sym, ap, ◌∙◌, subst, inl, inr, append_assoc, arith}
+use Rattle.std.specs.Prelude.{◌==◌}
 use Rattle.std.specs.List.{list_any, filter, AllByRecursion}
 use Rattle.std.proofs.lemmas.Bool.{cases_eq, both_ways, cond-false, eq-eqb, ne_eqb, and_left, and_right, ltb-false, le-ltb}
 use Rattle.std.proofs.lemmas.List.{append-nil, map-append, length-append}
 use Rattle.std.proofs.lemmas.List.Elements.{filter-append}
 use Rattle.std.proofs.lemmas.List.Sums.{fold_push}
 use Rattle.rma_types.specs.declared.accesses.Step.{Step}
-use Rattle.rma_types.specs.declared.accesses.Step.TheVariants.{One}
 use Rattle.rma_types.specs.declared.calls.Call.{Call}
 use Rattle.rma_types.specs.declared.calls.Call.TheVariants.{Post, LockOne, Unlock, LockAll, UnlockAll}
 use Rattle.rma_types.specs.declared.calls.Lock.TheVariants.{Shared}
 use Rattle.rma_types.specs.declared.classes.Class.TheVariants.{Sync as SyncClass}
-use Rattle.rma_model.specs.Board.{Allow, Held, decide, question, refusal, is_rank_posted, held_after, held_locks, held_here, locks_of_all}
+use Rattle.rma_model.specs.Board.{Allow, Held, decide, question, refusal, is_rank_posted, held_after, held_locks, locks_of_all}
 use Rattle.rma_model.specs.BoardLaw.{AreAllowed}
 use Rattle.rma_model.specs.Entries.{Row, Act, acts, calls_on, is_post, is_wait, window_of}
 use Rattle.rma_model.specs.Pieces.{numbers_from}
 use Rattle.rma_model.specs.Synchronising.{rank_number}
-use Rattle.rma_rows.specs.BoardLaws.{NoPostedRankIsLocked, OpensInOneStep, is_posted}
+use Rattle.rma_rows.specs.BoardLaws.{OpensInOneStep, is_posted}
 use Rattle.rma_rows.proofs.EachElement.{all_append, all_filter, all_map, all_join, part_fails, none_pass}
 use Rattle.rma_rows.proofs.LastEntry.{acts_push, unrefused, fails}
 use Rattle.rma_rows.proofs.boards.posted_ranks_are_not_locked.Goals as goal

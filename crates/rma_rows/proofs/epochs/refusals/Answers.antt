@@ -3,7 +3,7 @@ use Rattle.std.specs.Fmt.{digits}
 use Rattle.std.specs.Prelude.{refl}
 use Rattle.rma_model.specs.Report.{report}
 use Rattle.rma_model.specs.StepRun.{step_run}
-use Rattle.rma_rows.specs.Epochs.{RefusesBeforeAFence, RefusesOutsideEpochs, EndsFencesByNosucceed, RefusesAnotherAssertion, RefusesByEachTest, FollowsTheEpochs}
+use Rattle.rma_rows.specs.Epochs.{RefusesBeforeAFence, RefusesOutsideEpochs, EndsFencesByNosucceed, RefusesAnotherAssertion, RefusesByEachTest, RefusesAssertionsAndRanks, FollowsTheEpochs}
 use Rattle.rma_rows.proofs.epochs.refusals.Goals as goal
 
 before_a_fence : RefusesBeforeAFence
@@ -26,9 +26,13 @@ each_test : RefusesByEachTest
 unfolding step_run report digits
 each_test = (refl, refl, refl)
 
+assertions_and_ranks : RefusesAssertionsAndRanks
+unfolding step_run report digits
+assertions_and_ranks = (refl, refl, refl)
+
 each_epoch : FollowsTheEpochs
 unfolding step_run report digits
 each_epoch = (refl, refl, refl)
 
 pub returns : goal.returns
-returns c = record { before_a_fence = before_a_fence; outside_epochs = outside_epochs; no_succeeding = no_succeeding; two_assertions = two_assertions; each_test = each_test; each_epoch = each_epoch }
+returns c = record { before_a_fence = before_a_fence; outside_epochs = outside_epochs; no_succeeding = no_succeeding; two_assertions = two_assertions; each_test = each_test; assertions_and_ranks = assertions_and_ranks; each_epoch = each_epoch }
