@@ -1,5 +1,7 @@
 -- Theorems over the definitions of a run.
 pub mod Agents
+pub mod BoardLaw
+pub mod BoardMoves
 pub mod CallForms
 pub mod Calm
 pub mod Ending
