@@ -1,3 +1,4 @@
 -- Theorems over the definitions of a run.
+pub mod CallsKnown
 pub mod Moves
 pub mod Turns
