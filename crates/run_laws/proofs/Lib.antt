@@ -1,4 +1,5 @@
 -- Theorems over the definitions of a run.
+pub mod Calls
 pub mod CallsForms
 pub mod CallsKnown
 pub mod Moves
