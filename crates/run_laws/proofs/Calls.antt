@@ -32,79 +32,90 @@ OpensCall CollectiveForm number place item = item ≡ Entry number place Arrive
 OpensCall TestForm number place item = ⊥
 OpensCall EntryForm number place item = ⊥
 
+-- what matters of a rank: its items without touches, its knowledge, its call, and whether it is in it or past all
+pub record View : Type 0 where
+  pub items : List Item
+  pub known : Knowledge
+  pub at : ℕ
+  pub entered : Bool
+  pub ended : Bool
+
+abbrev pub view_of : Agent → View
+view_of agent = record { items = untouched agent.log; known = agent.known; at = agent.at; entered = agent.entered; ended = agent.ended }
+
 -- between two calls: the items are those of the finished ones
-pub record Outside (post : Post) (agent : Agent) : Type 0 where
-  pub new : agent.entered ≡ false
-  pub going : agent.ended ≡ false
-  pub done : AreFinished post agent.at (untouched agent.log)
+pub record Outside (post : Post) (view : View) : Type 0 where
+  pub new : view.entered ≡ false
+  pub going : view.ended ≡ false
+  pub done : AreFinished post view.at view.items
 
 -- in a call whose first entry is put: its item follows those of the finished calls, and taught nothing
-pub record Inside (post : Post) (agent : Agent) : Type 0 where
-  pub entered : agent.entered ≡ true
-  pub going : agent.ended ≡ false
+pub record Inside (post : Post) (view : View) : Type 0 where
+  pub entered : view.entered ≡ true
+  pub going : view.ended ≡ false
   pub call : Call
-  pub here : slice_get (calls_here post) agent.at ≡ Some call
+  pub here : slice_get (calls_here post) view.at ≡ Some call
   pub before : List Item
   pub place : ℕ
   pub item : Item
-  pub items : untouched agent.log ≡ before ++ item ∷ []
-  pub done : AreFinished post agent.at before
-  pub passes : own (seat_knowing post agent.known) call ≡ None
-  pub opens : OpensCall (form_of (seat_knowing post agent.known) call) agent.at place item
-  pub same : learnt post before ≡ agent.known
+  pub split : view.items ≡ before ++ item ∷ []
+  pub done : AreFinished post view.at before
+  pub passes : own (seat_knowing post view.known) call ≡ None
+  pub opens : OpensCall (form_of (seat_knowing post view.known) call) view.at place item
+  pub same : learnt post before ≡ view.known
 
 -- past all calls: Ended follows the items of all of them
-pub record Past (post : Post) (agent : Agent) : Type 0 where
-  pub ended : agent.ended ≡ true
-  pub number : agent.at ≡ length (calls_here post)
+pub record Past (post : Post) (view : View) : Type 0 where
+  pub ended : view.ended ≡ true
+  pub number : view.at ≡ length (calls_here post)
   pub before : List Item
-  pub items : untouched agent.log ≡ before ++ Ended ∷ []
-  pub done : AreFinished post agent.at before
+  pub split : view.items ≡ before ++ Ended ∷ []
+  pub done : AreFinished post view.at before
 
-pub data Standing (post : Post) (agent : Agent) : Type 0 where
-  IsOutside : Outside post agent → Standing post agent
-  IsInside : Inside post agent → Standing post agent
-  IsPast : Past post agent → Standing post agent
+pub data Standing (post : Post) (view : View) : Type 0 where
+  IsOutside : Outside post view → Standing post view
+  IsInside : Inside post view → Standing post view
+  IsPast : Past post view → Standing post view
 
 -- the rank's next entry is not yet possible: the first of its call, or the Leave
-pub data WaitsAt (post : Post) (agent : Agent) (call : Call) : Type 0 where
-  WaitsFirst : agent.entered ≡ false → is_testwin call ≡ false → own (seat_knowing post agent.known) call ≡ None →
-    IsTrue (needs_board (form_of (seat_knowing post agent.known) call)) → IsWaiting post (first_row post.rank agent.at call) →
-    WaitsAt post agent call
-  WaitsToLeave : agent.entered ≡ true → form_of (seat_knowing post agent.known) call ≡ CollectiveForm →
-    IsWaiting post (leave_row post.rank agent.at call) → WaitsAt post agent call
+pub data WaitsAt (post : Post) (view : View) (call : Call) : Type 0 where
+  WaitsFirst : view.entered ≡ false → is_testwin call ≡ false → own (seat_knowing post view.known) call ≡ None →
+    IsTrue (needs_board (form_of (seat_knowing post view.known) call)) → IsWaiting post (first_row post.rank view.at call) →
+    WaitsAt post view call
+  WaitsToLeave : view.entered ≡ true → form_of (seat_knowing post view.known) call ≡ CollectiveForm →
+    IsWaiting post (leave_row post.rank view.at call) → WaitsAt post view call
 
-pub record Waiting (post : Post) (agent : Agent) : Type 0 where
+pub record Waiting (post : Post) (view : View) : Type 0 where
   pub call : Call
-  pub here : slice_get (calls_here post) agent.at ≡ Some call
-  pub waits : WaitsAt post agent call
+  pub here : slice_get (calls_here post) view.at ≡ Some call
+  pub waits : WaitsAt post view call
 
 -- one rank: its knowledge is what its log says, its entries are on the board, and where it is
-pub record HasCallsOf (post : Post) (agent : Agent) : Type 0 where
-  pub known : agent.known ≡ learnt post (untouched agent.log)
-  pub places : AreWithin post.rows (untouched agent.log)
-  pub unmade : post.rows ≡ [] → agent.known.windows ≡ []
-  pub standing : Standing post agent
-  pub waiting : agent.marked ≡ true → Waiting post agent
+pub record HasCallsOf (post : Post) (view : View) (marked : Bool) : Type 0 where
+  pub knows : view.known ≡ learnt post view.items
+  pub places : AreWithin post.rows view.items
+  pub unmade : post.rows ≡ [] → view.known.windows ≡ []
+  pub standing : Standing post view
+  pub waiting : marked ≡ true → Waiting post view
 
 -- each rank of a state
 pub record HasCalls (stage : Stage) (world : World) : Type 0 where
-  pub each : (rank : ℕ) → HasCallsOf (post_of stage world.rows rank) (agent_at world rank)
+  pub each : (rank : ℕ) → HasCallsOf (post_of stage world.rows rank) (view_of (agent_at world rank)) (agent_at world rank).marked
 
 -- ---- when another entry is put
 
-pub outside_more : (stage : Stage) (rank : ℕ) (rows more : List Row) (agent : Agent) → AreWithin rows (untouched agent.log) →
-    Outside (post_of stage rows rank) agent → Outside (post_of stage (rows ++ more) rank) (unmarked agent)
-outside_more stage rank rows more agent places o = record {
+pub outside_more : (stage : Stage) (rank : ℕ) (rows more : List Row) (view : View) → AreWithin rows view.items →
+    Outside (post_of stage rows rank) view → Outside (post_of stage (rows ++ more) rank) view
+outside_more stage rank rows more view places o = record {
   new = o.new;
   going = o.going;
-  done = finished_more stage rank rows more agent.at (untouched agent.log) places o.done;
+  done = finished_more stage rank rows more view.at view.items places o.done;
 }
 
-pub inside_more : (stage : Stage) (rank : ℕ) (rows more : List Row) (agent : Agent) → AreWithin rows (untouched agent.log) →
-    Inside (post_of stage rows rank) agent → Inside (post_of stage (rows ++ more) rank) (unmarked agent)
-inside_more stage rank rows more agent places i =
-    let within : AreWithin rows i.before = all_left (λ item. entry_place item ≤ length rows) i.before (i.item ∷ []) (subst (λ (xs : List Item). AreWithin rows xs) i.items places) in
+pub inside_more : (stage : Stage) (rank : ℕ) (rows more : List Row) (view : View) → AreWithin rows view.items →
+    Inside (post_of stage rows rank) view → Inside (post_of stage (rows ++ more) rank) view
+inside_more stage rank rows more view places i =
+    let within : AreWithin rows i.before = all_left (λ item. entry_place item ≤ length rows) i.before (i.item ∷ []) (subst (λ (xs : List Item). AreWithin rows xs) i.split places) in
     record {
       entered = i.entered;
       going = i.going;
@@ -113,30 +124,30 @@ inside_more stage rank rows more agent places i =
       before = i.before;
       place = i.place;
       item = i.item;
-      items = i.items;
-      done = finished_more stage rank rows more agent.at i.before within i.done;
+      split = i.split;
+      done = finished_more stage rank rows more view.at i.before within i.done;
       passes = i.passes;
       opens = i.opens;
       same = learnt_same stage rank rows more i.before within ∙ i.same;
     }
 
-pub past_more : (stage : Stage) (rank : ℕ) (rows more : List Row) (agent : Agent) → AreWithin rows (untouched agent.log) →
-    Past (post_of stage rows rank) agent → Past (post_of stage (rows ++ more) rank) (unmarked agent)
-past_more stage rank rows more agent places p =
-    let within : AreWithin rows p.before = all_left (λ item. entry_place item ≤ length rows) p.before (Ended ∷ []) (subst (λ (xs : List Item). AreWithin rows xs) p.items places) in
+pub past_more : (stage : Stage) (rank : ℕ) (rows more : List Row) (view : View) → AreWithin rows view.items →
+    Past (post_of stage rows rank) view → Past (post_of stage (rows ++ more) rank) view
+past_more stage rank rows more view places p =
+    let within : AreWithin rows p.before = all_left (λ item. entry_place item ≤ length rows) p.before (Ended ∷ []) (subst (λ (xs : List Item). AreWithin rows xs) p.split places) in
     record {
       ended = p.ended;
       number = p.number;
       before = p.before;
-      items = p.items;
-      done = finished_more stage rank rows more agent.at p.before within p.done;
+      split = p.split;
+      done = finished_more stage rank rows more view.at p.before within p.done;
     }
 
-pub standing_more : (stage : Stage) (rank : ℕ) (rows more : List Row) (agent : Agent) → AreWithin rows (untouched agent.log) →
-    Standing (post_of stage rows rank) agent → Standing (post_of stage (rows ++ more) rank) (unmarked agent)
-standing_more stage rank rows more agent places (IsOutside o) = IsOutside (outside_more stage rank rows more agent places o)
-standing_more stage rank rows more agent places (IsInside i) = IsInside (inside_more stage rank rows more agent places i)
-standing_more stage rank rows more agent places (IsPast p) = IsPast (past_more stage rank rows more agent places p)
+pub standing_more : (stage : Stage) (rank : ℕ) (rows more : List Row) (view : View) → AreWithin rows view.items →
+    Standing (post_of stage rows rank) view → Standing (post_of stage (rows ++ more) rank) view
+standing_more stage rank rows more view places (IsOutside o) = IsOutside (outside_more stage rank rows more view places o)
+standing_more stage rank rows more view places (IsInside i) = IsInside (inside_more stage rank rows more view places i)
+standing_more stage rank rows more view places (IsPast p) = IsPast (past_more stage rank rows more view places p)
 
 -- a list with something at its end is not empty
 pub push_is_some : {A : Type 0} (xs : List A) (x : A) → xs ++ x ∷ [] ≡ [] → ⊥
@@ -144,13 +155,13 @@ push_is_some [] x e = cc e
 push_is_some (y ∷ xs) x e = cc e
 
 -- a rank that puts no entry keeps its facts when one is put, and is marked no more
-pub calls_more : (stage : Stage) (rank : ℕ) (rows : List Row) (row : Row) (agent : Agent) →
-    HasCallsOf (post_of stage rows rank) agent → HasCallsOf (post_of stage (rows ++ row ∷ []) rank) (unmarked agent)
-calls_more stage rank rows row agent h = record {
-  known = h.known ∙ sym (learnt_same stage rank rows (row ∷ []) (untouched agent.log) h.places);
-  places = within_more rows (row ∷ []) (untouched agent.log) h.places;
+pub calls_more : (stage : Stage) (rank : ℕ) (rows : List Row) (row : Row) (view : View) (marked : Bool) →
+    HasCallsOf (post_of stage rows rank) view marked → HasCallsOf (post_of stage (rows ++ row ∷ []) rank) view false
+calls_more stage rank rows row view marked h = record {
+  knows = h.knows ∙ sym (learnt_same stage rank rows (row ∷ []) view.items h.places);
+  places = within_more rows (row ∷ []) view.items h.places;
   unmade = λ e. absurd (push_is_some rows row e);
-  standing = standing_more stage rank rows (row ∷ []) agent h.places h.standing;
+  standing = standing_more stage rank rows (row ∷ []) view h.places h.standing;
   waiting = λ m. absurd (cc m);
 }
 
@@ -162,9 +173,9 @@ at_each_index P f d p q [] i = p
 at_each_index P f d p q (x ∷ xs) zero = q x
 at_each_index P f d p q (x ∷ xs) (suc i) = at_each_index P f d p q xs i
 
-pub new_has_calls : (stage : Stage) (rank seed number : ℕ) → HasCallsOf (post_of stage [] rank) (new_agent seed number)
+pub new_has_calls : (stage : Stage) (rank seed number : ℕ) → HasCallsOf (post_of stage [] rank) (view_of (new_agent seed number)) false
 new_has_calls stage rank seed number = record {
-  known = refl;
+  knows = refl;
   places = tt;
   unmade = λ e. refl;
   standing = IsOutside (record { new = refl; going = refl; done = refl });
@@ -174,7 +185,7 @@ new_has_calls stage rank seed number = record {
 -- before the first turn
 pub calls-begins : (stage : Stage) (seed last draws : ℕ) → HasCalls stage (first_world stage seed last draws)
 calls-begins stage seed last draws = record {
-  each = λ rank. at_each_index (λ (agent : Agent). HasCallsOf (post_of stage [] rank) agent) (new_agent seed) (new_agent 0 0)
+  each = λ rank. at_each_index (λ (agent : Agent). HasCallsOf (post_of stage [] rank) (view_of agent) agent.marked) (new_agent seed) (new_agent 0 0)
       (new_has_calls stage rank 0 0) (λ number. new_has_calls stage rank seed number) (numbers_from 0 stage.script.ranks) rank;
 }
 
@@ -195,39 +206,38 @@ marked_if_unready false true r e = refl
 marked_if_unready false false r e = cc r
 
 -- the rank stands before the first entry of its call
-pub stands_first : (post : Post) (agent : Agent) → HasCallsOf post agent → Outside post agent → (call : Call) → WaitsAt post agent call →
-    StandsAt post (untouched agent.log) agent.at call []
-stands_first post agent h o call (WaitsFirst new test passes needs waits) =
-    let k = h.known in
+pub stands_first : (post : Post) (view : View) → view.known ≡ learnt post view.items → Outside post view → (call : Call) → WaitsAt post view call →
+    StandsAt post view.items view.at call []
+stands_first post view k o call (WaitsFirst new test passes needs waits) =
     (subst (λ (known : Knowledge). own (seat_knowing post known) call ≡ None) k passes, test,
         inl (refl, subst (λ (known : Knowledge). IsTrue (needs_board (form_of (seat_knowing post known) call))) k needs, waits))
-stands_first post agent h o call (WaitsToLeave entered form waits) = let e : agent.entered ≡ false = o.new in absurd (cc (e, entered))
+stands_first post view k o call (WaitsToLeave entered form waits) = let e : view.entered ≡ false = o.new in absurd (cc (e, entered))
 
 -- the rank stands before its Leave
-pub stands_to_leave : (post : Post) (agent : Agent) (i : Inside post agent) → WaitsAt post agent i.call →
-    StandsAt post i.before agent.at i.call (i.item ∷ [])
-stands_to_leave post agent i (WaitsFirst new test passes needs waits) = let e : agent.entered ≡ true = i.entered in absurd (cc (e, new))
-stands_to_leave post agent i (WaitsToLeave entered form waits) =
-    let k : agent.known ≡ learnt post i.before = sym i.same in
-    let e : i.item ≡ Entry agent.at i.place Arrive = subst (λ (f : Form). OpensCall f agent.at i.place i.item) form i.opens in
-    (subst (λ (known : Knowledge). own (seat_knowing post known) i.call ≡ None) k i.passes, collective_tests_nothing (seat_knowing post agent.known) i.call form,
+pub stands_to_leave : (post : Post) (view : View) (i : Inside post view) → WaitsAt post view i.call →
+    StandsAt post i.before view.at i.call (i.item ∷ [])
+stands_to_leave post view i (WaitsFirst new test passes needs waits) = let e : view.entered ≡ true = i.entered in absurd (cc (e, new))
+stands_to_leave post view i (WaitsToLeave entered form waits) =
+    let k : view.known ≡ learnt post i.before = sym i.same in
+    let e : i.item ≡ Entry view.at i.place Arrive = subst (λ (f : Form). OpensCall f view.at i.place i.item) form i.opens in
+    (subst (λ (known : Knowledge). own (seat_knowing post known) i.call ≡ None) k i.passes, collective_tests_nothing (seat_knowing post view.known) i.call form,
         inr (i.place, ap (λ (x : Item). x ∷ []) e, subst (λ (known : Knowledge). form_of (seat_knowing post known) i.call ≡ CollectiveForm) k form, waits))
 
 -- the call at a number is one
 pub is_one_call : (calls : List Call) (number : ℕ) (a b : Call) → slice_get calls number ≡ Some a → slice_get calls number ≡ Some b → a ≡ b
 is_one_call calls number a b p q = cc
 
-pub items_of_calls : (post : Post) (agent : Agent) → HasCallsOf post agent → is_ready agent ≡ false → Standing post agent → HasItemsOfCalls post (untouched agent.log)
-items_of_calls post agent h r (IsOutside o) =
-    let w : Waiting post agent = h.waiting (marked_if_unready agent.ended agent.marked r o.going) in
-    (agent.at, untouched agent.log, [], sym (append-nil (untouched agent.log)), o.done,
-        inr (rw w.here (stands_first post agent h o w.call w.waits)))
-items_of_calls post agent h r (IsInside i) =
-    let w : Waiting post agent = h.waiting (marked_if_unready agent.ended agent.marked r i.going) in
-    let e : w.call ≡ i.call = is_one_call (calls_here post) agent.at w.call i.call w.here i.here in
-    (agent.at, i.before, i.item ∷ [], i.items, i.done,
-        inr (rw i.here (stands_to_leave post agent i (subst (λ (call : Call). WaitsAt post agent call) e w.waits))))
-items_of_calls post agent h r (IsPast p) = (agent.at, p.before, Ended ∷ [], p.items, p.done, inl (p.number, refl))
+pub items_of_calls : (post : Post) (view : View) (marked : Bool) → HasCallsOf post view marked → (not view.ended && not marked) ≡ false → Standing post view → HasItemsOfCalls post view.items
+items_of_calls post view marked h r (IsOutside o) =
+    let w : Waiting post view = h.waiting (marked_if_unready view.ended marked r o.going) in
+    (view.at, view.items, [], sym (append-nil view.items), o.done,
+        inr (rw w.here (stands_first post view h.knows o w.call w.waits)))
+items_of_calls post view marked h r (IsInside i) =
+    let w : Waiting post view = h.waiting (marked_if_unready view.ended marked r i.going) in
+    let e : w.call ≡ i.call = is_one_call (calls_here post) view.at w.call i.call w.here i.here in
+    (view.at, i.before, i.item ∷ [], i.split, i.done,
+        inr (rw i.here (stands_to_leave post view i (subst (λ (call : Call). WaitsAt post view call) e w.waits))))
+items_of_calls post view marked h r (IsPast p) = (view.at, p.before, Ended ∷ [], p.split, p.done, inl (p.number, refl))
 
 -- a rank's log in the run that a state is
 pub log_in_run : (agents : List Agent) (rank : ℕ) → slice_index_or (map (λ (agent : Agent). agent.log) agents) rank [] ≡ (slice_index_or agents rank (new_agent 0 0)).log
@@ -241,9 +251,9 @@ pub calls-gives : (stage : Stage) (world : World) → HasCalls stage world → (
 calls-gives stage world h rank r =
     let one = h.each rank in
     subst (λ (log : List Item). HasItemsOfCalls (post_of stage world.rows rank) (untouched log)) (sym (log_in_run world.agents rank))
-    (items_of_calls (post_of stage world.rows rank) (agent_at world rank) one r one.standing)
+    (items_of_calls (post_of stage world.rows rank) (view_of (agent_at world rank)) (agent_at world rank).marked one r one.standing)
 
 -- what a rank knows is what its whole log says
 pub calls-known : (stage : Stage) (world : World) → HasCalls stage world → (rank : ℕ) →
     (agent_at world rank).known ≡ known_after (shapes_after stage world.rows) (calls_at stage rank) (agent_at world rank).log
-calls-known stage world h rank = (h.each rank).known ∙ fold_untouched (shapes_after stage world.rows) (calls_at stage rank) (agent_at world rank).log nothing_known
+calls-known stage world h rank = (h.each rank).knows ∙ fold_untouched (shapes_after stage world.rows) (calls_at stage rank) (agent_at world rank).log nothing_known
