@@ -2,5 +2,6 @@
 pub mod Calls
 pub mod CallsForms
 pub mod CallsKnown
+pub mod CallsSteps
 pub mod Moves
 pub mod Turns
