@@ -14,6 +14,7 @@ use Rattle.rma_record.specs.declared.items.Item.TheVariants.{Issue, Null, Touch,
 use Rattle.rma_model.specs.declared.cells.Cell.{Cell}
 use Rattle.rma_model.specs.declared.elements.Piece.{Piece}
 use Rattle.rma_model.specs.Board.{Refuse, Allow, NotYet, decide, question}
+use Rattle.rma_model.specs.Delivery.{Issued}
 use Rattle.rma_model.specs.Entries.{Row, is_testwin}
 use Rattle.rma_model.specs.Forms.{Form, NullForm, IssueForm, LookUpForm, FlushForm, RequestForm, CollectiveForm, TestForm, EntryForm, form_of, access_of}
 use Rattle.rma_model.specs.Items.{is_touch}
@@ -23,9 +24,9 @@ use Rattle.rma_model.specs.Pieces.{pieces}
 use Rattle.rma_model.specs.RankLaw.{Post, calls_here, untouched, needs_board, AreItemsBy, AreFormItems, IsIssueOf}
 use Rattle.rma_model.specs.StepRun.{is_ready}
 use Rattle.rma_model.specs.Transfers.{Transfer, transfer_of}
-use Rattle.rma_model.specs.Turns.{row_of, answer, with_item, with_mark, opened, with_issue, touches_at_once}
+use Rattle.rma_model.specs.Turns.{made_pending, row_of, answer, with_item, with_mark, opened, with_issue, touches_at_once}
 use Rattle.rma_model.specs.Windows.{Window}
-use Rattle.rma_model.specs.World.{Stage, Agent, World, new_agent, agent_at, with_agent, calls_at, shapes_after, kept, finished, unmarked, with_entry, touch_each}
+use Rattle.rma_model.specs.World.{Stage, Agent, World, new_agent, with_touches, agent_at, with_agent, calls_at, shapes_after, kept, finished, unmarked, with_entry, touch_each}
 use Rattle.run_laws.proofs.Moves.{IsAt, Begins, Move, Ends, RefusesAlone, IsRefused, Tests, Waits, WaitsInside, Passes, Issues, IssuesInside, Enters, Arrives, Leaves, IsCalm, form_at, step_by, IsPlainItem, GoesOn, entered_by}
 use Rattle.run_laws.proofs.CallsForms.{IsAlone, alone_makes_nothing, look_up_moves, step_of_form, not_refused, empty_board}
 use Rattle.run_laws.proofs.CallsKnown.{post_of, seat_knowing}
@@ -242,12 +243,36 @@ pub is_issue_of : (seat : Seat) (number : ℕ) (call : Call) (t : Transfer) (win
     IsIssueOf seat number call (Issue number (access_of seat window t))
 is_issue_of seat number call t window moves on = rw (on, moves) refl
 
+-- the items other than touches after an Issue and its touches
+pub untouched_issue : (log touches : List Item) (item : Item) → is_touch item ≡ false → untouched touches ≡ [] → untouched ((log ++ item ∷ []) ++ touches) ≡ untouched log ++ item ∷ []
+untouched_issue log touches item plain none =
+    filter-append (λ item. not (is_touch item)) (log ++ item ∷ []) touches
+    ∙ ap (λ (xs : List Item). untouched (log ++ item ∷ []) ++ xs) none ∙ append-nil (untouched (log ++ item ∷ [])) ∙ untouched_push log item plain
+
 -- the Issue with its touches, or with its access pending
 pub issue_move : (stage : Stage) (world : World) (rank : ℕ) → Mover stage world rank → (t : Transfer) (window : Window) →
     HasCallsHere stage world rank (after_item (post_at stage world rank) (view_at world rank)
         (Issue (agent_at world rank).at (access_of (seat_knowing (post_at stage world rank) (agent_at world rank).known) window t))) →
     HasCalls stage (with_issue stage world rank t window)
-issue_move stage world rank m t window here = ?
+issue_move stage world rank m t window here =
+    let agent = agent_at world rank in
+    let view = view_at world rank in
+    let post = post_at stage world rank in
+    let access = access_of (seat_knowing post agent.known) window t in
+    let places = pieces stage.layout access t.dtype in
+    let item : Item = Issue agent.at access in
+    let next = finished (kept stage world.rows rank agent item) in
+    let touches = (touch_each t (length agent.log) 0 places world.cells).items in
+    let one : Issued = record { index = length agent.log; number = agent.at; transfer = t; access = access; pieces = places } in
+    let at_once = calls_set stage world rank (record next { log = next.log ++ touches }) m.all
+        (subst (λ (xs : List Item). HasCallsHere stage world rank (record (after_item post view item) { items = xs }))
+        (sym (untouched_issue agent.log touches item refl (touches_only t (length agent.log) 0 places world.cells))) here) in
+    let later = calls_set stage world rank (record next { pending = next.pending ++ made_pending one }) m.all
+        (subst (λ (xs : List Item). HasCallsHere stage world rank (record (after_item post view item) { items = xs }))
+        (sym (untouched_push agent.log item refl)) here) in
+    cond_both (touches_at_once stage.delay t) (with_touches world rank next t (length agent.log) places)
+    (with_agent world rank (record next { pending = next.pending ++ made_pending one })) (λ (w : World). HasCalls stage w)
+    (λ e. record { each = at_once.each }) (λ e. later)
 
 pub issues_keeps : (stage : Stage) (world : World) (rank : ℕ) → Mover stage world rank → (call : Call) (t : Transfer) (window : Window) → Begins stage world rank call →
     form_at stage world rank call ≡ IssueForm → transfer_of call ≡ Some t →
@@ -266,7 +291,22 @@ inside_at stage world rank m entered = inside_of (post_at stage world rank) (vie
 pub issues_inside_keeps : (stage : Stage) (world : World) (rank : ℕ) → Mover stage world rank → (call : Call) (t : Transfer) (window : Window) →
     IsAt stage world rank call → (agent_at world rank).entered ≡ true → form_at stage world rank call ≡ LookUpForm → transfer_of call ≡ Some t →
     window_at (seat_knowing (post_at stage world rank) (agent_at world rank).known) call ≡ Some window → HasCalls stage (with_issue stage world rank t window)
-issues_inside_keeps stage world rank m call t window here entered is moves on = ?
+issues_inside_keeps stage world rank m call t window here entered is moves on =
+    let agent = agent_at world rank in
+    let post = post_at stage world rank in
+    let seat = seat_knowing post agent.known in
+    let item : Item = Issue agent.at (access_of seat window t) in
+    let i : Inside post (view_at world rank) = inside_at stage world rank m entered in
+    let one : call ≡ i.call = is_one_call (calls_at stage rank) agent.at call i.call here i.here in
+    let form : form_of seat i.call ≡ LookUpForm = subst (λ (c : Call). form_of seat c ≡ LookUpForm) one is in
+    let opens : i.item ≡ Entry agent.at i.place One = subst (λ (f : Form). OpensCall f agent.at i.place i.item) form i.opens in
+    issue_move stage world rank m t window
+    (calls_second post (view_at world rank) agent.marked (m.all.each rank) m.free i item (omega arith)
+    (λ e. makes_none (shapes_after stage world.rows) (calls_at stage rank) agent.known item agent.at i.call refl i.here
+        (alone_makes_nothing seat i.call (subst IsAlone (sym form) tt)) ((m.all.each rank).unmade e))
+    LookUpForm form
+    (i.place, item, is_issue_of seat agent.at i.call t window (subst (λ (c : Call). transfer_of c ≡ Some t) one moves)
+        (subst (λ (c : Call). window_at seat c ≡ Some window) one on), ap (λ (x : Item). x ∷ item ∷ []) opens))
 
 -- ---- moves with an entry
 
@@ -274,17 +314,107 @@ issues_inside_keeps stage world rank m call t window here entered is moves on = 
 pub place_within : (rows : List Row) (row : Row) → length rows ≤ length (rows ++ row ∷ [])
 place_within rows row = omega (arith, length-append rows (row ∷ []))
 
+-- the rank's facts where an entry is put
+pub grown : (stage : Stage) (world : World) (rank : ℕ) → Mover stage world rank → (row : Row) →
+    HasCallsOf (post_of stage (world.rows ++ row ∷ []) rank) (view_at world rank) false
+grown stage world rank m row = calls_more stage rank world.rows row (view_at world rank) (agent_at world rank).marked (m.all.each rank)
+
+-- the rank puts an entry that ends its call
+pub put_last : (stage : Stage) (world : World) (rank : ℕ) → Mover stage world rank → (row : Row) (after : Agent → Agent) →
+    ((agent : Agent) → after agent ≡ finished agent) →
+    HasCallsOf (post_of stage (world.rows ++ row ∷ []) rank)
+    (after_item (post_of stage (world.rows ++ row ∷ []) rank) (view_at world rank) (Entry row.number (length world.rows) row.step)) false →
+    HasCalls stage (with_entry stage world rank (agent_at world rank) row after)
+put_last stage world rank m row after goes here =
+    let item : Item = Entry row.number (length world.rows) row.step in
+    let post = post_of stage (world.rows ++ row ∷ []) rank in
+    let next = kept stage (world.rows ++ row ∷ []) rank (agent_at world rank) item in
+    calls_put stage world rank (agent_at world rank) row after (finished next) m.all (goes next)
+    (subst (λ (xs : List Item). HasCallsOf post (record (after_item post (view_at world rank) item) { items = xs }) false)
+    (sym (untouched_push (agent_at world rank).log item refl)) here)
+
+-- the rank puts the first entry of its call, which another item follows
+pub put_first : (stage : Stage) (world : World) (rank : ℕ) → Mover stage world rank → (row : Row) (after : Agent → Agent) →
+    ((agent : Agent) → after agent ≡ opened agent) →
+    HasCallsOf (post_of stage (world.rows ++ row ∷ []) rank)
+    (after_first (post_of stage (world.rows ++ row ∷ []) rank) (view_at world rank) (Entry row.number (length world.rows) row.step)) false →
+    HasCalls stage (with_entry stage world rank (agent_at world rank) row after)
+put_first stage world rank m row after goes here =
+    let item : Item = Entry row.number (length world.rows) row.step in
+    let post = post_of stage (world.rows ++ row ∷ []) rank in
+    let next = kept stage (world.rows ++ row ∷ []) rank (agent_at world rank) item in
+    calls_put stage world rank (agent_at world rank) row after (opened next) m.all (goes next)
+    (subst (λ (xs : List Item). HasCallsOf post (record (after_first post (view_at world rank) item) { items = xs }) false)
+    (sym (untouched_push (agent_at world rank).log item refl)) here)
+
+-- a call of one entry
+pub put_one : (stage : Stage) (world : World) (rank : ℕ) → Mover stage world rank → (call : Call) (after : Agent → Agent) → Begins stage world rank call →
+    (form : Form) → form_at stage world rank call ≡ form →
+    AreFormItems form (seat_knowing (post_at stage world rank) (agent_at world rank).known) (agent_at world rank).at call
+    (Entry (agent_at world rank).at (length world.rows) One ∷ []) →
+    ((agent : Agent) → after agent ≡ finished agent) → HasCalls stage (entered_by stage world rank call One after)
+put_one stage world rank m call after b form is by goes =
+    let row : Row = row_of rank (agent_at world rank) call One in
+    let post = post_of stage (world.rows ++ row ∷ []) rank in
+    let h : HasCallsOf post (view_at world rank) false = grown stage world rank m row in
+    let o : Outside post (view_at world rank) = outside_of post (view_at world rank) h.standing b.new m.going in
+    put_last stage world rank m row after goes
+    (calls_passed post (view_at world rank) false h refl o call b.here b.passes (Entry (agent_at world rank).at (length world.rows) One)
+    (place_within world.rows row) (λ e. absurd (push_is_some world.rows row e)) form is (inr by))
+
 pub enters_keeps : (stage : Stage) (world : World) (rank : ℕ) → Mover stage world rank → (call : Call) (after : Agent → Agent) → Begins stage world rank call →
     (form : Form) → form_at stage world rank call ≡ form → GoesOn form after → HasCalls stage (entered_by stage world rank call One after)
-enters_keeps stage world rank m call after b form is goes = ?
+enters_keeps stage world rank m call after b NullForm is goes = absurd goes
+enters_keeps stage world rank m call after b IssueForm is goes = absurd goes
+enters_keeps stage world rank m call after b LookUpForm is goes =
+    let agent = agent_at world rank in
+    let row : Row = row_of rank agent call One in
+    let post = post_of stage (world.rows ++ row ∷ []) rank in
+    let seat = seat_knowing (post_at stage world rank) agent.known in
+    let h : HasCallsOf post (view_at world rank) false = grown stage world rank m row in
+    let o : Outside post (view_at world rank) = outside_of post (view_at world rank) h.standing b.new m.going in
+    let moves : (t : Transfer) × (transfer_of call ≡ Some t) = look_up_moves seat call is in
+    put_first stage world rank m row after goes
+    (calls_first post (view_at world rank) false h refl o call b.here b.passes (length world.rows) (Entry agent.at (length world.rows) One)
+    (place_within world.rows row) (push_is_some world.rows row)
+    (look_up_teaches (shapes_after stage (world.rows ++ row ∷ [])) (calls_at stage rank) agent.known agent.at (length world.rows) call moves.0 b.here moves.1)
+    (subst (λ (f : Form). OpensCall f agent.at (length world.rows) (Entry agent.at (length world.rows) One)) (sym is) refl))
+enters_keeps stage world rank m call after b FlushForm is goes = absurd goes
+enters_keeps stage world rank m call after b RequestForm is goes = absurd goes
+enters_keeps stage world rank m call after b CollectiveForm is goes = absurd goes
+enters_keeps stage world rank m call after b TestForm is goes = put_one stage world rank m call after b TestForm is (inl (length world.rows, refl)) goes
+enters_keeps stage world rank m call after b EntryForm is goes = put_one stage world rank m call after b EntryForm is (length world.rows, refl) goes
 
 pub arrives_keeps : (stage : Stage) (world : World) (rank : ℕ) → Mover stage world rank → (call : Call) → Begins stage world rank call →
     form_at stage world rank call ≡ CollectiveForm → HasCalls stage (entered_by stage world rank call Arrive opened)
-arrives_keeps stage world rank m call b is = ?
+arrives_keeps stage world rank m call b is =
+    let agent = agent_at world rank in
+    let row : Row = row_of rank agent call Arrive in
+    let post = post_of stage (world.rows ++ row ∷ []) rank in
+    let h : HasCallsOf post (view_at world rank) false = grown stage world rank m row in
+    let o : Outside post (view_at world rank) = outside_of post (view_at world rank) h.standing b.new m.going in
+    put_first stage world rank m row opened (λ agent. refl)
+    (calls_first post (view_at world rank) false h refl o call b.here b.passes (length world.rows) (Entry agent.at (length world.rows) Arrive)
+    (place_within world.rows row) (push_is_some world.rows row)
+    (arrive_teaches (shapes_after stage (world.rows ++ row ∷ [])) (calls_at stage rank) agent.known agent.at (length world.rows) call b.here)
+    (subst (λ (f : Form). OpensCall f agent.at (length world.rows) (Entry agent.at (length world.rows) Arrive)) (sym is) refl))
 
 pub leaves_keeps : (stage : Stage) (world : World) (rank : ℕ) → Mover stage world rank → (call : Call) → IsAt stage world rank call →
     (agent_at world rank).entered ≡ true → form_at stage world rank call ≡ CollectiveForm → HasCalls stage (entered_by stage world rank call Leave finished)
-leaves_keeps stage world rank m call here entered is = ?
+leaves_keeps stage world rank m call here entered is =
+    let agent = agent_at world rank in
+    let row : Row = row_of rank agent call Leave in
+    let post = post_of stage (world.rows ++ row ∷ []) rank in
+    let seat = seat_knowing (post_at stage world rank) agent.known in
+    let h : HasCallsOf post (view_at world rank) false = grown stage world rank m row in
+    let i : Inside post (view_at world rank) = inside_of post (view_at world rank) h.standing entered m.going in
+    let one : call ≡ i.call = is_one_call (calls_at stage rank) agent.at call i.call here i.here in
+    let form : form_of seat i.call ≡ CollectiveForm = subst (λ (c : Call). form_of seat c ≡ CollectiveForm) one is in
+    let opens : i.item ≡ Entry agent.at i.place Arrive = subst (λ (f : Form). OpensCall f agent.at i.place i.item) form i.opens in
+    let item : Item = Entry agent.at (length world.rows) Leave in
+    put_last stage world rank m row finished (λ agent. refl)
+    (calls_second post (view_at world rank) false h refl i item (place_within world.rows row) (λ e. absurd (push_is_some world.rows row e))
+    CollectiveForm form (i.place, length world.rows, ap (λ (x : Item). x ∷ item ∷ []) opens))
 
 -- ---- every move
 
