@@ -1,9 +1,7 @@
 -- The items of the calls in a run on one thread: what holds of each rank's log before and after each move.
-use Rattle.std.proofs.Common.{◌≡◌, ℕ, zero, suc, ◌≤◌, ◌<◌, ◌+◌, ◌⊎◌, inl, inr, Bool, true, false, not, ◌&&◌, List, [], ◌∷◌, ◌++◌, length, map, get_or, Option, Some, None, IsTrue, refl, sym, ◌∙◌, ap, subst, arith, append-nil}
-use Rattle.std.specs.Prelude.{slice_get, slice_index, slice_index_or, IsSomeAnd}
-use Rattle.std.specs.List.{AllByRecursion}
-use Rattle.std.proofs.lemmas.List.{get_or-map}
-use Rattle.rma_types.specs.declared.accesses.Step.TheVariants.{Arrive, Leave, One}
+use Rattle.std.proofs.Common.{◌≡◌, ℕ, zero, suc, ◌≤◌, inl, inr, Bool, true, false, not, ◌&&◌, List, [], ◌∷◌, ◌++◌, length, map, Some, None, IsTrue, refl, sym, ◌∙◌, ap, subst, append-nil}
+use Rattle.std.specs.Prelude.{slice_get, slice_index_or}
+use Rattle.rma_types.specs.declared.accesses.Step.TheVariants.{Arrive, One}
 use Rattle.rma_types.specs.declared.calls.Call.{Call}
 use Rattle.rma_record.specs.declared.items.Item.{Item}
 use Rattle.rma_record.specs.declared.items.Item.TheVariants.{Entry, Ended}
@@ -11,11 +9,11 @@ use Rattle.rma_model.specs.BoardLaw.{first_row}
 use Rattle.rma_model.specs.Entries.{Row, is_testwin}
 use Rattle.rma_model.specs.Forms.{Form, NullForm, IssueForm, LookUpForm, FlushForm, RequestForm, CollectiveForm, TestForm, EntryForm, form_of}
 use Rattle.rma_model.specs.Knowledge.{Knowledge, nothing_known, known_after, entry_place}
-use Rattle.rma_model.specs.OwnTests.{Seat, own}
+use Rattle.rma_model.specs.OwnTests.{own}
 use Rattle.rma_model.specs.Pieces.{numbers_from}
-use Rattle.rma_model.specs.RankLaw.{Post, calls_here, seat_after, untouched, AreFinished, IsWaiting, leave_row, needs_board, StandsAt, EndsOrStands, HasItemsOfCalls}
+use Rattle.rma_model.specs.RankLaw.{Post, calls_here, untouched, AreFinished, IsWaiting, leave_row, needs_board, StandsAt, HasItemsOfCalls}
 use Rattle.rma_model.specs.StepRun.{is_ready}
-use Rattle.rma_model.specs.World.{Stage, Agent, World, new_agent, agent_at, calls_at, shapes_after, unmarked, first_world, run_of}
+use Rattle.rma_model.specs.World.{Stage, Agent, World, new_agent, agent_at, calls_at, shapes_after, first_world, run_of}
 use Rattle.run_laws.proofs.CallsForms.{collective_tests_nothing}
 use Rattle.run_laws.proofs.CallsKnown.{AreWithin, within_more, post_of, learnt, learnt_same, fold_untouched, seat_knowing, finished_more, all_left}
 
@@ -80,10 +78,10 @@ pub data Standing (post : Post) (view : View) : Type 0 where
 -- the rank's next entry is not yet possible: the first of its call, or the Leave
 pub data WaitsAt (post : Post) (view : View) (call : Call) : Type 0 where
   WaitsFirst : view.entered ≡ false → is_testwin call ≡ false → own (seat_knowing post view.known) call ≡ None →
-    IsTrue (needs_board (form_of (seat_knowing post view.known) call)) → IsWaiting post (first_row post.rank view.at call) →
-    WaitsAt post view call
+      IsTrue (needs_board (form_of (seat_knowing post view.known) call)) → IsWaiting post (first_row post.rank view.at call) →
+      WaitsAt post view call
   WaitsToLeave : view.entered ≡ true → form_of (seat_knowing post view.known) call ≡ CollectiveForm →
-    IsWaiting post (leave_row post.rank view.at call) → WaitsAt post view call
+      IsWaiting post (leave_row post.rank view.at call) → WaitsAt post view call
 
 pub record Waiting (post : Post) (view : View) : Type 0 where
   pub call : Call
@@ -208,9 +206,11 @@ marked_if_unready false false r e = cc r
 -- the rank stands before the first entry of its call
 pub stands_first : (post : Post) (view : View) → view.known ≡ learnt post view.items → Outside post view → (call : Call) → WaitsAt post view call →
     StandsAt post view.items view.at call []
-stands_first post view k o call (WaitsFirst new test passes needs waits) =
-    (subst (λ (known : Knowledge). own (seat_knowing post known) call ≡ None) k passes, test,
-        inl (refl, subst (λ (known : Knowledge). IsTrue (needs_board (form_of (seat_knowing post known) call))) k needs, waits))
+stands_first post view k o call (WaitsFirst new test passes needs waits) = (
+  subst (λ (known : Knowledge). own (seat_knowing post known) call ≡ None) k passes,
+  test,
+  inl (refl, subst (λ (known : Knowledge). IsTrue (needs_board (form_of (seat_knowing post known) call))) k needs, waits),
+)
 stands_first post view k o call (WaitsToLeave entered form waits) = let e : view.entered ≡ false = o.new in absurd (cc (e, entered))
 
 -- the rank stands before its Leave
@@ -219,9 +219,11 @@ pub stands_to_leave : (post : Post) (view : View) (i : Inside post view) → Wai
 stands_to_leave post view i (WaitsFirst new test passes needs waits) = let e : view.entered ≡ true = i.entered in absurd (cc (e, new))
 stands_to_leave post view i (WaitsToLeave entered form waits) =
     let k : view.known ≡ learnt post i.before = sym i.same in
-    let e : i.item ≡ Entry view.at i.place Arrive = subst (λ (f : Form). OpensCall f view.at i.place i.item) form i.opens in
-    (subst (λ (known : Knowledge). own (seat_knowing post known) i.call ≡ None) k i.passes, collective_tests_nothing (seat_knowing post view.known) i.call form,
-        inr (i.place, ap (λ (x : Item). x ∷ []) e, subst (λ (known : Knowledge). form_of (seat_knowing post known) i.call ≡ CollectiveForm) k form, waits))
+    let e : i.item ≡ Entry view.at i.place Arrive = subst (λ (f : Form). OpensCall f view.at i.place i.item) form i.opens in (
+      subst (λ (known : Knowledge). own (seat_knowing post known) i.call ≡ None) k i.passes,
+      collective_tests_nothing (seat_knowing post view.known) i.call form,
+      inr (i.place, ap (λ (x : Item). x ∷ []) e, subst (λ (known : Knowledge). form_of (seat_knowing post known) i.call ≡ CollectiveForm) k form, waits),
+    )
 
 -- the call at a number is one
 pub is_one_call : (calls : List Call) (number : ℕ) (a b : Call) → slice_get calls number ≡ Some a → slice_get calls number ≡ Some b → a ≡ b
@@ -229,14 +231,24 @@ is_one_call calls number a b p q = cc
 
 pub items_of_calls : (post : Post) (view : View) (marked : Bool) → HasCallsOf post view marked → (not view.ended && not marked) ≡ false → Standing post view → HasItemsOfCalls post view.items
 items_of_calls post view marked h r (IsOutside o) =
-    let w : Waiting post view = h.waiting (marked_if_unready view.ended marked r o.going) in
-    (view.at, view.items, [], sym (append-nil view.items), o.done,
-        inr (rw w.here (stands_first post view h.knows o w.call w.waits)))
+    let w : Waiting post view = h.waiting (marked_if_unready view.ended marked r o.going) in (
+      view.at,
+      view.items,
+      [],
+      sym (append-nil view.items),
+      o.done,
+      inr (rw w.here (stands_first post view h.knows o w.call w.waits)),
+    )
 items_of_calls post view marked h r (IsInside i) =
     let w : Waiting post view = h.waiting (marked_if_unready view.ended marked r i.going) in
-    let e : w.call ≡ i.call = is_one_call (calls_here post) view.at w.call i.call w.here i.here in
-    (view.at, i.before, i.item ∷ [], i.split, i.done,
-        inr (rw i.here (stands_to_leave post view i (subst (λ (call : Call). WaitsAt post view call) e w.waits))))
+    let e : w.call ≡ i.call = is_one_call (calls_here post) view.at w.call i.call w.here i.here in (
+      view.at,
+      i.before,
+      i.item ∷ [],
+      i.split,
+      i.done,
+      inr (rw i.here (stands_to_leave post view i (subst (λ (call : Call). WaitsAt post view call) e w.waits))),
+    )
 items_of_calls post view marked h r (IsPast p) = (view.at, p.before, Ended ∷ [], p.split, p.done, inl (p.number, refl))
 
 -- a rank's log in the run that a state is

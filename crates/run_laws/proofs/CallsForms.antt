@@ -1,19 +1,19 @@
 -- What the form of a call says of the call.
-use Rattle.std.proofs.Common.{◌≡◌, ℕ, subst, Bool, true, false, cond, List, [], ◌∷◌, Option, Some, None, refl, ap, sym, ◌∙◌, IsTrue}
-use Rattle.std.specs.List.{flat_map, list_any, filter}
+use Rattle.std.proofs.Common.{◌≡◌, ℕ, subst, Bool, true, false, cond, List, [], ◌∷◌, Option, Some, None, refl, ap, IsTrue}
+use Rattle.std.specs.List.{flat_map, list_any}
 use Rattle.std.specs.Option.{option_map_or}
 use Rattle.rma_types.specs.declared.accesses.Step.{Step}
-use Rattle.rma_types.specs.declared.accesses.Step.TheVariants.{Arrive, Leave, One}
+use Rattle.rma_types.specs.declared.accesses.Step.TheVariants.{Arrive, One}
 use Rattle.rma_types.specs.declared.classes.Class.{Class}
 use Rattle.rma_types.specs.declared.classes.Class.TheVariants.{Flavor as FlavorClass, Assert as AssertClass, Sync as SyncClass}
 use Rattle.rma_types.specs.declared.calls.Flavor.TheVariants.{Allocate as Allocated, Create as Created, Dynamic as DynamicFlavor}
 use Rattle.rma_types.specs.declared.calls.Call.{Call}
 use Rattle.rma_types.specs.declared.calls.Call.TheVariants.{Allocate, Create, Dynamic, Free, Attach, Detach, Fence, Post, Start, Complete, WaitWin, TestWin, LockOne, Unlock, LockAll, UnlockAll, Flush, FlushAll, FlushLocal, FlushLocalAll, Sync, Barrier, Put, Get, Acc, GetAcc, Fop, Cas, Load, Store, WaitReq, TestReq}
 use Rattle.rma_types.specs.declared.scripts.Part.{Part}
-use Rattle.rma_model.specs.Board.{Decision, Refuse, Allow, NotYet, Question, question, refusal, decision, decide, is_allowed_now, round_arrivals, refuse_if, creations_differ, fences_differ}
+use Rattle.rma_model.specs.Board.{Refuse, Allow, NotYet, Question, question, refusal, decision, is_allowed_now, round_arrivals, refuse_if, creations_differ, fences_differ}
 use Rattle.rma_model.specs.BoardLaw.{first_step}
 use Rattle.rma_model.specs.Entries.{Row, is_testwin}
-use Rattle.rma_model.specs.Forms.{Form, NullForm, IssueForm, LookUpForm, FlushForm, RequestForm, CollectiveForm, TestForm, EntryForm, form_of, transfer_form}
+use Rattle.rma_model.specs.Forms.{Form, NullForm, IssueForm, LookUpForm, CollectiveForm, form_of, transfer_form}
 use Rattle.rma_model.specs.Knowledge.{Knowledge, after_call}
 use Rattle.rma_model.specs.OwnTests.{Seat, window_at}
 use Rattle.rma_model.specs.Pieces.{numbers_from}
@@ -35,7 +35,6 @@ pub none_looks_up : (P : Form → Type 0) → P NullForm → P IssueForm → (ta
 none_looks_up P n i Own = i
 none_looks_up P n i Null = n
 none_looks_up P n i (Named rank) = i
-
 
 -- the step of a call's first entry is the same by its form and by the call
 pub step_of_form : (seat : Seat) (call : Call) → step_by (form_of seat call) ≡ first_step call

@@ -1,20 +1,18 @@
 -- What a rank knows stays as it is when more entries are put, and touches teach nothing.
-use Rattle.std.proofs.Common.{◌≡◌, ℕ, zero, suc, ◌≤◌, ◌+◌, Bool, true, false, not, List, [], ◌∷◌, ◌++◌, length, take, refl, sym, ◌∙◌, ap, subst, arith, length-append}
-use Rattle.std.specs.List.{AllByRecursion, filter, fold}
+use Rattle.std.proofs.Common.{◌≡◌, ℕ, zero, suc, ◌≤◌, List, [], ◌∷◌, ◌++◌, length, refl, sym, ◌∙◌, ap, subst, arith, length-append}
+use Rattle.std.specs.List.{AllByRecursion, fold}
 use Rattle.std.specs.Option.{option_map_or}
 use Rattle.std.specs.Prelude.{slice_get, slice_index, IsSomeAnd}
 use Rattle.std.proofs.lemmas.List.{take-append-le}
 use Rattle.std.proofs.lemmas.List.Sums.{fold-append}
-use Rattle.std.proofs.lemmas.List.Elements.{filter-append}
 use Rattle.rma_types.specs.declared.calls.Call.{Call}
 use Rattle.rma_types.specs.declared.scripts.Part.{Part}
 use Rattle.rma_record.specs.declared.items.Item.{Item}
 use Rattle.rma_record.specs.declared.items.Item.TheVariants.{Issue, Null, Touch, Flush, Request, Entry, Tested, Refused, Ended}
 use Rattle.rma_model.specs.Entries.{Row, acts}
-use Rattle.rma_model.specs.Items.{is_touch}
 use Rattle.rma_model.specs.Knowledge.{Knowledge, nothing_known, learn, known_after, entry_place, accepted_by, after_call}
 use Rattle.rma_model.specs.OwnTests.{Seat, own}
-use Rattle.rma_model.specs.RankLaw.{Post, calls_here, seat_after, untouched, AreFinished, AreItemsOf, AreItemsBy}
+use Rattle.rma_model.specs.RankLaw.{Post, calls_here, untouched, AreFinished, AreItemsBy}
 use Rattle.rma_model.specs.Windows.{shape_of}
 use Rattle.rma_model.specs.World.{Stage, calls_at, shapes_after}
 
@@ -115,6 +113,10 @@ pub finished_more : (stage : Stage) (rank : ℕ) (rows more : List Row) (number 
     AreFinished (post_of stage rows rank) number items → AreFinished (post_of stage (rows ++ more) rank) number items
 finished_more stage rank rows more zero items h f = f
 finished_more stage rank rows more (suc number) items h (before, last, e, f, here) =
-    let within : AreWithin rows before = all_left (λ item. entry_place item ≤ length rows) before last (subst (λ (xs : List Item). AreWithin rows xs) e h) in
-    (before, last, e, finished_more stage rank rows more number before within f,
-        subst (λ (known : Knowledge). AreItemsIn (seat_knowing (post_of stage rows rank) known) (calls_at stage rank) number last) (sym (learnt_same stage rank rows more before within)) here)
+    let within : AreWithin rows before = all_left (λ item. entry_place item ≤ length rows) before last (subst (λ (xs : List Item). AreWithin rows xs) e h) in (
+      before,
+      last,
+      e,
+      finished_more stage rank rows more number before within f,
+      subst (λ (known : Knowledge). AreItemsIn (seat_knowing (post_of stage rows rank) known) (calls_at stage rank) number last) (sym (learnt_same stage rank rows more before within)) here,
+    )

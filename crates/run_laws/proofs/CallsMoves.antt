@@ -1,24 +1,22 @@
 -- Each move of a rank keeps the items of the calls.
-use Rattle.std.proofs.Common.{◌≡◌, ℕ, zero, suc, ◌≤◌, ◌<◌, ◌+◌, ◌⊎◌, inl, inr, Bool, true, false, not, ◌&&◌, cond, List, [], ◌∷◌, ◌++◌, length, map, Option, Some, None, IsTrue, refl, sym, ◌∙◌, ap, subst, arith, append-nil, length-append}
-use Rattle.std.specs.Prelude.{slice_get, slice_index_or, slice_set, IsSomeAnd}
-use Rattle.std.specs.List.{filter}
+use Rattle.std.proofs.Common.{◌≡◌, ℕ, zero, suc, ◌≤◌, ◌+◌, inl, inr, Bool, true, false, not, ◌&&◌, List, [], ◌∷◌, ◌++◌, length, map, Option, Some, None, refl, sym, ◌∙◌, ap, subst, arith, append-nil, length-append}
+use Rattle.std.specs.Prelude.{slice_get, slice_index_or, slice_set}
 use Rattle.std.proofs.lemmas.Bool.{cond_both}
 use Rattle.std.proofs.lemmas.List.Elements.{filter-append}
-use Rattle.rma_types.specs.declared.accesses.Access.{Access}
 use Rattle.rma_types.specs.declared.accesses.Step.{Step}
 use Rattle.rma_types.specs.declared.accesses.Step.TheVariants.{Arrive, Leave, One}
 use Rattle.rma_types.specs.declared.calls.Call.{Call}
 use Rattle.rma_types.specs.declared.classes.Class.{Class}
 use Rattle.rma_record.specs.declared.items.Item.{Item}
-use Rattle.rma_record.specs.declared.items.Item.TheVariants.{Issue, Null, Touch, Flush, Request, Entry, Tested, Refused, Ended}
+use Rattle.rma_record.specs.declared.items.Item.TheVariants.{Issue, Null, Flush, Request, Entry, Tested, Refused, Ended}
 use Rattle.rma_model.specs.declared.cells.Cell.{Cell}
 use Rattle.rma_model.specs.declared.elements.Piece.{Piece}
-use Rattle.rma_model.specs.Board.{Refuse, Allow, NotYet, decide, question}
+use Rattle.rma_model.specs.Board.{Refuse, NotYet, decide, question}
 use Rattle.rma_model.specs.Delivery.{Issued}
 use Rattle.rma_model.specs.Entries.{Row, is_testwin}
 use Rattle.rma_model.specs.Forms.{Form, NullForm, IssueForm, LookUpForm, FlushForm, RequestForm, CollectiveForm, TestForm, EntryForm, form_of, access_of}
 use Rattle.rma_model.specs.Items.{is_touch}
-use Rattle.rma_model.specs.Knowledge.{learn, accepted_by, entry_place}
+use Rattle.rma_model.specs.Knowledge.{accepted_by, entry_place}
 use Rattle.rma_model.specs.OwnTests.{Seat, own, window_at}
 use Rattle.rma_model.specs.Pieces.{pieces}
 use Rattle.rma_model.specs.RankLaw.{Post, calls_here, untouched, needs_board, AreItemsBy, AreFormItems, IsIssueOf}
@@ -27,11 +25,11 @@ use Rattle.rma_model.specs.Transfers.{Transfer, transfer_of}
 use Rattle.rma_model.specs.Turns.{made_pending, row_of, answer, with_item, with_mark, opened, with_issue, touches_at_once}
 use Rattle.rma_model.specs.Windows.{Window}
 use Rattle.rma_model.specs.World.{Stage, Agent, World, new_agent, with_touches, agent_at, with_agent, calls_at, shapes_after, kept, finished, unmarked, with_entry, touch_each}
-use Rattle.run_laws.proofs.Moves.{IsAt, Begins, Move, Ends, RefusesAlone, IsRefused, Tests, Waits, WaitsInside, Passes, Issues, IssuesInside, Enters, Arrives, Leaves, IsCalm, form_at, step_by, IsPlainItem, GoesOn, entered_by}
+use Rattle.run_laws.proofs.Moves.{IsAt, Begins, Move, Ends, RefusesAlone, IsRefused, Tests, Waits, WaitsInside, Passes, Issues, IssuesInside, Enters, Arrives, Leaves, form_at, step_by, IsPlainItem, GoesOn, entered_by}
 use Rattle.run_laws.proofs.CallsForms.{IsAlone, alone_makes_nothing, look_up_moves, step_of_form, not_refused, empty_board}
 use Rattle.run_laws.proofs.CallsKnown.{post_of, seat_knowing}
 use Rattle.run_laws.proofs.Calls.{View, view_of, Outside, Inside, Standing, IsOutside, IsInside, IsPast, WaitsFirst, WaitsToLeave, OpensCall, HasCallsOf, HasCalls, calls_more, push_is_some, is_one_call}
-use Rattle.run_laws.proofs.CallsSteps.{outside_of, inside_of, untouched_push, known_with, after_item, after_first, after_end, calls_one, calls_passed, calls_second, calls_first, calls_past, makes_none, arrive_teaches, look_up_teaches}
+use Rattle.run_laws.proofs.CallsSteps.{outside_of, inside_of, untouched_push, after_item, after_first, after_end, calls_one, calls_passed, calls_second, calls_first, calls_past, makes_none, arrive_teaches, look_up_teaches}
 
 -- ---- one rank changes
 
@@ -66,9 +64,9 @@ calls_put stage world rank agent row after next h goes here = record {
   each = λ other. after_set (λ (a : Agent). HasCallsOf (post_of stage (world.rows ++ row ∷ []) other) (view_of a) a.marked) (map unmarked world.agents) rank
       (unmarked (after (kept stage (world.rows ++ row ∷ []) rank agent (Entry row.number (length world.rows) row.step)))) (new_agent 0 0) other
       (λ e. subst (λ (r : ℕ). HasCallsOf (post_of stage (world.rows ++ row ∷ []) r) (view_of (after (kept stage (world.rows ++ row ∷ []) rank agent (Entry row.number (length world.rows) row.step)))) false) (sym e)
-          (subst (λ (a : Agent). HasCallsOf (post_of stage (world.rows ++ row ∷ []) rank) (view_of a) false) (sym goes) here))
+      (subst (λ (a : Agent). HasCallsOf (post_of stage (world.rows ++ row ∷ []) rank) (view_of a) false) (sym goes) here))
       (subst (λ (a : Agent). HasCallsOf (post_of stage (world.rows ++ row ∷ []) other) (view_of a) a.marked) (sym (unmarked_at world.agents other))
-          (calls_more stage other world.rows row (view_of (agent_at world other)) (agent_at world other).marked (h.each other)));
+      (calls_more stage other world.rows row (view_of (agent_at world other)) (agent_at world other).marked (h.each other)));
 }
 
 -- ---- the rank that moves
@@ -149,8 +147,8 @@ is_refused_keeps stage world rank m call class b needs a =
     let seat = seat_knowing (post_at stage world rank) agent.known in
     let row : Row = row_of rank agent call (step_by (form_of seat call)) in
     let empty : world.rows ≡ [] → ⊥ = λ e. not_refused (question stage.script.ranks [] row) (step_by (form_of seat call)) class
-        (empty_board seat call stage.script.ranks rank agent.at ((m.all.each rank).unmade e) needs)
-        (subst (λ (rows : List Row). decide stage.script.ranks rows row ≡ Refuse class) e a) in
+    (empty_board seat call stage.script.ranks rank agent.at ((m.all.each rank).unmade e) needs)
+    (subst (λ (rows : List Row). decide stage.script.ranks rows row ≡ Refuse class) e a) in
     let some : (n : ℕ) × (length world.rows ≡ suc n) = some_length world.rows empty in
     item_move stage world rank m (Refused agent.at class (length world.rows)) refl
     (calls_passed (post_at stage world rank) (view_at world rank) agent.marked (m.all.each rank) m.free (outside_at stage world rank m b.new)
@@ -212,7 +210,7 @@ plain_keeps stage world rank m call b item plain place accepted form is alone by
     calls_passed (post_at stage world rank) (view_at world rank) (agent_at world rank).marked (m.all.each rank) m.free (outside_at stage world rank m b.new)
     call b.here b.passes item place
     (λ e. makes_none (shapes_after stage world.rows) (calls_at stage rank) (agent_at world rank).known item (agent_at world rank).at call accepted b.here
-        (alone_makes_nothing seat call (subst IsAlone (sym is) alone)) ((m.all.each rank).unmade e))
+    (alone_makes_nothing seat call (subst IsAlone (sym is) alone)) ((m.all.each rank).unmade e))
     form is (inr by)
 
 pub passes_keeps : (stage : Stage) (world : World) (rank : ℕ) → Mover stage world rank → (call : Call) → Begins stage world rank call →
@@ -252,7 +250,7 @@ untouched_issue log touches item plain none =
 -- the Issue with its touches, or with its access pending
 pub issue_move : (stage : Stage) (world : World) (rank : ℕ) → Mover stage world rank → (t : Transfer) (window : Window) →
     HasCallsHere stage world rank (after_item (post_at stage world rank) (view_at world rank)
-        (Issue (agent_at world rank).at (access_of (seat_knowing (post_at stage world rank) (agent_at world rank).known) window t))) →
+    (Issue (agent_at world rank).at (access_of (seat_knowing (post_at stage world rank) (agent_at world rank).known) window t))) →
     HasCalls stage (with_issue stage world rank t window)
 issue_move stage world rank m t window here =
     let agent = agent_at world rank in
@@ -265,11 +263,11 @@ issue_move stage world rank m t window here =
     let touches = (touch_each t (length agent.log) 0 places world.cells).items in
     let one : Issued = record { index = length agent.log; number = agent.at; transfer = t; access = access; pieces = places } in
     let at_once = calls_set stage world rank (record next { log = next.log ++ touches }) m.all
-        (subst (λ (xs : List Item). HasCallsHere stage world rank (record (after_item post view item) { items = xs }))
-        (sym (untouched_issue agent.log touches item refl (touches_only t (length agent.log) 0 places world.cells))) here) in
+    (subst (λ (xs : List Item). HasCallsHere stage world rank (record (after_item post view item) { items = xs }))
+    (sym (untouched_issue agent.log touches item refl (touches_only t (length agent.log) 0 places world.cells))) here) in
     let later = calls_set stage world rank (record next { pending = next.pending ++ made_pending one }) m.all
-        (subst (λ (xs : List Item). HasCallsHere stage world rank (record (after_item post view item) { items = xs }))
-        (sym (untouched_push agent.log item refl)) here) in
+    (subst (λ (xs : List Item). HasCallsHere stage world rank (record (after_item post view item) { items = xs }))
+    (sym (untouched_push agent.log item refl)) here) in
     cond_both (touches_at_once stage.delay t) (with_touches world rank next t (length agent.log) places)
     (with_agent world rank (record next { pending = next.pending ++ made_pending one })) (λ (w : World). HasCalls stage w)
     (λ e. record { each = at_once.each }) (λ e. later)
@@ -303,10 +301,14 @@ issues_inside_keeps stage world rank m call t window here entered is moves on =
     issue_move stage world rank m t window
     (calls_second post (view_at world rank) agent.marked (m.all.each rank) m.free i item (omega arith)
     (λ e. makes_none (shapes_after stage world.rows) (calls_at stage rank) agent.known item agent.at i.call refl i.here
-        (alone_makes_nothing seat i.call (subst IsAlone (sym form) tt)) ((m.all.each rank).unmade e))
-    LookUpForm form
-    (i.place, item, is_issue_of seat agent.at i.call t window (subst (λ (c : Call). transfer_of c ≡ Some t) one moves)
-        (subst (λ (c : Call). window_at seat c ≡ Some window) one on), ap (λ (x : Item). x ∷ item ∷ []) opens))
+    (alone_makes_nothing seat i.call (subst IsAlone (sym form) tt)) ((m.all.each rank).unmade e))
+    LookUpForm form (
+      i.place,
+      item,
+      is_issue_of seat agent.at i.call t window (subst (λ (c : Call). transfer_of c ≡ Some t) one moves)
+          (subst (λ (c : Call). window_at seat c ≡ Some window) one on),
+      ap (λ (x : Item). x ∷ item ∷ []) opens,
+    ))
 
 -- ---- moves with an entry
 

@@ -1,18 +1,16 @@
 -- What one more item leaves of a rank's facts on the items of its calls.
-use Rattle.std.proofs.Common.{◌≡◌, ℕ, zero, suc, ◌≤◌, ◌+◌, ◌⊎◌, inl, inr, Bool, true, false, not, ◌&&◌, List, [], ◌∷◌, ◌++◌, length, Option, Some, None, IsTrue, refl, sym, ◌∙◌, ap, subst, arith, append-nil, append_assoc, add-one}
-use Rattle.std.specs.Prelude.{slice_get, slice_index_or, slice_set, IsSomeAnd}
-use Rattle.std.specs.List.{AllByRecursion, filter}
+use Rattle.std.proofs.Common.{◌≡◌, ℕ, zero, suc, ◌≤◌, ◌+◌, ◌⊎◌, inr, Bool, true, false, not, List, [], ◌∷◌, ◌++◌, length, Option, Some, None, refl, sym, ◌∙◌, ap, subst, arith, append-nil, append_assoc, add-one}
+use Rattle.std.specs.Prelude.{slice_get, IsSomeAnd}
 use Rattle.std.proofs.lemmas.List.Elements.{filter-append}
-use Rattle.std.proofs.lemmas.Option.{slice_get_within}
-use Rattle.rma_types.specs.declared.accesses.Step.TheVariants.{Arrive, Leave, One}
+use Rattle.rma_types.specs.declared.accesses.Step.TheVariants.{Arrive, One}
 use Rattle.rma_types.specs.declared.calls.Call.{Call}
 use Rattle.rma_types.specs.declared.classes.Class.{Class}
 use Rattle.rma_types.specs.declared.scripts.Part.{Part}
 use Rattle.rma_record.specs.declared.items.Item.{Item}
-use Rattle.rma_record.specs.declared.items.Item.TheVariants.{Issue, Null, Flush, Request, Entry, Tested, Refused, Ended}
+use Rattle.rma_record.specs.declared.items.Item.TheVariants.{Entry, Ended}
 use Rattle.rma_model.specs.Forms.{Form, form_of}
 use Rattle.rma_model.specs.Items.{is_touch}
-use Rattle.rma_model.specs.Knowledge.{Knowledge, learn, accepted_by, entry_place, ends_call}
+use Rattle.rma_model.specs.Knowledge.{Knowledge, learn, accepted_by, entry_place}
 use Rattle.rma_model.specs.OwnTests.{Seat, own}
 use Rattle.rma_model.specs.RankLaw.{Post, calls_here, seat_after, untouched, AreFinished, AreItemsOf, AreItemsBy, IsBoardRefusal, AreFormItems}
 use Rattle.rma_model.specs.Synchronising.{flavor_made}
@@ -20,7 +18,7 @@ use Rattle.rma_model.specs.Transfers.{Transfer, transfer_of}
 use Rattle.rma_model.specs.World.{shapes_after}
 use Rattle.run_laws.proofs.CallsForms.{no_window_after}
 use Rattle.run_laws.proofs.CallsKnown.{AreWithin, all_push, learnt, learnt_push, seat_knowing}
-use Rattle.run_laws.proofs.Calls.{View, Outside, Inside, Past, Standing, IsOutside, IsInside, IsPast, OpensCall, HasCallsOf}
+use Rattle.run_laws.proofs.Calls.{View, Outside, Inside, Standing, IsOutside, IsInside, IsPast, OpensCall, HasCallsOf}
 
 -- a rank that is in no call and not past all is between two
 pub outside_of : (post : Post) (view : View) → Standing post view → view.entered ≡ false → view.ended ≡ false → Outside post view
@@ -82,7 +80,7 @@ pub finished_next : (post : Post) (number : ℕ) (items before mid : List Item) 
     AreItemsOf post before number (mid ++ item ∷ []) → AreFinished post (number + 1) (items ++ item ∷ [])
 finished_next post number items before mid item split done here =
     let next : AreFinished post (suc number) (items ++ item ∷ []) =
-        (before, mid ++ item ∷ [], ap (λ (xs : List Item). xs ++ item ∷ []) split ∙ append_assoc before mid (item ∷ []), done, here) in
+    (before, mid ++ item ∷ [], ap (λ (xs : List Item). xs ++ item ∷ []) split ∙ append_assoc before mid (item ∷ []), done, here) in
     subst (λ (n : ℕ). AreFinished post n (items ++ item ∷ [])) (sym (add-one number)) next
 
 -- an index at which something is, is below the length
