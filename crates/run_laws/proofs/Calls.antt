@@ -14,7 +14,7 @@ use Rattle.rma_model.specs.Pieces.{numbers_from}
 use Rattle.rma_model.specs.RankLaw.{Post, calls_here, untouched, AreFinished, IsWaiting, leave_row, needs_board, StandsAt, HasItemsOfCalls}
 use Rattle.rma_model.specs.StepRun.{is_ready}
 use Rattle.rma_model.specs.World.{Stage, Agent, World, new_agent, agent_at, calls_at, shapes_after, first_world, run_of}
-use Rattle.run_laws.proofs.CallsForms.{collective_tests_nothing}
+use Rattle.run_laws.proofs.CallsByForm.{collective_tests_nothing}
 use Rattle.run_laws.proofs.CallsKnown.{AreWithin, within_more, post_of, learnt, learnt_same, fold_untouched, seat_knowing, finished_more, all_left}
 
 -- ---- where a rank is

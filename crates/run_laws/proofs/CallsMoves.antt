@@ -26,7 +26,7 @@ use Rattle.rma_model.specs.Turns.{made_pending, row_of, answer, with_item, with_
 use Rattle.rma_model.specs.Windows.{Window}
 use Rattle.rma_model.specs.World.{Stage, Agent, World, new_agent, with_touches, agent_at, with_agent, calls_at, shapes_after, kept, finished, unmarked, with_entry, touch_each}
 use Rattle.run_laws.proofs.Moves.{IsAt, Begins, Move, Ends, RefusesAlone, IsRefused, Tests, Waits, WaitsInside, Passes, Issues, IssuesInside, Enters, Arrives, Leaves, form_at, step_by, IsPlainItem, GoesOn, entered_by}
-use Rattle.run_laws.proofs.CallsForms.{IsAlone, alone_makes_nothing, look_up_moves, step_of_form, not_refused, empty_board}
+use Rattle.run_laws.proofs.CallsByForm.{IsAlone, alone_makes_nothing, look_up_moves, step_of_form, not_refused, empty_board}
 use Rattle.run_laws.proofs.CallsKnown.{post_of, seat_knowing}
 use Rattle.run_laws.proofs.Calls.{View, view_of, Outside, Inside, Standing, IsOutside, IsInside, IsPast, WaitsFirst, WaitsToLeave, OpensCall, HasCallsOf, HasCalls, calls_more, push_is_some, is_one_call}
 use Rattle.run_laws.proofs.CallsSteps.{outside_of, inside_of, untouched_push, after_item, after_first, after_end, calls_one, calls_passed, calls_second, calls_first, calls_past, makes_none, arrive_teaches, look_up_teaches}

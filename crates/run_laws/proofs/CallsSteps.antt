@@ -16,7 +16,7 @@ use Rattle.rma_model.specs.RankLaw.{Post, calls_here, seat_after, untouched, Are
 use Rattle.rma_model.specs.Synchronising.{flavor_made}
 use Rattle.rma_model.specs.Transfers.{Transfer, transfer_of}
 use Rattle.rma_model.specs.World.{shapes_after}
-use Rattle.run_laws.proofs.CallsForms.{no_window_after}
+use Rattle.run_laws.proofs.CallsByForm.{no_window_after}
 use Rattle.run_laws.proofs.CallsKnown.{AreWithin, all_push, learnt, learnt_push, seat_knowing}
 use Rattle.run_laws.proofs.Calls.{View, Outside, Inside, Standing, IsOutside, IsInside, IsPast, OpensCall, HasCallsOf}
 

@@ -1,8 +1,15 @@
 -- Theorems over the definitions of a run.
+pub mod Agents
+pub mod CallForms
 pub mod Calls
-pub mod CallsForms
+pub mod CallsByForm
 pub mod CallsKnown
+pub mod CallsLaw
 pub mod CallsMoves
 pub mod CallsSteps
+pub mod Calm
+pub mod Ending
 pub mod Moves
+pub mod Picks
+pub mod Runs
 pub mod Turns
