@@ -3,6 +3,12 @@ pub mod Agents
 pub mod BoardLaw
 pub mod BoardMoves
 pub mod CallForms
+pub mod Calls
+pub mod CallsByForm
+pub mod CallsKnown
+pub mod CallsLaw
+pub mod CallsMoves
+pub mod CallsSteps
 pub mod Calm
 pub mod Ending
 pub mod Moves
