@@ -1,5 +1,6 @@
 -- Facts of every rank's agent, kept as one agent changes or all marks are cleared.
-use Rattle.std.proofs.Common.{ℕ, zero, suc, List, [], ◌∷◌, get_or, sym, subst}
+use Rattle.std.proofs.Common.{◌≡◌, ℕ, zero, suc, ◌<◌, ◌⊎◌, inl, inr, List, [], ◌∷◌, length, get_or, sym, subst, get_or-set_same, get_or-set_other}
+use Rattle.std.proofs.lemmas.Bool.Decides.{eqb_tells}
 use Rattle.std.specs.Prelude.{slice_set, map}
 use Rattle.std.proofs.Math.ListN.{get_or-map}
 use Rattle.rma_model.specs.World.{Agent, new_agent, unmarked}

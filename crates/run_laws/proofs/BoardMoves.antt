@@ -4,6 +4,8 @@ use Rattle.std.proofs.lemmas.List.{append-nil}
 use Rattle.std.specs.Prelude.{slice_get, slice_set, slice_index_or, map, IsSomeAnd}
 use Rattle.std.specs.List.{AllByRecursion}
 use Rattle.std.proofs.Math.Seq.{take-length}
+use Rattle.std.proofs.Math.ListN.{get_or-map}
+use Rattle.std.proofs.lemmas.List.{length-map}
 use Rattle.rma_types.specs.declared.accesses.Step.{Step}
 use Rattle.rma_types.specs.declared.accesses.Step.TheVariants.{Arrive, Leave, One}
 use Rattle.rma_types.specs.declared.classes.Class.{Class}
@@ -84,11 +86,138 @@ step_is_first stage world rank call CollectiveForm e n = sym (collective_arrives
 step_is_first stage world rank call TestForm e n = sym (test_has_one_step (seat_of stage rank (agent_at world rank)) call e)
 step_is_first stage world rank call EntryForm e n = sym (entry_has_one_step (seat_of stage rank (agent_at world rank)) call e)
 
+if_is_no_refusal : (allowed : Bool) (class : Class) → cond allowed Allow NotYet ≡ Refuse class → ⊥
+if_is_no_refusal true class e = cc e
+if_is_no_refusal false class e = cc e
+
 -- a refusal by the board is the class that the entries give
-refused_by : (ranks : ℕ) (rows : List Row) (row : Row) (class : Class) → decide ranks rows row ≡ Refuse class → shared ranks rows row ≡ Some class
-refused_by ranks rows row class e = by_refusal (shared ranks rows row) (is_allowed_now (question ranks rows row) row.step) e
+pub refused_by : (ranks : ℕ) (rows : List Row) (row : Row) (class : Class) → decide ranks rows row ≡ Refuse class → shared ranks rows row ≡ Some class
+refused_by ranks rows row class e =
+    elim (shared ranks rows row) as (λ (o : Option Class). shared ranks rows row ≡ o → o ≡ Some class)
+      [ None ↦ λ none. absurd (if_is_no_refusal (is_allowed_now (question ranks rows row) row.step) class (rw none at e))
+      | Some other ↦ λ some. let same : Refuse other ≡ Refuse class = rw some at e in cc same ] refl
+
+-- ---- looks
+
+-- the board's answer is that after all entries
+at_all : (rows : List Row) (before : ℕ) → length rows ≡ suc before → take (suc before) rows ≡ rows
+at_all rows before e = ap (λ n. take n rows) (sym e) ∙ take-length rows
+
+-- a refusal is a look at all entries, or one at none
+refusal_fits : (stage : Stage) (world : World) (rank : ℕ) (call : Call) (class : Class) → IsAt stage world rank call →
+    answer stage world rank call (first_step call) ≡ Refuse class → IsBoardLawful stage world → (entries : ℕ) → length world.rows ≡ entries →
+    IsBoardLawful stage (with_item stage world rank (Refused (agent_at world rank).at class entries))
+refusal_fits stage world rank call class here e lawful zero none = quiet_item_keeps stage world rank (Refused (agent_at world rank).at class 0) tt lawful
+refusal_fits stage world rank call class here e lawful (suc before) some =
+    look_keeps stage world rank (Refused (agent_at world rank).at class (suc before))
+      (rw here (subst (λ (rows : List Row). shared stage.script.ranks rows (first_row rank (agent_at world rank).at call) ≡ Some class) (sym (at_all world.rows before some))
+        (refused_by stage.script.ranks world.rows (first_row rank (agent_at world rank).at call) class e)))
+      (omega arith) refl (ap (λ n. LookAfter n ∷ []) (sym some)) lawful
+
+test_fits : (stage : Stage) (world : World) (rank : ℕ) (call : Call) → IsAt stage world rank call → answer stage world rank call (first_step call) ≡ NotYet →
+    IsBoardLawful stage world → IsBoardLawful stage (with_item stage world rank (Tested (agent_at world rank).at (length world.rows)))
+test_fits stage world rank call here e lawful =
+    look_keeps stage world rank (Tested (agent_at world rank).at (length world.rows))
+      (rw here (subst (λ (rows : List Row). decide stage.script.ranks rows (first_row rank (agent_at world rank).at call) ≡ NotYet) (sym (take-length world.rows)) e))
+      (omega arith) refl refl lawful
+
+-- ---- entries
+
+entry_keeps : (stage : Stage) (world : World) (rank : ℕ) (call : Call) (step : Step) (after : Agent → Agent) → ((agent : Agent) → (after agent).log ≡ agent.log) →
+    rank < length world.agents → length world.agents ≡ stage.script.ranks → IsAt stage world rank call → answer stage world rank call step ≡ Allow →
+    IsBoardLawful stage world → IsBoardLawful stage (entered_by stage world rank call step after)
+entry_keeps stage world rank call step after same inside ranks here e lawful =
+    let agent = agent_at world rank in
+    let row = row_of rank agent call step in
+    let rows = world.rows ++ row ∷ [] in
+    let next = unmarked (after (kept stage rows rank agent (Entry agent.at (length world.rows) step))) in
+    record {
+      calls = each_append (NamesItsCall stage.script) world.rows (row ∷ []) lawful.calls (record { rank = subst (λ n. rank < n) ranks inside; call = here }, tt);
+      allowed = allowed_append stage.script.ranks [] world.rows row lawful.allowed e;
+      logs = each_set_apart (Fits stage rows) (map unmarked world.agents) (new_agent 0 0) rank next
+        (subst (λ n. rank < n) (sym (length-map world.agents unmarked)) inside)
+        (λ within. subst (FitsBoard stage.script.ranks (calls_at stage rank) rows rank) (sym (same (kept stage rows rank agent (Entry agent.at (length world.rows) step))))
+          (entry_fits stage.script.ranks (calls_at stage rank) world.rows row rank agent.log refl (lawful.logs rank within)))
+        (λ k other. others k other) }
   where
-  by_refusal : (o : Option Class) (allowed : Bool) → ? ≡ Refuse class → o ≡ Some class
-  by_refusal (Some other) allowed e = ?
-  by_refusal None true e = ?
-  by_refusal None false e = ?
+  others : (k : ℕ) → (k ≡ rank → ⊥) → Fits stage (world.rows ++ row_of rank (agent_at world rank) call step ∷ []) k (get_or (map unmarked world.agents) k (new_agent 0 0))
+  others k other = subst (Fits stage (world.rows ++ row_of rank (agent_at world rank) call step ∷ []) k) (sym (get_or-map unmarked world.agents k (new_agent 0 0)))
+    (λ within. other_fits stage.script.ranks (calls_at stage k) world.rows (row_of rank (agent_at world rank) call step) k (agent_at world k).log (λ same_rank. other (sym same_rank)) (lawful.logs k within))
+
+opened_log : (agent : Agent) → (opened agent).log ≡ agent.log
+opened_log agent = refl
+
+finished_log : (agent : Agent) → (finished agent).log ≡ agent.log
+finished_log agent = refl
+
+goes_on_log : (form : Form) (after : Agent → Agent) → GoesOn form after → (agent : Agent) → (after agent).log ≡ agent.log
+goes_on_log NullForm after goes agent = absurd goes
+goes_on_log IssueForm after goes agent = absurd goes
+goes_on_log LookUpForm after goes agent = ap (λ (a : Agent). a.log) (goes agent)
+goes_on_log FlushForm after goes agent = absurd goes
+goes_on_log RequestForm after goes agent = absurd goes
+goes_on_log CollectiveForm after goes agent = absurd goes
+goes_on_log TestForm after goes agent = ap (λ (a : Agent). a.log) (goes agent)
+goes_on_log EntryForm after goes agent = ap (λ (a : Agent). a.log) (goes agent)
+
+-- ---- accesses
+
+touches_are_quiet : (t : Transfer) (issue element : ℕ) (pieces : List Piece) (cells : List Cell) → AllByRecursion IsQuiet (touch_each t issue element pieces cells).items
+touches_are_quiet t issue element [] cells = tt
+touches_are_quiet t issue element (piece ∷ pieces) cells = (tt, touches_are_quiet t issue (element + 1) pieces _)
+
+issue_keeps : (stage : Stage) (world : World) (rank : ℕ) (t : Transfer) (window : Window) → IsCalm stage world → IsBoardLawful stage world → IsBoardLawful stage (with_issue stage world rank t window)
+issue_keeps stage world rank t window calm lawful =
+    let agent = agent_at world rank in
+    let access = access_of (seat_of stage rank agent) window t in
+    let places = pieces stage.layout access t.dtype in
+    let next = finished (kept stage world.rows rank agent (Issue agent.at access)) in
+    let touched = touch_each t (length agent.log) 0 places world.cells in
+    subst (IsBoardLawful stage) (sym (issue_is_touched stage world rank t window calm.delay))
+      (record {
+        calls = lawful.calls; allowed = lawful.allowed;
+        logs = with_log stage world.rows world.agents rank (record next { log = next.log ++ touched.items }) lawful.logs
+          (λ inside. quiet_items_fit stage.script.ranks (calls_at stage rank) world.rows rank touched.items next.log (touches_are_quiet t (length agent.log) 0 places world.cells)
+            (quiet_item_fits stage.script.ranks (calls_at stage rank) world.rows rank agent.log (Issue agent.at access) tt (lawful.logs rank inside))) })
+
+plain_is_quiet : (form : Form) (number : ℕ) (item : Item) → IsPlainItem form number item → IsQuiet item
+plain_is_quiet NullForm number item e = subst IsQuiet (sym e) tt
+plain_is_quiet IssueForm number item e = absurd e
+plain_is_quiet LookUpForm number item e = absurd e
+plain_is_quiet FlushForm number item e = subst IsQuiet (sym e) tt
+plain_is_quiet RequestForm number item e = subst IsQuiet (sym e) tt
+plain_is_quiet CollectiveForm number item e = absurd e
+plain_is_quiet TestForm number item e = absurd e
+plain_is_quiet EntryForm number item e = absurd e
+
+-- ---- moves
+
+mark_keeps : (stage : Stage) (world : World) (rank : ℕ) → IsBoardLawful stage world → IsBoardLawful stage (with_mark world rank)
+mark_keeps stage world rank lawful = record {
+  calls = lawful.calls; allowed = lawful.allowed;
+  logs = with_log stage world.rows world.agents rank _ lawful.logs (lawful.logs rank) }
+
+-- every move keeps the board lawful
+pub moves_keep_board : (stage : Stage) → KeptByMoves stage (IsBoardLawful stage)
+moves_keep_board stage world next rank may lawful (Ends e) = record {
+  calls = lawful.calls; allowed = lawful.allowed;
+  logs = with_log stage world.rows world.agents rank _ lawful.logs
+    (λ inside. quiet_item_fits stage.script.ranks (calls_at stage rank) world.rows rank (agent_at world rank).log Ended tt (lawful.logs rank inside)) }
+moves_keep_board stage world next rank may lawful (RefusesAlone call class here new class_is) = quiet_item_keeps stage world rank (Refused (agent_at world rank).at class 0) tt lawful
+moves_keep_board stage world next rank may lawful (IsRefused call class begins board e) =
+    refusal_fits stage world rank call class begins.here
+      (ap (answer stage world rank call) (sym (step_is_first stage world rank call (form_at stage world rank call) refl board)) ∙ e) lawful (length world.rows) refl
+moves_keep_board stage world next rank may lawful (Tests call begins form e) =
+    test_fits stage world rank call begins.here (ap (answer stage world rank call) (test_has_one_step (seat_of stage rank (agent_at world rank)) call form) ∙ e) lawful
+moves_keep_board stage world next rank may lawful (Waits call begins board test e) = mark_keeps stage world rank lawful
+moves_keep_board stage world next rank may lawful (WaitsInside call here inside form e) = mark_keeps stage world rank lawful
+moves_keep_board stage world next rank may lawful (Passes call item begins plain) =
+    quiet_item_keeps stage world rank item (plain_is_quiet (form_at stage world rank call) (agent_at world rank).at item plain) lawful
+moves_keep_board stage world next rank may lawful (Issues call t window begins form moves live) = issue_keeps stage world rank t window may.calm lawful
+moves_keep_board stage world next rank may lawful (IssuesInside call t window here inside form moves live) = issue_keeps stage world rank t window may.calm lawful
+moves_keep_board stage world next rank may lawful (Enters call after begins goes e) =
+    entry_keeps stage world rank call One after (goes_on_log (form_at stage world rank call) after goes) may.inside may.ranks begins.here e lawful
+moves_keep_board stage world next rank may lawful (Arrives call begins form e) =
+    entry_keeps stage world rank call Arrive opened opened_log may.inside may.ranks begins.here e lawful
+moves_keep_board stage world next rank may lawful (Leaves call here inside form e) =
+    entry_keeps stage world rank call Leave finished finished_log may.inside may.ranks here e lawful
