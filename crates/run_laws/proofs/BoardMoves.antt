@@ -33,7 +33,10 @@ use Rattle.run_laws.proofs.Calm.{issue_is_touched}
 use Rattle.run_laws.proofs.CallForms.{collective_arrives, test_has_one_step, entry_has_one_step, look_up_has_one_step}
 use Rattle.run_laws.proofs.Moves.{Move, Ends, RefusesAlone, IsRefused, Tests, Waits, WaitsInside, Passes, Issues, IssuesInside, Enters, Arrives, Leaves, Begins, IsAt, IsCalm, IsPlainItem, GoesOn, form_at, step_by, entered_by}
 use Rattle.run_laws.proofs.Picks.{each_append}
-use Rattle.run_laws.proofs.Runs.{MayMove, KeptByMoves, KeptByPicks}
+use Rattle.run_laws.proofs.Runs.{MayMove, KeptByMoves, KeptByPicks, new_agents_at}
+use Rattle.rma_model.specs.Pieces.{numbers_from}
+use Rattle.rma_model.specs.StepRun.{stage_of}
+use Rattle.rma_model.specs.World.{first_world}
 
 -- the log of a rank of the script fits the entries
 abbrev pub Fits : Stage → List Row → ℕ → Agent → Type 0
@@ -221,3 +224,33 @@ moves_keep_board stage world next rank may lawful (Arrives call begins form e) =
     entry_keeps stage world rank call Arrive opened opened_log may.inside may.ranks begins.here e lawful
 moves_keep_board stage world next rank may lawful (Leaves call here inside form e) =
     entry_keeps stage world rank call Leave finished finished_log may.inside may.ranks here e lawful
+
+-- ---- the beginning and the end
+
+empty_fits : (ranks : ℕ) (calls : List Call) (rank : ℕ) → FitsBoard ranks calls [] rank []
+empty_fits ranks calls rank = record { marks = refl; looks = tt; seen = tt; moments = tt; within = tt }
+
+-- the board is lawful before the first turn
+pub board_begins : (stage : Stage) (seed last draws : ℕ) → IsBoardLawful stage (first_world stage seed last draws)
+board_begins stage seed last draws = record {
+  calls = tt; allowed = tt;
+  logs = λ rank inside. subst (FitsBoard stage.script.ranks (calls_at stage rank) [] rank) (sym (no_log rank)) (empty_fits stage.script.ranks (calls_at stage rank) rank) }
+  where
+  no_log : (rank : ℕ) → (agent_at (first_world stage seed last draws) rank).log ≡ []
+  no_log rank = new_agents_at seed (λ agent. agent.log ≡ []) (λ r. refl) refl (numbers_from 0 stage.script.ranks) rank
+
+-- the log of a rank in the run that a state is
+pub log_in_run : (world : World) (rank : ℕ) → slice_index_or (run_of world).logs rank [] ≡ (agent_at world rank).log
+log_in_run world rank = get_or-map (λ (agent : Agent). agent.log) world.agents rank (new_agent 0 0)
+
+-- a lawful board makes a lawful run
+pub board_gives : (script : Script) (delay : Delay) (world : World) → IsBoardLawful (stage_of script delay) world → HasLawfulBoard script (run_of world) world.rows
+board_gives script delay world lawful = record {
+  entries = record {
+    calls = lawful.calls;
+    places = λ rank inside. ap marks_in (log_in_run world rank) ∙ (lawful.logs rank inside).marks };
+  allowed = lawful.allowed;
+  looks = λ rank inside.
+    let fits = lawful.logs rank inside in
+    subst (HasLawfulLooks script world.rows rank) (sym (log_in_run world rank))
+      (record { looks = fits.looks; moments = fits.moments; within = fits.within }) }

@@ -11,6 +11,7 @@ pub mod CallsMoves
 pub mod CallsSteps
 pub mod Calm
 pub mod Ending
+pub mod Fuel
 pub mod Moves
 pub mod Picks
 pub mod Runs
