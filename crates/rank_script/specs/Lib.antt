@@ -1,0 +1,2 @@
+-- How a canonical text is read, and what is said of a text that is refused.
+pub mod Reading

@@ -1,0 +1,13 @@
+//! Scripts as text.
+//!
+//! By now a text is accepted where it is the canonical text of a script of the built form, and each other text has
+//! one fault.
+#![tactic(auto)]
+
+mod bodies;
+mod calls;
+mod faults;
+mod fields;
+mod values;
+
+pub use script_layout::{is_within_limits, layout_of};
