@@ -6,3 +6,5 @@ pub mod Each
 pub mod Numbers
 pub mod CallLines
 pub mod RankLines
+pub mod Whole
+pub mod Fences

@@ -6,8 +6,12 @@
 
 mod bodies;
 mod calls;
+mod checks;
 mod faults;
 mod fields;
+mod parses;
 mod values;
 
+pub use faults::{Fault, FaultKind};
+pub use parses::parse;
 pub use script_layout::{is_within_limits, layout_of};
