@@ -1,22 +1,21 @@
 -- Reading the lines of calls.
-use Rattle.std.proofs.Common.{◌≡◌, ℕ, ◌+◌, ◌^◌, ◌<◌, ◌≤◌, ◌⊎◌, ℤ, pos, negsuc, Bool, true, false, cond, List, [], ◌∷◌, ◌++◌, length, map, Option, Some, None, codes, refl, sym, ap, subst, ◌∙◌, inl, inr, append_assoc, arith, lit≤}
-use Rattle.std.specs.List.{AllByRecursion, flat_map, join_with_byte}
+use Rattle.std.proofs.Common.{◌≡◌, ℕ, ◌<◌, ◌≤◌, ℤ, pos, negsuc, true, cond, List, [], ◌∷◌, ◌++◌, map, Option, Some, None, codes, refl, sym, ap, subst, ◌∙◌, inl, inr, append_assoc, arith, lit≤}
+use Rattle.std.specs.List.{flat_map, join_with_byte}
 use Rattle.std.specs.Fmt.{decimal}
 use Rattle.std.proofs.lemmas.Option.{same_Some}
 use Rattle.std.proofs.lemmas.List.{append-nil}
 use Rattle.std.proofs.lemmas.Fmt.{decimal_digit}
 use Rattle.rma_types.specs.declared.calls.Call.{Call}
-use Rattle.rma_types.specs.declared.calls.Call.TheVariants.{Allocate, Create, Dynamic, Free, Attach, Detach, Fence, Post, Start, Complete, WaitWin, TestWin, LockOne, Unlock, LockAll, UnlockAll, Flush, FlushAll, FlushLocal, FlushLocalAll, Sync, Barrier, Put, Get, Acc, GetAcc, Fop, Cas, Load, Store, WaitReq, TestReq}
+use Rattle.rma_types.specs.declared.calls.Call.TheVariants.{Allocate, Fence, Put, Load}
 use Rattle.rma_types.specs.declared.calls.Asserts.{Asserts}
 use Rattle.rma_types.specs.declared.dtypes.Dtype.{Dtype}
-use Rattle.rma_types.specs.declared.dtypes.Dtype.TheVariants.{Int32}
 use Rattle.rma_model.specs.BuiltForm.{no_asserts, IsBuiltCall, IsBuiltPut, IsBuiltLoad, IsBuiltAllocate}
 use Rattle.rma_model.specs.Canon.{call_line}
 use Rattle.rank_script.specs.Reading.{◌>>=◌, after, behind, ended, both, made, below, values_at, fence_at, put_of, put_at, load_of, load_at, begins_with, begins_call, call_at, allocate_of, allocate_at}
 use Rattle.rank_script.proofs.Words.{bind_some, after_takes, after_again}
 use Rattle.rank_script.proofs.Digits.{chosen, decimal_zero}
-use Rattle.rank_script.proofs.Grammar.{Reads, Anything, NoDigit, below_reads, behind_reads, ended_reads, both_reads}
-use Rattle.rank_script.proofs.Numbers.{signed_text, value_text, EndsValues, AreValues, values_reads}
+use Rattle.rank_script.proofs.Grammar.{Reads, Anything, below_reads, behind_reads, ended_reads, both_reads}
+use Rattle.rank_script.proofs.Numbers.{signed_text, value_text, AreValues, values_reads}
 
 -- tokens behind a first one
 join_words : (word : List ℕ) (words : List (List ℕ)) → join_with_byte 32 (word ∷ words) ≡ word ++ flat_map (λ w. 32 ∷ w) words
@@ -109,7 +108,7 @@ allocate_takes text call rest e =
     let m = made_takes allocate_of allocate_parts text call rest e in
     let t = allocate_reads.takes text m.0 rest m.1 in
     subst (λ (c : Call). (text ≡ call_line c ++ rest) × IsBuiltAllocate c) m.2
-        (t.0 ∙ ap (λ (s : List ℕ). s ++ rest) (sym (allocate_line m.0)), (refl, omega (arith, t.1), refl))
+    (t.0 ∙ ap (λ (s : List ℕ). s ++ rest) (sym (allocate_line m.0)), (refl, omega (arith, t.1), refl))
 
 allocate_made : (bytes : ℕ) (rest : List ℕ) → bytes ≤ 65536 → allocate_at (call_line (allocate_of bytes) ++ rest) ≡ Some (allocate_of bytes, rest)
 unfolding allocate_at
@@ -130,7 +129,7 @@ put_takes ranks few text call rest e =
     let t = (put_reads ranks few).takes text m.0 rest m.1 in
     let values = t.1.1.1 in
     subst (λ (c : Call). (text ≡ call_line c ++ rest) × IsBuiltCall ranks c) m.2
-        (t.0 ∙ ap (λ (s : List ℕ). s ++ rest) (sym (put_line m.0)), record { plain = refl; window = refl; rank = t.1.0; place = omega (arith, t.1.1.0); numbers = refl; count = values.count; patterns = values.all })
+    (t.0 ∙ ap (λ (s : List ℕ). s ++ rest) (sym (put_line m.0)), record { plain = refl; window = refl; rank = t.1.0; place = omega (arith, t.1.1.0); numbers = refl; count = values.count; patterns = values.all })
 
 load_takes : (ranks : ℕ) (text : List ℕ) (call : Call) (rest : List ℕ) → load_at text ≡ Some (call, rest) → (text ≡ call_line call ++ rest) × IsBuiltCall ranks call
 unfolding load_at
@@ -138,7 +137,7 @@ load_takes ranks text call rest e =
     let m = made_takes load_of load_parts text call rest e in
     let t = load_reads.takes text m.0 rest m.1 in
     subst (λ (c : Call). (text ≡ call_line c ++ rest) × IsBuiltCall ranks c) m.2
-        (t.0 ∙ ap (λ (s : List ℕ). s ++ rest) (sym (load_line m.0)), record { window = refl; place = omega (arith, t.1.0); numbers = refl; amount = omega (arith, t.1.1) })
+    (t.0 ∙ ap (λ (s : List ℕ). s ++ rest) (sym (load_line m.0)), record { window = refl; place = omega (arith, t.1.0); numbers = refl; amount = omega (arith, t.1.1) })
 
 fence_takes : (ranks : ℕ) (text : List ℕ) (call : Call) (rest : List ℕ) → fence_at text ≡ Some (call, rest) → (text ≡ call_line call ++ rest) × IsBuiltCall ranks call
 unfolding fence_at
@@ -146,7 +145,7 @@ fence_takes ranks text call rest e =
     let b = bind_some (after (codes "fence w0\n") text) (λ left. Some (Fence 0 no_asserts, left)) (call, rest) e in
     let w = after_takes (codes "fence w0\n") text b.0 b.1 in
     subst (λ (y : Call × List ℕ). (text ≡ call_line y.0 ++ y.1) × IsBuiltCall ranks y.0) (same_Some (Fence 0 no_asserts, b.0) (call, rest) b.2)
-        (w ∙ ap (λ (s : List ℕ). s ++ b.0) (sym fence_line), (refl, refl))
+    (w ∙ ap (λ (s : List ℕ). s ++ b.0) (sym fence_line), (refl, refl))
 
 pub call_takes : (ranks : ℕ) → ranks ≤ 16 → (text : List ℕ) (call : Call) (rest : List ℕ) → call_at ranks text ≡ Some (call, rest) → (text ≡ call_line call ++ rest) × IsBuiltCall ranks call
 unfolding call_at
@@ -193,8 +192,8 @@ put_again ranks few req win (Some (pos target)) (pos disp) dtype values rest h =
     let fits : IsPut ranks (target, (disp, values)) = (h.rank, (omega (arith, h.place), record { count = h.count; all = h.patterns })) in
     let call = λ (r : Option ℕ) (w : ℕ) (d : Dtype). Put r w (Some (pos target)) (pos disp) d values in
     subst (λ (r : Option ℕ). Again ranks (call r win dtype) rest) (sym h.plain)
-        (subst (λ (w : ℕ). Again ranks (call None w dtype) rest) (sym h.window)
-            (subst (λ (d : Dtype). Again ranks (call None 0 d) rest) (sym h.numbers) (put_made ranks few (target, (disp, values)) rest fits)))
+    (subst (λ (w : ℕ). Again ranks (call None w dtype) rest) (sym h.window)
+    (subst (λ (d : Dtype). Again ranks (call None 0 d) rest) (sym h.numbers) (put_made ranks few (target, (disp, values)) rest fits)))
 
 load_again : (ranks win : ℕ) (disp : ℤ) (dtype : Dtype) (count : ℤ) (rest : List ℕ) → IsBuiltLoad win disp dtype count → call_at ranks (call_line (Load win disp dtype count) ++ rest) ≡ Some (Load win disp dtype count, rest)
 unfolding call_at
@@ -203,7 +202,7 @@ load_again ranks win (pos disp) dtype (negsuc count) rest h = absurd h.amount
 load_again ranks win (pos disp) dtype (pos count) rest h =
     let fits : IsLoad (disp, count) = (omega (arith, h.place), omega (arith, h.amount)) in
     subst (λ (w : ℕ). Again ranks (Load w (pos disp) dtype (pos count)) rest) (sym h.window)
-        (subst (λ (d : Dtype). Again ranks (Load 0 (pos disp) d (pos count)) rest) (sym h.numbers) (load_made (disp, count) rest fits))
+    (subst (λ (d : Dtype). Again ranks (Load 0 (pos disp) d (pos count)) rest) (sym h.numbers) (load_made (disp, count) rest fits))
 
 pub call_again : (ranks : ℕ) → ranks ≤ 16 → (call : Call) (rest : List ℕ) → IsBuiltCall ranks call → call_at ranks (call_line call ++ rest) ≡ Some (call, rest)
 call_again ranks few (Fence win asserts) rest h = fence_again ranks win asserts rest h

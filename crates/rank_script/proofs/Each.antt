@@ -1,5 +1,5 @@
 -- Reading one after the other: what is taken is spelled so, and what is spelled so is read again.
-use Rattle.std.proofs.Common.{◌≡◌, ℕ, zero, suc, ◌+◌, ◌<◌, ◌≤◌, ◌⊎◌, Bool, true, false, cond, List, [], ◌∷◌, ◌++◌, length, Option, Some, None, refl, sym, ap, subst, ◌∙◌, inl, inr, append_assoc, arith}
+use Rattle.std.proofs.Common.{◌≡◌, ℕ, zero, suc, ◌+◌, ◌<◌, ◌≤◌, ◌⊎◌, Bool, true, false, List, [], ◌∷◌, ◌++◌, length, Option, Some, refl, sym, ap, subst, ◌∙◌, inl, inr, append_assoc, arith}
 use Rattle.std.specs.List.{AllByRecursion, flat_map}
 use Rattle.std.proofs.lemmas.Option.{same_Some}
 use Rattle.rank_script.specs.Reading.{◌>>=◌, many}
@@ -23,7 +23,6 @@ pub record ReadsEach {A : Type 0} (goes : List ℕ → Bool) (read : ℕ → Lis
   pub follows : (at : ℕ) (x : A) (rest : List ℕ) → P x → Q (spell at x ++ rest)
 
 module _ {A : Type 0} (goes : List ℕ → Bool) (read : ℕ → List ℕ → Option (A × List ℕ)) (spell : ℕ → A → List ℕ) (P : A → Type 0) (Q : List ℕ → Type 0) (reads : ReadsEach goes read spell P Q) where
-
   pub record Took (left at : ℕ) (text : List ℕ) (xs : List A) (rest : List ℕ) : Type 0 where
     pub parts : text ≡ spelled spell at xs ++ rest
     pub count : length xs ≤ left
@@ -41,7 +40,7 @@ module _ {A : Type 0} (goes : List ℕ → Bool) (read : ℕ → List ℕ → Op
             let t = reads.takes at text b.0.0 b.0.1 b.1 in
             let u = many_takes left (at + 1) b.0.1 d.0.0 d.0.1 d.1 in
             let parts : text ≡ (spell at b.0.0 ++ spelled spell (at + 1) d.0.0) ++ d.0.1 =
-                t.0 ∙ ap (λ (s : List ℕ). spell at b.0.0 ++ s) u.parts ∙ sym (append_assoc (spell at b.0.0) (spelled spell (at + 1) d.0.0) d.0.1) in
+            t.0 ∙ ap (λ (s : List ℕ). spell at b.0.0 ++ s) u.parts ∙ sym (append_assoc (spell at b.0.0) (spelled spell (at + 1) d.0.0) d.0.1) in
             subst (λ (y : List A × List ℕ). Took (suc left) at text y.0 y.1) (same_Some (b.0.0 ∷ d.0.0, d.0.1) (xs, rest) d.2) (record { parts = parts; count = omega (arith, u.count); all = (t.1, u.all) })
         | inr ended ↦
             subst (λ (y : List A × List ℕ). Took (suc left) at text y.0 y.1) (same_Some ([], text) (xs, rest) ended.1) (record { parts = refl; count = omega arith; all = tt })

@@ -1,5 +1,5 @@
 -- The number of fences of each list.
-use Rattle.std.proofs.Common.{◌≡◌, ℕ, List, [], ◌∷◌, All, Option, Some, None, refl, sym, ap, subst, ◌∙◌}
+use Rattle.std.proofs.Common.{◌≡◌, ℕ, List, [], ◌∷◌, All, Some, None, sym, ap, subst, ◌∙◌}
 use Rattle.std.specs.List.{AllByRecursion, slice_get}
 use Rattle.std.proofs.lemmas.Option.{same_Some}
 use Rattle.std.proofs.lemmas.List.Elements.{recursion_from_All, All-from_recursion}
@@ -11,9 +11,10 @@ pub same_fences : (lists : List (List Call)) (first : List Call) (wanted : ℕ) 
 same_fences [] first wanted at e = absurd cc
 same_fences (calls ∷ lists) first wanted at e =
     let same : first ≡ calls = same_Some first calls at in
-    let w : wanted ≡ fences_of calls = e ∙ ap fences_of same in
-    (λ all. subst (λ (n : ℕ). AllByRecursion (λ other. fences_of other ≡ n) lists) w (recursion_from_All (λ other. fences_of other ≡ wanted) (calls ∷ lists) all).1,
-     λ have. All-from_recursion (λ other. fences_of other ≡ wanted) (calls ∷ lists) (sym w, subst (λ (n : ℕ). AllByRecursion (λ other. fences_of other ≡ n) lists) (sym w) have))
+    let w : wanted ≡ fences_of calls = e ∙ ap fences_of same in (
+      λ all. subst (λ (n : ℕ). AllByRecursion (λ other. fences_of other ≡ n) lists) w (recursion_from_All (λ other. fences_of other ≡ wanted) (calls ∷ lists) all).1,
+      λ have. All-from_recursion (λ other. fences_of other ≡ wanted) (calls ∷ lists) (sym w, subst (λ (n : ℕ). AllByRecursion (λ other. fences_of other ≡ n) lists) (sym w) have),
+    )
 
 pub no_lists : (lists : List (List Call)) → None ≡ slice_get lists 0 → HaveSameFences lists
 no_lists [] at = tt

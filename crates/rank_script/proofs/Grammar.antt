@@ -1,12 +1,11 @@
 -- What a reader takes is spelled so, and what is spelled so is read again: of a reader, and of what is made of readers.
-use Rattle.std.proofs.Common.{◌≡◌, ℕ, zero, suc, ◌+◌, ◌<◌, ◌≤◌, ◌⊎◌, Bool, true, false, cond, ltb, List, [], ◌∷◌, ◌++◌, length, Option, Some, None, refl, sym, ap, subst, ◌∙◌, inl, inr, append_assoc, arith}
-use Rattle.std.specs.List.{AllByRecursion, flat_map}
+use Rattle.std.proofs.Common.{◌≡◌, ℕ, ◌<◌, ◌≤◌, true, false, cond, ltb, List, ◌++◌, Option, Some, None, refl, sym, ap, subst, ◌∙◌, append_assoc, arith}
 use Rattle.std.specs.Fmt.{decimal}
 use Rattle.std.proofs.lemmas.Bool.{ltb-true, lt-ltb}
 use Rattle.std.proofs.lemmas.Option.{same_Some}
-use Rattle.rank_script.specs.Reading.{◌>>=◌, after, behind, ended, both, many, number_at, below}
+use Rattle.rank_script.specs.Reading.{◌>>=◌, after, behind, ended, both, number_at, below}
 use Rattle.rank_script.proofs.Words.{bind_some, guard_some, after_takes, after_again}
-use Rattle.rank_script.proofs.Digits.{begins_digit, chosen, number_takes, number_again}
+use Rattle.rank_script.proofs.Digits.{begins_digit, number_takes, number_again}
 
 -- P: what has a spelling; Q: what may stand behind it
 pub record Reads {A : Type 0} (read : List ℕ → Option (A × List ℕ)) (spell : A → List ℕ) (P : A → Type 0) (Q : List ℕ → Type 0) : Type 0 where
@@ -32,7 +31,6 @@ below_reads limit small = record {
 }
 
 module _ {A : Type 0} (read : List ℕ → Option (A × List ℕ)) (spell : A → List ℕ) (P : A → Type 0) (Q : List ℕ → Type 0) (reads : Reads read spell P Q) (word : List ℕ) where
-
   pub behind_reads : Reads (behind word read) (λ x. word ++ spell x) P Q
   behind_reads = record {
     takes = λ text x rest e.
@@ -50,7 +48,7 @@ module _ {A : Type 0} (read : List ℕ → Option (A × List ℕ)) (spell : A �
         let t = reads.takes text b.0.0 b.0.1 b.1 in
         let w = after_takes word b.0.1 d.0 d.1 in
         subst (λ (y : A × List ℕ). (text ≡ (spell y.0 ++ word) ++ y.1) × P y.0) (same_Some (b.0.0, d.0) (x, rest) d.2)
-            (t.0 ∙ ap (λ (s : List ℕ). spell b.0.0 ++ s) w ∙ sym (append_assoc (spell b.0.0) word d.0), t.1);
+        (t.0 ∙ ap (λ (s : List ℕ). spell b.0.0 ++ s) w ∙ sym (append_assoc (spell b.0.0) word d.0), t.1);
     again = λ x rest p q. ap (ended read word) (append_assoc (spell x) word rest) ∙ rw (reads.again x (word ++ rest) p (follows rest), after_again word rest) refl;
   }
 
@@ -63,6 +61,6 @@ both_reads {A} {B} first spell P second spell' P' Q one two = record {
       let t = one.takes text b.0.0 b.0.1 b.1 in
       let u = two.takes b.0.1 d.0.0 d.0.1 d.1 in
       subst (λ (y : (A × B) × List ℕ). (text ≡ (spell y.0.0 ++ spell' y.0.1) ++ y.1) × (P y.0.0 × P' y.0.1)) (same_Some ((b.0.0, d.0.0), d.0.1) (x, rest) d.2)
-          (t.0 ∙ ap (λ (s : List ℕ). spell b.0.0 ++ s) u.0 ∙ sym (append_assoc (spell b.0.0) (spell' d.0.0) d.0.1), (t.1, u.1));
+      (t.0 ∙ ap (λ (s : List ℕ). spell b.0.0 ++ s) u.0 ∙ sym (append_assoc (spell b.0.0) (spell' d.0.0) d.0.1), (t.1, u.1));
   again = λ x rest p q. ap (both first second) (append_assoc (spell x.0) (spell' x.1) rest) ∙ rw (one.again x.0 (spell' x.1 ++ rest) p.0 tt, two.again x.1 rest p.1 q) refl;
 }

@@ -10,7 +10,6 @@ regroup front x (Some xs) = ap (λ ys. Some (ys, xs.1)) (simp append_assoc)
 regroup front x None = refl
 
 module _ {A : Type 0} (goes : List ℕ → Bool) (read : ℕ → List ℕ → Option (A × List ℕ)) where
-
   pub goes_on : (front : List A) (count i : ℕ) (text : List ℕ) (x : A) (rest : List ℕ) (total : Option (List A × List ℕ)) → i < count → goes text ≡ true → read i text ≡ Some (x, rest)
       → with_front front (many goes read i (count - i) text) ≡ total → with_front (front ++ x ∷ []) (many goes read (i + 1) (count - (i + 1)) rest) ≡ total
   unfolding many

@@ -1,5 +1,5 @@
 -- Reading the values of a put.
-use Rattle.std.proofs.Common.{◌≡◌, ℕ, suc, ◌+◌, ◌-◌, ◌*◌, ◌^◌, ◌<◌, ◌≤◌, ◌⊎◌, Bool, true, false, cond, eqb, ltb, List, [], ◌∷◌, ◌++◌, length, Option, Some, None, codes, refl, sym, ap, subst, ◌∙◌, inl, inr, arith, lit≤}
+use Rattle.std.proofs.Common.{◌≡◌, ℕ, suc, ◌-◌, ◌^◌, ◌<◌, ◌≤◌, true, false, cond, eqb, ltb, List, [], ◌∷◌, ◌++◌, length, Some, None, codes, refl, sym, ap, subst, ◌∙◌, inl, inr, arith, lit≤}
 use Rattle.std.specs.List.{AllByRecursion, flat_map}
 use Rattle.std.specs.Fmt.{decimal}
 use Rattle.std.specs.Char.{is_ascii_digit}
@@ -10,11 +10,11 @@ use Rattle.std.proofs.lemmas.Fmt.{digits_decimal, decimal_nonempty}
 use Rattle.rma_types.specs.declared.dtypes.Dtype.TheVariants.{Int32}
 use Rattle.rma_model.specs.Text.{integer}
 use Rattle.rma_model.specs.Numbers.{number_of}
-use Rattle.rank_script.specs.Reading.{◌>>=◌, after, begins_with, below, behind, minus_at, signed_at, value_at, values_at, many}
+use Rattle.rank_script.specs.Reading.{after, begins_with, below, behind, minus_at, signed_at, value_at, values_at}
 use Rattle.rank_script.proofs.Words.{bind_some, guard_not, after_takes, after_again}
 use Rattle.rank_script.proofs.Digits.{begins_digit, chosen, own, both_true}
 use Rattle.rank_script.proofs.Grammar.{Reads, NoDigit, below_reads, behind_reads}
-use Rattle.rank_script.proofs.Each.{ReadsEach, spelled, spelled-flat_map, many_takes, many_again}
+use Rattle.rank_script.proofs.Each.{ReadsEach, spelled-flat_map, many_takes, many_again}
 
 abbrev pub signed_text : ℕ → List ℕ
 signed_text pattern = integer (number_of Int32 pattern)
@@ -84,7 +84,7 @@ signed_again pattern rest lt ends =
           let back : 4294967296 - (4294967296 - pattern) ≡ pattern = omega arith in
           let spelled : signed_text pattern ≡ 45 ∷ decimal n = subst (λ (k : ℕ). signed_text k ≡ 45 ∷ decimal n) back (negative_text n (omega arith) (omega arith)) in
           let again : behind (codes "-") minus_at (45 ∷ (decimal n ++ rest)) ≡ Some (pattern, rest) =
-              rw (after_again (codes "-") (decimal n ++ rest), minus_again n rest (omega arith) (omega arith) ends, back) refl in
+          rw (after_again (codes "-") (decimal n ++ rest), minus_again n rest (omega arith) (omega arith) ends, back) refl in
           rw spelled again
     ]
 

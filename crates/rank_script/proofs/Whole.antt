@@ -1,5 +1,5 @@
 -- Reading a whole script.
-use Rattle.std.proofs.Common.{◌≡◌, ℕ, zero, suc, ◌+◌, ◌<◌, ◌≤◌, ◌⊎◌, Bool, true, false, cond, eqb, List, [], ◌∷◌, ◌++◌, length, replicate, sum_by, Option, Some, None, codes, refl, sym, ap, subst, ◌∙◌, inl, inr, append_assoc, arith}
+use Rattle.std.proofs.Common.{◌≡◌, ℕ, zero, suc, ◌+◌, ◌<◌, ◌≤◌, ◌⊎◌, true, false, cond, eqb, List, [], ◌∷◌, ◌++◌, length, replicate, sum_by, Option, Some, None, codes, refl, sym, ap, subst, ◌∙◌, inl, inr, arith}
 use Rattle.std.specs.List.{AllByRecursion}
 use Rattle.std.specs.Fmt.{decimal}
 use Rattle.std.proofs.lemmas.Option.{same_Some}
@@ -10,7 +10,7 @@ use Rattle.rma_types.specs.declared.scripts.Script.{Script}
 use Rattle.rma_model.specs.Layout.{IsWithinLimits}
 use Rattle.rma_model.specs.BuiltForm.{IsBuiltList, HaveSameFences, IsBuilt}
 use Rattle.rma_model.specs.Canon.{space_lines, rank_lines, canon}
-use Rattle.rank_script.specs.Reading.{◌>>=◌, behind, ended, below, is_empty, many, list_at, lists_at, whole, body_at, script_of, script_at}
+use Rattle.rank_script.specs.Reading.{◌>>=◌, behind, ended, below, is_empty, list_at, lists_at, whole, body_at, script_of, script_at}
 use Rattle.rank_script.specs.Accepting.{IsTextOf}
 use Rattle.rank_script.proofs.Words.{bind_some, guard_some, guard_not}
 use Rattle.rank_script.proofs.Digits.{chosen}
@@ -94,7 +94,7 @@ body_takes ranks few text lists e =
           let full = many_full (λ _. true) (list_at ranks) list_text (IsShortList ranks) _ (list_reads ranks few) (λ _. refl) ranks 0 text b.0.0 b.0.1 b.1 in
           let built = all_built ranks b.0.0 t.all in
           let parts : text ≡ rank_lines 0 b.0.0 =
-              t.parts ∙ ap (λ (s : List ℕ). spelled list_text 0 b.0.0 ++ s) (empty_text b.0.1 g.0) ∙ append-nil (spelled list_text 0 b.0.0) ∙ sym (lists_spelled ranks 0 b.0.0 built) in
+          t.parts ∙ ap (λ (s : List ℕ). spelled list_text 0 b.0.0 ++ s) (empty_text b.0.1 g.0) ∙ append-nil (spelled list_text 0 b.0.0) ∙ sym (lists_spelled ranks 0 b.0.0 built) in
           subst (IsBody ranks text) (same_Some b.0.0 lists g.1) (record { parts = parts; count = full; calls = inr built })
     ]
 
@@ -111,8 +111,8 @@ unfolding body_at
 body_built ranks few lists some count all total =
     let short = all_short ranks lists all total in
     let again : lists_at ranks (spelled list_text 0 lists) ≡ Some (lists, []) =
-        subst (λ (s : List ℕ). lists_at ranks s ≡ Some (lists, [])) (append-nil (spelled list_text 0 lists))
-            (many_again (λ _. true) (list_at ranks) list_text (IsShortList ranks) _ (list_reads ranks few) lists ranks 0 [] short (omega (arith, count)) (omega (arith, count)) refl (inr count)) in
+    subst (λ (s : List ℕ). lists_at ranks s ≡ Some (lists, [])) (append-nil (spelled list_text 0 lists))
+    (many_again (λ _. true) (list_at ranks) list_text (IsShortList ranks) _ (list_reads ranks few) lists ranks 0 [] short (omega (arith, count)) (omega (arith, count)) refl (inr count)) in
     rw (some_text ranks lists (omega (arith, count)) all, again) refl
 
 -- ---- the whole
@@ -135,9 +135,10 @@ script_takes text script e =
     let head = head_reads.takes text b.0.0 b.0.1 b.1 in
     let few : b.0.0 ≤ 16 = omega (arith, head.1) in
     let body = body_takes b.0.0 few b.0.1 d.0 d.1 in
-    subst (λ (s : Script). (text ≡ canon s) × IsShaped s) (same_Some (script_of b.0.0 d.0) script d.2)
-        (head.0 ∙ ap (λ (s : List ℕ). head_text b.0.0 ++ s) body.parts ∙ sym (canon_of b.0.0 d.0),
-         record { some_rank = not_nought b.0.0 g.0; few_ranks = few; spaces = refl; lists = body.count; calls = body.calls })
+    subst (λ (s : Script). (text ≡ canon s) × IsShaped s) (same_Some (script_of b.0.0 d.0) script d.2) (
+      head.0 ∙ ap (λ (s : List ℕ). head_text b.0.0 ++ s) body.parts ∙ sym (canon_of b.0.0 d.0),
+      record { some_rank = not_nought b.0.0 g.0; few_ranks = few; spaces = refl; lists = body.count; calls = body.calls },
+    )
 
 script_of_again : (ranks : ℕ) (lists : List (List Call)) → IsBuilt (script_of ranks lists) → script_at (canon (script_of ranks lists)) ≡ Some (script_of ranks lists)
 unfolding script_at

@@ -15,3 +15,6 @@ mod values;
 pub use faults::{Fault, FaultKind};
 pub use parses::parse;
 pub use script_layout::{is_within_limits, layout_of};
+
+#[cfg(test)]
+mod tests;

@@ -1,4 +1,4 @@
-use Rattle.std.proofs.Common.{◌≡◌, true, refl}
+use Rattle.std.proofs.Common.{true, refl}
 use Rattle.std.proofs.lemmas.Result.{err_from_is_err_and}
 use Rattle.rank_script.specs.Reading.{list_at, lists_at}
 use Rattle.rank_script.proofs.Many.{goes_on, breaks_off, is_done}

@@ -1,5 +1,5 @@
-use Rattle.std.proofs.Common.{◌≡◌, ◌∙◌, ap, refl}
-use Rattle.rma_model.specs.BuiltForm.{fences_of, HaveSameFences}
+use Rattle.std.proofs.Common.{◌∙◌, ap, refl}
+use Rattle.rma_model.specs.BuiltForm.{fences_of}
 use Rattle.rank_script.proofs.Fences.{same_fences, no_lists}
 use Rattle.rank_script.proofs.checks.have_same_fences.Goals as goal
 

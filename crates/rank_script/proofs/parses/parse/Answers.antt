@@ -1,6 +1,4 @@
-use Rattle.std.proofs.Common.{◌≡◌, Some, None, false, refl, inr, IsTrue}
-use Rattle.rma_model.specs.BuiltForm.{HaveSameFences}
-use Rattle.rma_model.specs.Layout.{IsWithinLimits}
+use Rattle.std.proofs.Common.{◌≡◌, None, false, refl, inr, IsTrue}
 use Rattle.rank_script.specs.Reading.{script_at}
 use Rattle.rank_script.proofs.Whole.{is_text_of, no_text_of, same_text_of, not_text_of}
 use Rattle.rank_script.proofs.parses.parse.Goals as goal
