@@ -1,6 +1,6 @@
 -- Laws of the states of a cell: MPI 3.1, section 11.7.1.
-use Rattle.std.specs.Prelude.{ℕ, ◌≡◌, ◌+◌, ◌≤◌, List, ◌∷◌, ◌++◌}
 use Rattle.std.specs.List.{count_by, Contains}
+use Rattle.std.specs.Prelude.{ℕ, ◌≡◌, ◌+◌, ◌≤◌, List, ◌∷◌, ◌++◌}
 use Rattle.rma_model.specs.Cells.{state, changed, has_place}
 use Rattle.rma_model.specs.Touches.{Touching}
 

@@ -4,11 +4,11 @@ use Rattle.rma_types.specs.declared.calls.Call.TheVariants.{Barrier, Complete, F
 use Rattle.rma_types.specs.declared.calls.Lock.TheVariants.{Exclusive, Shared}
 use Rattle.rma_types.specs.declared.dtypes.Dtype.TheVariants.{Int32}
 use Rattle.rma_types.specs.declared.findings.Rule.TheVariants.{S1, S2}
-use Rattle.rma_types.specs.declared.ops.Op.TheVariants.{Sum}
-use Rattle.rma_model.specs.Generator.{seeded, stirred, drawn_from, order_stream}
+use Rattle.rma_types.specs.declared.ops.Op.TheVariants.{Replace, Sum}
 use Rattle.rma_types.specs.declared.schedules.Delay.TheVariants.{End as EndDelay, Seeded as SeededDelay}
 use Rattle.rma_types.specs.declared.schedules.Order.TheVariants.{Greedy, Robin}
 use Rattle.rma_types.specs.declared.scripts.Script.{Script}
+use Rattle.rma_model.specs.Generator.{seeded, stirred, drawn_from, delivery_stream, order_stream}
 use Rattle.rma_model.specs.StepRun.{step_run}
 use Rattle.rma_rows.specs.Scripts.{Gives, acc, allocate, fence, flush, flush_local, fop, get, load, lock, lock_all, pair, plain_run, post, put, script, start, store, unlock}
 
@@ -221,6 +221,28 @@ GivesWayToTheFirstSum = Gives sum_before_fop (step_run sum_before_fop Robin EndD
     ∷ [])
     0
 
+abbrev pub three_sums : Script
+three_sums = script
+    ((allocate 0 8 4
+    ∷ lock_all 0
+    ∷ acc 0 0 0 Int32 Replace (5 ∷ [])
+    ∷ acc 0 0 0 Int32 Sum (1 ∷ 1 ∷ [])
+    ∷ fop 0 0 1 Int32 Sum 2
+    ∷ flush_local 0 0
+    ∷ UnlockAll 0
+    ∷ [])
+    ∷ [])
+
+-- the last gives way to the second, which gives way to the first
+abbrev pub GivesWayThroughAnother : Type 0
+GivesWayThroughAnother = Gives three_sums (step_run three_sums Robin EndDelay 0) []
+    (codes "ended"
+    ∷ codes "0:4 value 1"
+    ∷ codes "memory 0 0 0600000003000000"
+    ∷ codes "summary accesses 3 touches 4 entries 4 refused 0 findings 0"
+    ∷ [])
+    0
+
 abbrev pub put_and_get : Script
 put_and_get = script
     ((allocate 0 4 4
@@ -254,6 +276,12 @@ DrawsByTheGenerator =
     let second = stirred first in
     let third = stirred second in
     drawn_from first ∷ drawn_from second ∷ drawn_from third ∷ [] ≡ 1456530643 ∷ 1542738009 ∷ 103528102 ∷ []
+
+-- the first draw of rank 3's deliveries from seed 7, and of those of rank 0 from seed 0
+abbrev pub DrawsForEachRank : Type 0
+DrawsForEachRank =
+    drawn_from (stirred (seeded 7 (delivery_stream 3))) ∷ drawn_from (stirred (seeded 0 (delivery_stream 0))) ∷ []
+    ≡ 1446204326 ∷ 167951807 ∷ []
 
 -- the draw before the load is odd
 abbrev pub DeliversAtAnOddDraw : Type 0

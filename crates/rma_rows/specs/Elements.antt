@@ -2,13 +2,13 @@
 use Rattle.std.specs.Prelude.{ℕ, ◌≡◌, List, map, pos, [], ◌∷◌, None, codes}
 use Rattle.rma_types.specs.declared.calls.Call.TheVariants.{Put, Sync, UnlockAll}
 use Rattle.rma_types.specs.declared.calls.Lock.TheVariants.{Exclusive}
-use Rattle.rma_types.specs.declared.dtypes.Dtype.TheVariants.{Byte, Int16, Int32, Int8, Uint16, Uint32, Uint8}
-use Rattle.rma_types.specs.declared.ops.Op.TheVariants.{Band, Bor, Bxor, Land, Lor, Lxor, Max, Min, NoOp, Prod, Replace, Sum}
-use Rattle.rma_record.specs.declared.items.Item.TheVariants.{Touch}
 use Rattle.rma_types.specs.declared.dtypes.Dtype.{Dtype}
+use Rattle.rma_types.specs.declared.dtypes.Dtype.TheVariants.{Byte, Int16, Int32, Int8, Uint16, Uint32, Uint8}
 use Rattle.rma_types.specs.declared.ops.Op.{Op}
-use Rattle.rma_model.specs.Elements.{combined}
+use Rattle.rma_types.specs.declared.ops.Op.TheVariants.{Band, Bor, Bxor, Land, Lor, Lxor, Max, Min, NoOp, Prod, Replace, Sum}
 use Rattle.rma_types.specs.declared.scripts.Script.{Script}
+use Rattle.rma_record.specs.declared.items.Item.TheVariants.{Touch}
+use Rattle.rma_model.specs.Elements.{combined}
 use Rattle.rma_rows.specs.Scripts.{Gives, HasItem, acc, allocate, cas, fence, flush, fop, load, lock, lock_all, plain_run, put, script, store, unlock}
 
 abbrev pub sum_of_a_byte : Script

@@ -1,15 +1,15 @@
 -- Runs with posts and starts: MPI 3.1, section 11.5.2.
 use Rattle.std.specs.Prelude.{[], ◌∷◌, codes}
+use Rattle.rma_types.specs.declared.accesses.Step.TheVariants.{One}
 use Rattle.rma_types.specs.declared.calls.Call.TheVariants.{Barrier, Complete, TestWin, WaitWin}
 use Rattle.rma_types.specs.declared.calls.Lock.TheVariants.{Shared}
+use Rattle.rma_types.specs.declared.classes.Class.TheVariants.{Sync as SyncClass}
 use Rattle.rma_types.specs.declared.dtypes.Dtype.TheVariants.{Int32}
 use Rattle.rma_types.specs.declared.findings.Rule.TheVariants.{S2}
-use Rattle.rma_types.specs.declared.classes.Class.TheVariants.{Sync as SyncClass}
-use Rattle.rma_types.specs.declared.accesses.Step.TheVariants.{One}
-use Rattle.rma_record.specs.declared.items.Item.TheVariants.{Entry, Refused}
 use Rattle.rma_types.specs.declared.schedules.Delay.TheVariants.{None as NoDelay}
 use Rattle.rma_types.specs.declared.schedules.Order.TheVariants.{Greedy, Reverse, Seeded as SeededOrder}
 use Rattle.rma_types.specs.declared.scripts.Script.{Script}
+use Rattle.rma_record.specs.declared.items.Item.TheVariants.{Entry, Refused}
 use Rattle.rma_model.specs.StepRun.{step_run}
 use Rattle.rma_rows.specs.Scripts.{Gives, HasItem, allocate, get, lock, pair, plain_run, post, put, script, start, unlock}
 

@@ -1,5 +1,5 @@
 //! Accesses that are touched after their calls.
-ghost use Rattle.rma_rows.specs.Deliveries.{LoadsBeforeThePut, LoadsAfterThePut, DeliversWhatAWaitingRankPut, CompletesByUnlocksAndFlushes, CompletesRequestedGets, LeavesTheRequestedPut, CompletesByComplete, LeavesThePutToAnother, GivesWayToTheFirstSum, CompletesByFlushes, DrawsByTheGenerator, DeliversAtAnOddDraw, WaitsAtAnEvenDraw, DeliversTheFirst, DeliversTheSecond};
+ghost use Rattle.rma_rows.specs.Deliveries.{LoadsBeforeThePut, LoadsAfterThePut, DeliversWhatAWaitingRankPut, CompletesByUnlocksAndFlushes, CompletesRequestedGets, LeavesTheRequestedPut, CompletesByComplete, LeavesThePutToAnother, GivesWayToTheFirstSum, GivesWayThroughAnother, CompletesByFlushes, DrawsByTheGenerator, DrawsForEachRank, DeliversAtAnOddDraw, WaitsAtAnEvenDraw, DeliversTheFirst, DeliversTheSecond};
 
 /// A put that is touched late is not seen by a load of its own rank, and is there in the end, also where its rank waits
 /// for ever (MPI 3.1, sections 11.5.4 and 11.7).
@@ -23,8 +23,10 @@ pub fn touches_of_completed_accesses()
 /// among the others (MPI 3.1, sections 11.5.4 and 11.7).
 pub fn touches_that_are_due()
     ensures gives_way { GivesWayToTheFirstSum }
+    ensures gives_way_twice { GivesWayThroughAnother }
     ensures flushes { CompletesByFlushes }
     ensures draws { DrawsByTheGenerator }
+    ensures draws_of_ranks { DrawsForEachRank }
     ensures odd_draw { DeliversAtAnOddDraw }
     ensures even_draw { WaitsAtAnEvenDraw }
     ensures first_drawn { DeliversTheFirst }
