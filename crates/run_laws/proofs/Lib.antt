@@ -2,6 +2,7 @@
 pub mod Agents
 pub mod CallForms
 pub mod Calm
+pub mod CellHistory
 pub mod Ending
 pub mod Moves
 pub mod Picks
