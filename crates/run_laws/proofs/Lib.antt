@@ -2,7 +2,9 @@
 pub mod Agents
 pub mod CallForms
 pub mod Calm
-pub mod CellHistory
+pub mod CellsHistory
+pub mod CellsKept
+pub mod CellsTouched
 pub mod Ending
 pub mod Moves
 pub mod Picks

@@ -1,5 +1,5 @@
 -- The history of one cell, and how one more touch changes it, wherever the touch stands among those of all logs.
-use Rattle.std.proofs.Common.{◌≡◌, ℕ, zero, suc, ◌+◌, ◌<◌, ◌≤◌, Bool, true, false, cond, List, [], ◌∷◌, ◌++◌, length, get_or, Option, Some, None, refl, sym, ◌∙◌, ap, subst, arith, append_assoc, length-append}
+use Rattle.std.proofs.Common.{◌≡◌, ℕ, zero, suc, ◌+◌, ◌<◌, ◌≤◌, Bool, true, false, cond, List, [], ◌∷◌, ◌++◌, length, get_or, Option, Some, None, refl, sym, ◌∙◌, ap, subst, arith, append_assoc}
 use Rattle.std.specs.Prelude.{is_some, ◌==◌, nat_lt, if◌then◌else◌, slice_set}
 use Rattle.std.specs.List.{find, filter, flat_map, count_by, sum_by, AllByRecursion}
 use Rattle.std.specs.Option.{option_map_or}
@@ -12,6 +12,7 @@ use Rattle.rma_model.specs.declared.elements.Change.{Change}
 use Rattle.rma_model.specs.Cells.{has_place, changed, state, KeepsOrder, ReadsState, IsHistory}
 use Rattle.rma_model.specs.Elements.{next}
 use Rattle.rma_model.specs.Touches.{Touching, is_update, updates_in, EachPair}
+use Rattle.rma_model.specs.World.{empty_cell}
 
 -- ---- one more element among others
 
@@ -212,7 +213,7 @@ read_keeps rows rank t cell inside old at bits none =
       history = record {
         places = λ place. subst (λ (l : List Touching). count_by (has_place place) l ≡ (if nat_lt place (length l) then 1 else 0)) (sym same) (old.history.places place);
         states = subst (λ (l : List Touching). AllByRecursion (ReadsState l) (joined (with_touch rows rank t))) (sym same)
-        (joined_all (ReadsState us) rows rank t inside old.history.states here);
+            (joined_all (ReadsState us) rows rank t inside old.history.states here);
         last = subst (λ (l : List Touching). cell.bits ≡ state l (length l)) (sym same) old.history.last;
         order = row_keeps rows rank t cell.place at old.below old.history.order;
       };
@@ -277,13 +278,13 @@ update_keeps rows rank t cell change inside old at bits makes update =
     record {
       updates = ap length now ∙ length_among xs t ys ∙ ap (λ n. n + 1) size;
       below = below_keeps rows rank t (cell.place + 1) (below_all_rise cell.place rows old.below)
-      (below_is (cell.place + 1) t true update (below_next t.place cell.place at));
+          (below_is (cell.place + 1) t true update (below_next t.place cell.place at));
       history = record {
         places = subst HasPlaces (sym now) (places_more xs t ys end places);
         states = subst (λ (l : List Touching). AllByRecursion (ReadsState l) (joined (with_touch rows rank t))) (sym now)
-        (joined_all (ReadsState (xs ++ t ∷ ys)) rows rank t inside
-        (all_weaker (ReadsState (xs ++ ys)) (ReadsState (xs ++ t ∷ ys)) (reads_still xs t ys end) (joined rows) states)
-        (reads_still xs t ys end t here));
+            (joined_all (ReadsState (xs ++ t ∷ ys)) rows rank t inside
+            (all_weaker (ReadsState (xs ++ ys)) (ReadsState (xs ++ t ∷ ys)) (reads_still xs t ys end) (joined rows) states)
+            (reads_still xs t ys end t here));
         last = subst (λ (l : List Touching). next cell.bits change ≡ state l (length l)) (sym now) (sym made);
         order = row_keeps rows rank t cell.place at old.below old.history.order;
       };
@@ -291,8 +292,10 @@ update_keeps rows rank t cell change inside old at bits makes update =
   where
     add_one : (n : ℕ) → n + 1 ≡ suc n
     add_one n = omega arith
+
     same_at_most : (n : ℕ) → n ≤ n
     same_at_most n = omega arith
+
     below_next : (a b : ℕ) → a ≡ b → a < b + 1
     below_next a b e = omega arith
 
@@ -304,3 +307,19 @@ touch_keeps rows rank t cell inside old at bits = by_change t.change refl
     by_change : (o : Option Change) → t.change ≡ o → HasHistory (with_touch rows rank t) (cell_after cell o)
     by_change None e = read_keeps rows rank t cell inside old at bits (ap is_some e)
     by_change (Some change) e = update_keeps rows rank t cell change inside old at bits e (ap is_some e)
+
+-- a cell that nothing has touched
+pub untouched : (rows : List (List Touching)) → joined rows ≡ [] → ((P : List Touching → Type 0) → P [] → AllByRecursion P rows) → HasHistory rows empty_cell
+untouched rows none all = record {
+  updates = ap (λ (l : List Touching). length (updates_in l)) none;
+  below = all (AllByRecursion (IsBelow 0)) tt;
+  history = record {
+    places = λ place. subst (λ (l : List Touching). count_by (has_place place) (updates_in l) ≡ (if nat_lt place (length (updates_in l)) then 1 else 0)) (sym none) (no_place place);
+    states = subst (λ (l : List Touching). AllByRecursion (ReadsState (updates_in l)) l) (sym none) tt;
+    last = subst (λ (l : List Touching). 0 ≡ state (updates_in l) (length (updates_in l))) (sym none) refl;
+    order = all (EachPair KeepsOrder) tt;
+  };
+}
+  where
+    no_place : (place : ℕ) → 0 ≡ cond {A = ℕ} (nat_lt place 0) 1 0
+    no_place place = grind (arith, nat_tests)
