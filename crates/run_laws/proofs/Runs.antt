@@ -98,11 +98,12 @@ delivered_is stage world calm = delivers_none world calm.pending (all_ranks worl
 
 -- ---- the beginning
 
-length_numbers : (first count : ℕ) → length (numbers_from first count) ≡ count
+pub length_numbers : (first count : ℕ) → length (numbers_from first count) ≡ count
 length_numbers first zero = refl
 length_numbers first (suc count) = grind (arith, length_numbers (first + 1) count)
 
-new_agents_at : (seed : ℕ) (P : Agent → Type 0) → ((rank : ℕ) → P (new_agent seed rank)) → P (new_agent 0 0) → (ranks : List ℕ) (at : ℕ) → P (get_or (map (new_agent seed) ranks) at (new_agent 0 0))
+-- a fact of new agents
+pub new_agents_at : (seed : ℕ) (P : Agent → Type 0) → ((rank : ℕ) → P (new_agent seed rank)) → P (new_agent 0 0) → (ranks : List ℕ) (at : ℕ) → P (get_or (map (new_agent seed) ranks) at (new_agent 0 0))
 new_agents_at seed P each default [] at = default
 new_agents_at seed P each default (rank ∷ ranks) zero = each rank
 new_agents_at seed P each default (rank ∷ ranks) (suc at) = new_agents_at seed P each default ranks at
