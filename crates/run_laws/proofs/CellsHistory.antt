@@ -16,10 +16,12 @@ use Rattle.rma_model.specs.World.{empty_cell}
 
 -- ---- one more element among others
 
+-- an element that does not pass is not found
 find_skips : {X : Type 0} (p : X → Bool) (xs : List X) (t : X) (ys : List X) → p t ≡ false → find p (xs ++ t ∷ ys) ≡ find p (xs ++ ys)
 find_skips p [] t ys e = ap (λ b. cond b (Some t) (find p ys)) e
 find_skips p (x ∷ xs) t ys e = ap (cond (p x) (Some x)) (find_skips p xs t ys e)
 
+-- one that passes is found, where no other does
 find_finds : {X : Type 0} (p : X → Bool) (xs : List X) (t : X) (ys : List X) → p t ≡ true → find p (xs ++ ys) ≡ None → find p (xs ++ t ∷ ys) ≡ Some t
 find_finds p [] t ys e none = ap (λ b. cond b (Some t) (find p ys)) e
 find_finds {X} p (x ∷ xs) t ys e none = by_test (p x) (find p (xs ++ ys)) (find p (xs ++ t ∷ ys)) none (find_finds p xs t ys e)
@@ -28,13 +30,16 @@ find_finds {X} p (x ∷ xs) t ys e none = by_test (p x) (find p (xs ++ ys)) (fin
     by_test true old new none go = absurd (cc none)
     by_test false old new none go = go none
 
+-- an element that does not pass is not kept
 filter_skips : {X : Type 0} (p : X → Bool) (xs : List X) (t : X) (ys : List X) → p t ≡ false → filter p (xs ++ t ∷ ys) ≡ filter p (xs ++ ys)
 filter_skips p [] t ys e = ap (λ b. cond b (t ∷ filter p ys) (filter p ys)) e
 filter_skips p (x ∷ xs) t ys e = ap (λ l. cond (p x) (x ∷ l) l) (filter_skips p xs t ys e)
 
+-- one that passes is kept in its place
 filter_keeps : {X : Type 0} (p : X → Bool) (xs : List X) (t : X) (ys : List X) → p t ≡ true → filter p (xs ++ t ∷ ys) ≡ filter p xs ++ t ∷ filter p ys
 filter_keeps p xs t ys e = filter-append p xs (t ∷ ys) ∙ ap (λ b. filter p xs ++ cond b (t ∷ filter p ys) (filter p ys)) e
 
+-- one more element is counted if it passes
 count_among : {X : Type 0} (p : X → Bool) (xs : List X) (t : X) (ys : List X) → count_by p (xs ++ t ∷ ys) ≡ count_by p (xs ++ ys) + cond (p t) 1 0
 count_among {X} p xs t ys =
     let f : X → ℕ = λ x. cond (p x) 1 0 in
@@ -46,6 +51,7 @@ count_among {X} p xs t ys =
     sums : (n o x y z k : ℕ) → n ≡ x + z → o ≡ x + y → z ≡ k + y → n ≡ o + k
     sums n o x y z k a b c = omega arith
 
+-- where none is counted none is found
 none_counted : {X : Type 0} (p : X → Bool) (xs : List X) → count_by p xs ≡ 0 → find p xs ≡ None
 none_counted p [] e = refl
 none_counted {X} p (x ∷ xs) e = by_test (p x) (count_by p xs) (find p xs) (sym (sum_by-cons (λ y. cond (p y) 1 0) x xs) ∙ e) (none_counted p xs)
@@ -54,28 +60,34 @@ none_counted {X} p (x ∷ xs) e = by_test (p x) (count_by p xs) (find p xs) (sym
     by_test true n o e go = absurd (omega arith)
     by_test false n o e go = go (omega arith)
 
+-- one more element makes a list longer by one
 length_among : {X : Type 0} (xs : List X) (t : X) (ys : List X) → length (xs ++ t ∷ ys) ≡ length (xs ++ ys) + 1
 length_among [] t ys = omega arith
 length_among (x ∷ xs) t ys = let e = length_among xs t ys in omega arith
 
+-- a fact of each element and of one more
 all_among : {X : Type 0} (P : X → Type 0) (xs : List X) (t : X) (ys : List X) → AllByRecursion P (xs ++ ys) → P t → AllByRecursion P (xs ++ t ∷ ys)
 all_among P [] t ys all here = (here, all)
 all_among P (x ∷ xs) t ys all here = (all.0, all_among P xs t ys all.1 here)
 
+-- a fact of each element gives a weaker one
 pub all_weaker : {X : Type 0} (P Q : X → Type 0) → ((x : X) → P x → Q x) → (xs : List X) → AllByRecursion P xs → AllByRecursion Q xs
 all_weaker P Q go [] all = tt
 all_weaker P Q go (x ∷ xs) all = (go x all.0, all_weaker P Q go xs all.1)
 
+-- a fact of each element holds after one changes
 all_set : {X : Type 0} (P : X → Type 0) (xs : List X) (i : ℕ) (x : X) → AllByRecursion P xs → P x → AllByRecursion P (slice_set xs i x)
 all_set P [] i x all here = tt
 all_set P (y ∷ ys) zero x all here = (here, all.1)
 all_set P (y ∷ ys) (suc i) x all here = (all.0, all_set P ys i x all.1 here)
 
+-- a fact of each element, at an index
 all_get : {X : Type 0} (P : X → Type 0) (xs : List X) (i : ℕ) (d : X) → AllByRecursion P xs → P d → P (get_or xs i d)
 all_get P [] i d all default = default
 all_get P (y ∷ ys) zero d all default = all.0
 all_get P (y ∷ ys) (suc i) d all default = all_get P ys i d all.1 default
 
+-- a fact of each element of two lists
 pub all_append : {X : Type 0} (P : X → Type 0) (xs ys : List X) → AllByRecursion P xs → AllByRecursion P ys → AllByRecursion P (xs ++ ys)
 all_append P [] ys first second = second
 all_append P (x ∷ xs) ys first second = (first.0, all_append P xs ys first.1 second)
@@ -103,6 +115,7 @@ state_at xs t ys n at none =
 
 -- ---- the touches of all logs
 
+-- the touches of all logs, one log after another
 abbrev pub joined : List (List Touching) → List Touching
 joined rows = flat_map (λ (row : List Touching). row) rows
 
@@ -117,6 +130,7 @@ record IsAmong (rows : List (List Touching)) (rank : ℕ) (t : Touching) : Type 
   old : joined rows ≡ before ++ after
   new : joined (with_touch rows rank t) ≡ before ++ t ∷ after
 
+-- each log has such a place
 among : (rows : List (List Touching)) (rank : ℕ) (t : Touching) → rank < length rows → IsAmong rows rank t
 among [] rank t inside = absurd (omega arith)
 among (row ∷ rows) zero t inside = record {
@@ -158,11 +172,13 @@ abbrev pub cell_after : Cell → Option Change → Cell
 cell_after cell None = cell
 cell_after cell (Some change) = record { bits = next cell.bits change; place = cell.place + 1 }
 
+-- order is kept by a touch at the end that each other may stand before
 pair_push : (xs : List Touching) (t : Touching) → EachPair KeepsOrder xs → AllByRecursion (λ x. KeepsOrder x t) xs → EachPair KeepsOrder (xs ++ t ∷ [])
 pair_push [] t pairs all = (tt, tt)
 pair_push (x ∷ xs) t pairs all =
     (all_append (KeepsOrder x) xs (t ∷ []) pairs.0 (all.0, tt), pair_push xs t pairs.1 all.1)
 
+-- order is kept by a touch at the next place
 row_keeps : (rows : List (List Touching)) (rank : ℕ) (t : Touching) (place : ℕ) → t.place ≡ place →
     AllByRecursion (AllByRecursion (IsBelow place)) rows → AllByRecursion (EachPair KeepsOrder) rows →
     AllByRecursion (EachPair KeepsOrder) (with_touch rows rank t)
@@ -171,27 +187,33 @@ row_keeps rows rank t place at below order =
     (pair_push (get_or rows rank []) t (all_get (EachPair KeepsOrder) rows rank [] order tt)
     (subst (λ n. AllByRecursion (IsBelow n) (get_or rows rank [])) (sym at) (all_get (AllByRecursion (IsBelow place)) rows rank [] below tt)))
 
+-- one more touch that is below a place beside others that are
 below_keeps : (rows : List (List Touching)) (rank : ℕ) (t : Touching) (place : ℕ) →
     AllByRecursion (AllByRecursion (IsBelow place)) rows → IsBelow place t → AllByRecursion (AllByRecursion (IsBelow place)) (with_touch rows rank t)
 below_keeps rows rank t place below here =
     all_set (AllByRecursion (IsBelow place)) rows rank (get_or rows rank [] ++ t ∷ []) below
     (all_append (IsBelow place) (get_or rows rank []) (t ∷ []) (all_get (AllByRecursion (IsBelow place)) rows rank [] below tt) (here, tt))
 
+-- an update is below a limit, and a read not above it
 abbrev below_by : Bool → ℕ → ℕ → Type 0
 below_by update place limit = elim update as (λ b. Type 0) [ false ↦ place ≤ limit | true ↦ place < limit ]
 
+-- so it is for the next limit
 rises : (update : Bool) (place limit : ℕ) → below_by update place limit → below_by update place (limit + 1)
 rises true place limit h = omega arith
 rises false place limit h = omega arith
 
+-- a touch that may stand before one place may stand before the next
 below_rises : (place : ℕ) (touch : Touching) → IsBelow place touch → IsBelow (place + 1) touch
 below_rises place touch below = rises (is_update touch) touch.place place below
 
+-- so it is for all touches
 below_all_rise : (place : ℕ) (rows : List (List Touching)) → AllByRecursion (AllByRecursion (IsBelow place)) rows → AllByRecursion (AllByRecursion (IsBelow (place + 1))) rows
 below_all_rise place rows below =
     all_weaker (AllByRecursion (IsBelow place)) (AllByRecursion (IsBelow (place + 1)))
     (all_weaker (IsBelow place) (IsBelow (place + 1)) (below_rises place)) rows below
 
+-- what is to be shown of an update or a read
 below_is : (limit : ℕ) (touch : Touching) (update : Bool) → is_update touch ≡ update → below_by update touch.place limit → IsBelow limit touch
 below_is limit touch update e h = subst (λ b. below_by b touch.place limit) (sym e) h
 
@@ -226,6 +248,7 @@ read_keeps rows rank t cell inside old at bits none =
 abbrev HasPlaces : List Touching → Type 0
 HasPlaces us = (place : ℕ) → count_by (has_place place) us ≡ (if nat_lt place (length us) then 1 else 0)
 
+-- one more update takes the next place
 places_more : (xs : List Touching) (t : Touching) (ys : List Touching) → t.place ≡ length (xs ++ ys) → HasPlaces (xs ++ ys) → HasPlaces (xs ++ t ∷ ys)
 places_more xs t ys at old place =
     counts (count_by (has_place place) (xs ++ t ∷ ys)) (count_by (has_place place) (xs ++ ys)) t.place place (length (xs ++ ys)) (length (xs ++ t ∷ ys))
@@ -235,6 +258,7 @@ places_more xs t ys at old place =
         new ≡ cond (nat_lt place m) 1 0
     counts new old at place n m a b c d = grind (arith, nat_tests)
 
+-- no update has the next place
 none_at_end : (us : List Touching) → HasPlaces us → count_by (has_place (length us)) us ≡ 0
 none_at_end us places = places (length us) ∙ at_end (length us)
   where
@@ -309,8 +333,8 @@ touch_keeps rows rank t cell inside old at bits = by_change t.change refl
     by_change (Some change) e = update_keeps rows rank t cell change inside old at bits e (ap is_some e)
 
 -- a cell that nothing has touched
-pub untouched : (rows : List (List Touching)) → joined rows ≡ [] → ((P : List Touching → Type 0) → P [] → AllByRecursion P rows) → HasHistory rows empty_cell
-untouched rows none all = record {
+pub untouched_has_history : (rows : List (List Touching)) → joined rows ≡ [] → ((P : List Touching → Type 0) → P [] → AllByRecursion P rows) → HasHistory rows empty_cell
+untouched_has_history rows none all = record {
   updates = ap (λ (l : List Touching). length (updates_in l)) none;
   below = all (AllByRecursion (IsBelow 0)) tt;
   history = record {

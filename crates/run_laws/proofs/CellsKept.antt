@@ -4,7 +4,7 @@ use Rattle.std.specs.Prelude.{map, slice_get, slice_set, slice_index, slice_inde
 use Rattle.std.specs.List.{flat_map, AllByRecursion}
 use Rattle.std.specs.Option.{option_map_or}
 use Rattle.std.proofs.Math.ListN.{get_or-map}
-use Rattle.std.proofs.lemmas.List.{length-map, set-get_or, append-nil}
+use Rattle.std.proofs.lemmas.List.{length-map, append-nil}
 use Rattle.std.proofs.lemmas.List.Concat.{flat_map-append}
 use Rattle.std.proofs.lemmas.List.Elements.{filter-append}
 use Rattle.rma_types.specs.declared.accesses.Step.{Step}
@@ -24,7 +24,9 @@ use Rattle.rma_model.specs.Forms.{Form, NullForm, IssueForm, LookUpForm, FlushFo
 use Rattle.rma_model.specs.Layout.{layout, cells_of}
 use Rattle.rma_model.specs.OwnTests.{window_at}
 use Rattle.rma_model.specs.Pieces.{pieces, numbers_from}
-use Rattle.rma_model.specs.StepRun.{stage_of}
+use Rattle.rma_types.specs.declared.schedules.Order.TheVariants.{Robin}
+use Rattle.rma_model.specs.Generator.{seeded, order_stream}
+use Rattle.rma_model.specs.StepRun.{stage_of, beginning, run_from, delivered, most_turns, last_before, step_run}
 use Rattle.rma_model.specs.Touches.{Touching, issued_by, issued_at, touching_by, touches_among, touches_of, is_on_cell, on_cell}
 use Rattle.rma_model.specs.Transfers.{Transfer, transfer_of}
 use Rattle.rma_model.specs.Turns.{with_item, with_mark, with_issue, opened}
@@ -32,10 +34,10 @@ use Rattle.rma_model.specs.Windows.{Window}
 use Rattle.rma_model.specs.World.{Stage, Agent, World, agent_at, new_agent, calls_at, seat_of, kept, finished, unmarked, with_touches, touch_each, cell_at, empty_cell, first_world, run_of}
 use Rattle.run_laws.proofs.Agents.{each_set, each_unmarked}
 use Rattle.run_laws.proofs.Calm.{issue_is_touched}
-use Rattle.run_laws.proofs.CellsHistory.{HasHistory, joined, all_weaker, all_append, untouched}
-use Rattle.run_laws.proofs.CellsTouched.{AreTouched, touchings, with_more, touches_keep, touches_stay, touchings_are, get_seam}
+use Rattle.run_laws.proofs.CellsHistory.{HasHistory, joined, all_weaker, all_append, untouched_has_history}
+use Rattle.run_laws.proofs.CellsTouched.{AreTouched, touchings, with_more, touches_keep, touches_stay, touchings_are, get_seam, with_none}
 use Rattle.run_laws.proofs.Moves.{Move, Ends, RefusesAlone, IsRefused, Tests, Waits, WaitsInside, Passes, Issues, IssuesInside, Enters, Arrives, Leaves, Begins, IsAt, IsPlainItem, GoesOn, form_at, entered_by}
-use Rattle.run_laws.proofs.Runs.{MayMove, KeptByPicks, KeptByMoves}
+use Rattle.run_laws.proofs.Runs.{MayMove, KeptByPicks, KeptByMoves, Holds, delivered_is, beginning_holds, run_keeps}
 
 -- ---- the touches of all logs of a state
 
@@ -48,10 +50,12 @@ abbrev pub lists_from : Stage → ℕ → List Agent → List (List Touching)
 lists_from stage rank [] = []
 lists_from stage rank (agent ∷ agents) = touches_at stage rank agent ∷ lists_from stage (rank + 1) agents
 
+-- there is a list for each agent
 lists_length : (stage : Stage) (first : ℕ) (agents : List Agent) → length (lists_from stage first agents) ≡ length agents
 lists_length stage first [] = refl
 lists_length stage first (agent ∷ agents) = ap suc (lists_length stage (first + 1) agents)
 
+-- one agent changes, and its list
 lists_set : (stage : Stage) (first : ℕ) (agents : List Agent) (i : ℕ) (agent : Agent) →
     lists_from stage first (slice_set agents i agent) ≡ slice_set (lists_from stage first agents) i (touches_at stage (first + i) agent)
 lists_set stage first [] i agent = refl
@@ -68,6 +72,7 @@ lists_set stage first (a ∷ agents) (suc i) agent =
     one_on : (n k : ℕ) → n + 1 + k ≡ n + suc k
     one_on n k = omega arith
 
+-- the list of an agent
 lists_get : (stage : Stage) (first : ℕ) (agents : List Agent) (i : ℕ) (d : Agent) → i < length agents →
     get_or (lists_from stage first agents) i [] ≡ touches_at stage (first + i) (get_or agents i d)
 lists_get stage first [] i d inside = absurd (omega arith)
@@ -81,6 +86,7 @@ lists_get stage first (a ∷ agents) (suc i) d inside =
     one_on : (n k : ℕ) → n + 1 + k ≡ n + suc k
     one_on n k = omega arith
 
+-- marks change no list
 lists_unmarked : (stage : Stage) (first : ℕ) (agents : List Agent) → lists_from stage first (map unmarked agents) ≡ lists_from stage first agents
 lists_unmarked stage first [] = refl
 lists_unmarked stage first (a ∷ agents) = ap (λ (l : List (List Touching)). touches_at stage first a ∷ l) (lists_unmarked stage (first + 1) agents)
@@ -116,6 +122,7 @@ log_grows stage rank old agent more issues e =
     ∙ ap (λ (l : List Touching). l ++ touches_among stage.layout (calls_at stage rank) (old.log ++ more) more)
     (touches_stay stage.layout (calls_at stage rank) old.log more old.log issues)
 
+-- the Issues stay in a log that goes on, where those of its new touches are in it
 issues_grow : (stage : Stage) (rank : ℕ) (old agent : Agent) (more : List Item) (new : List Touching) → HasIssues stage rank old → agent.log ≡ old.log ++ more →
     touches_at stage rank agent ≡ touches_at stage rank old ++ new → AllByRecursion (λ (u : Touching). u.issue < length (old.log ++ more)) new → HasIssues stage rank agent
 issues_grow stage rank old agent more new issues e grows all =
@@ -139,9 +146,6 @@ same_touches : (stage : Stage) (rank : ℕ) (old agent : Agent) (item : Item) �
 same_touches stage rank old agent item quiet issues e =
     log_grows stage rank old agent (item ∷ []) issues e
     ∙ ap (λ (l : List Touching). touches_at stage rank old ++ (l ++ [])) (quiet stage.layout (calls_at stage rank) (old.log ++ item ∷ []))
-
-with_none : (lists : List (List Touching)) (rank : ℕ) → with_more lists rank [] ≡ lists
-with_none lists rank = ap (slice_set lists rank) (append-nil (get_or lists rank [])) ∙ set-get_or lists rank []
 
 -- the touches stay, and the cells
 still_touched : (stage : Stage) (world next : World) → next.cells ≡ world.cells → lists_from stage 0 next.agents ≡ lists_from stage 0 world.agents →
@@ -184,11 +188,13 @@ unmarked_keeps stage world old = record {
   issues = each_unmarked (HasIssues stage) world.agents (λ k agent has. has) old.issues;
 }
 
+-- an item ends a call
 item_keeps : (stage : Stage) (world : World) (rank : ℕ) (item : Item) → rank < length world.agents → HasCells stage world → IsQuiet item →
     HasCells stage (with_item stage world rank item)
 item_keeps stage world rank item inside old quiet =
     quiet_keeps stage world (with_item stage world rank item) rank (finished (kept stage world.rows rank (agent_at world rank) item)) item inside old quiet refl refl refl
 
+-- an entry was not yet possible
 mark_keeps : (stage : Stage) (world : World) (rank : ℕ) → rank < length world.agents → HasCells stage world → HasCells stage (with_mark world rank)
 mark_keeps stage world rank inside old =
     same_log_keeps stage world (with_mark world rank) rank (record (agent_at world rank) { marked = true }) inside old refl refl refl
@@ -236,11 +242,13 @@ issue_is_found memory calls log more number call one here moves index is places 
     made : (i n : ℕ) (p : List Piece) → i ≡ one.index → n ≡ one.number → p ≡ one.pieces → made_of i n p ≡ Some one
     made i n p a b c = ap (λ m. made_of m n p) a ∙ ap (λ m. made_of one.index m p) b ∙ ap (made_of one.index one.number) c
 
+-- the touches of an access have its Issue
 touchings_issue : (t : Transfer) (issue element : ℕ) (places : List Piece) (cells : List Cell) (limit : ℕ) → issue < limit →
     AllByRecursion (λ (u : Touching). u.issue < limit) (touchings t issue element places cells)
 touchings_issue t issue element [] cells limit h = tt
 touchings_issue t issue element (piece ∷ places) cells limit h = (h, touchings_issue t issue (element + 1) places _ limit h)
 
+-- an access is issued and touched
 touched_keeps : (stage : Stage) (world : World) (rank : ℕ) (call : Call) (t : Transfer) (window : Window) → rank < length world.agents → HasCells stage world →
     MayIssue stage world rank call t window → IssuesInsideMemory stage world rank →
     let agent = agent_at world rank in
@@ -278,6 +286,7 @@ touched_keeps stage world rank call t window inside old may within =
     before : (n m k : ℕ) → m ≡ n + suc k → n < m
     before n m k e = omega arith
 
+-- so it is where nothing is delayed
 issue_keeps : (stage : Stage) (world : World) (rank : ℕ) (call : Call) (t : Transfer) (window : Window) → rank < length world.agents → stage.delay ≡ NoDelay → HasCells stage world →
     MayIssue stage world rank call t window → IssuesInsideMemory stage world rank → HasCells stage (with_issue stage world rank t window)
 issue_keeps stage world rank call t window inside delay old may within =
@@ -285,6 +294,7 @@ issue_keeps stage world rank call t window inside delay old may within =
 
 -- ---- every move
 
+-- an item that ends a call without an access is no touch
 plain_is_quiet : (form : Form) (number : ℕ) (item : Item) → IsPlainItem form number item → IsQuiet item
 plain_is_quiet NullForm number item e = subst IsQuiet (sym e) (λ memory calls log. refl)
 plain_is_quiet IssueForm number item e = absurd e
@@ -295,6 +305,7 @@ plain_is_quiet CollectiveForm number item e = absurd e
 plain_is_quiet TestForm number item e = absurd e
 plain_is_quiet EntryForm number item e = absurd e
 
+-- how a rank goes on after an entry leaves its log
 going_on_keeps_log : (form : Form) (after : Agent → Agent) → GoesOn form after → (agent : Agent) → (after agent).log ≡ agent.log
 going_on_keeps_log NullForm after goes agent = absurd goes
 going_on_keeps_log IssueForm after goes agent = absurd goes
@@ -309,8 +320,7 @@ going_on_keeps_log EntryForm after goes agent = ap (λ (a : Agent). a.log) (goes
 pub move_keeps_cells : (stage : Stage) (world next : World) (rank : ℕ) → MayMove stage world rank → IssuesInsideMemory stage world rank → HasCells stage world →
     Move stage world rank next → HasCells stage next
 move_keeps_cells stage world next rank may within old (Ends e) =
-    let agent : Agent = record (kept stage world.rows rank (agent_at world rank) Ended) { ended = true } in
-    quiet_keeps stage world _ rank agent Ended may.inside old (λ memory calls log. refl) refl refl refl
+    quiet_keeps stage world _ rank (record (kept stage world.rows rank (agent_at world rank) Ended) { ended = true }) Ended may.inside old (λ memory calls log. refl) refl refl refl
 move_keeps_cells stage world next rank may within old (RefusesAlone call class here new class_is) =
     item_keeps stage world rank _ may.inside old (λ memory calls log. refl)
 move_keeps_cells stage world next rank may within old (IsRefused call class begins board e) =
@@ -334,6 +344,7 @@ move_keeps_cells stage world next rank may within old (Arrives call begins form 
 move_keeps_cells stage world next rank may within old (Leaves call here inside form e) =
     entry_keeps stage world rank call Leave finished may.inside (λ agent. refl) old
 
+-- a pick keeps the histories
 pub cells_picked : (stage : Stage) → KeptByPicks (HasCells stage)
 cells_picked stage world rank old = record { touched = old.touched; issues = old.issues }
 
@@ -346,33 +357,40 @@ cells_kept stage Q keeps within world next rank may old move =
 
 -- ---- the beginning
 
+-- no cell is touched before the first turn
 no_touches : (stage : Stage) (seed first cell : ℕ) (ranks : List ℕ) → joined (map (on_cell cell) (lists_from stage first (map (new_agent seed) ranks))) ≡ []
 no_touches stage seed first cell [] = refl
 no_touches stage seed first cell (rank ∷ ranks) = no_touches stage seed (first + 1) cell ranks
 
+-- so each log has no touch
 all_untouched : (stage : Stage) (seed first cell : ℕ) (ranks : List ℕ) (P : List Touching → Type 0) → P [] →
     AllByRecursion P (map (on_cell cell) (lists_from stage first (map (new_agent seed) ranks)))
 all_untouched stage seed first cell [] P none = tt
 all_untouched stage seed first cell (rank ∷ ranks) P none = (none, all_untouched stage seed (first + 1) cell ranks P none)
 
+-- so what is asked of each touch holds
 none_inside : (stage : Stage) (seed first : ℕ) (P : Touching → Type 0) (ranks : List ℕ) → AllByRecursion P (joined (lists_from stage first (map (new_agent seed) ranks)))
 none_inside stage seed first P [] = tt
 none_inside stage seed first P (rank ∷ ranks) = none_inside stage seed (first + 1) P ranks
 
+-- each cell is empty before the first turn
 first_cells : (count cell : ℕ) → cell_at (replicate count empty_cell) cell ≡ empty_cell
 first_cells zero cell = refl
 first_cells (suc count) zero = refl
 first_cells (suc count) (suc cell) = first_cells count cell
 
+-- there are as many cells as are asked for
 cells_count : (count : ℕ) → length (replicate count empty_cell) ≡ count
 cells_count zero = refl
 cells_count (suc count) = ap suc (cells_count count)
 
+-- no touch lacks its Issue before the first turn
 first_issues : (stage : Stage) (seed k : ℕ) (ranks : List ℕ) (at : ℕ) → HasIssues stage k (get_or (map (new_agent seed) ranks) at (new_agent 0 0))
 first_issues stage seed k [] at = tt
 first_issues stage seed k (rank ∷ ranks) zero = tt
 first_issues stage seed k (rank ∷ ranks) (suc at) = first_issues stage seed k ranks at
 
+-- each cell has its history before the first turn
 pub cells_begin : (stage : Stage) (seed last draws : ℕ) → HasCells stage (first_world stage seed last draws)
 cells_begin stage seed last draws =
     let ranks = numbers_from 0 stage.script.ranks in
@@ -382,13 +400,14 @@ cells_begin stage seed last draws =
         size = cells_count count;
         inside = none_inside stage seed 0 (λ (u : Touching). u.cell < count) ranks;
         histories = λ cell below. subst (HasHistory (map (on_cell cell) (lists_from stage 0 (map (new_agent seed) ranks)))) (sym (first_cells count cell))
-            (untouched (map (on_cell cell) (lists_from stage 0 (map (new_agent seed) ranks))) (no_touches stage seed 0 cell ranks) (all_untouched stage seed 0 cell ranks));
+            (untouched_has_history (map (on_cell cell) (lists_from stage 0 (map (new_agent seed) ranks))) (no_touches stage seed 0 cell ranks) (all_untouched stage seed 0 cell ranks));
       };
       issues = λ rank. first_issues stage seed rank ranks rank;
     }
 
 -- ---- the end
 
+-- the lists, as a function of the rank
 lists_are : (stage : Stage) (f : ℕ → List Touching) (first : ℕ) (agents : List Agent) →
     ((k at : ℕ) → at ≡ first + k → f at ≡ touches_at stage at (get_or agents k (new_agent 0 0))) →
     lists_from stage first agents ≡ map f (numbers_from first (length agents))
@@ -397,6 +416,7 @@ lists_are stage f first (agent ∷ agents) same =
     ap (λ (row : List Touching). row ∷ lists_from stage (first + 1) agents) (sym (same 0 first (omega arith)))
     ∙ ap (λ (l : List (List Touching)). f first ∷ l) (lists_are stage f (first + 1) agents (λ k at e. same (suc k) at (omega arith)))
 
+-- the touches of a rank in the run are those in the state
 rank_touches : (script : Script) (delay : Delay) (world : World) (rank : ℕ) → touches_of script (run_of world) rank ≡ touches_at (stage_of script delay) rank (agent_at world rank)
 rank_touches script delay world rank =
     ap (λ (l : List Item). touches_among (layout script) (slice_index_or script.calls rank []) l l) (get_or-map (λ (agent : Agent). agent.log) world.agents rank (new_agent 0 0))
@@ -409,14 +429,17 @@ run_lists script delay world ranks =
     (λ k at e. rank_touches script delay world at ∙ ap (λ n. touches_at (stage_of script delay) at (agent_at world n)) (e ∙ zero-add k))
     ∙ ap (λ n. map (touches_of script (run_of world)) (numbers_from 0 n)) ranks
 
+-- the touches of all ranks, one rank after another
 joined_map : (f : ℕ → List Touching) (ns : List ℕ) → joined (map f ns) ≡ flat_map f ns
 joined_map f [] = refl
 joined_map f (n ∷ ns) = ap (λ (l : List Touching). f n ++ l) (joined_map f ns)
 
+-- the touches on a cell of each rank
 cell_rows : (cell : ℕ) (f : ℕ → List Touching) (ns : List ℕ) → map (on_cell cell) (map f ns) ≡ map (λ n. on_cell cell (f n)) ns
 cell_rows cell f [] = refl
 cell_rows cell f (n ∷ ns) = ap (λ (l : List (List Touching)). on_cell cell (f n) ∷ l) (cell_rows cell f ns)
 
+-- the touches on a cell of all ranks
 cell_joined : (cell : ℕ) (f : ℕ → List Touching) (ns : List ℕ) → joined (map (λ n. on_cell cell (f n)) ns) ≡ on_cell cell (flat_map f ns)
 cell_joined cell f [] = refl
 cell_joined cell f (n ∷ ns) =
@@ -442,3 +465,24 @@ cells_are_lawful script delay world ranks has =
           (subst (IsHistory (joined (map (λ rank. on_cell cell (f rank)) numbers)) (map (λ rank. on_cell cell (f rank)) numbers))
           (sym (get_or-map (λ (c : Cell). c.bits) world.cells cell empty_cell)) moved.history);
     }
+
+-- where the histories are kept beside another fact, the cells are lawful at the end
+pub cells_at_end : (script : Script) (delay : Delay) (Q : World → Type 0) (world : World) →
+    Holds (stage_of script delay) (λ (w : World). Q w × HasCells (stage_of script delay) w) world → HasLawfulCells script (run_of (delivered world))
+cells_at_end script delay Q world holds =
+    subst (λ (w : World). HasLawfulCells script (run_of w)) (sym (delivered_is (stage_of script delay) world holds.calm))
+    (cells_are_lawful script delay world holds.ranks holds.fact.1)
+
+-- the cells of a run in turn are lawful, beside a fact that puts each issued access in the memory
+pub run_has_lawful_cells : (script : Script) (seed : ℕ) (Q : World → Type 0) → KeptByPicks Q → KeptByMoves (stage_of script NoDelay) Q →
+    ((world : World) (rank : ℕ) → MayMove (stage_of script NoDelay) world rank → Q world → IssuesInsideMemory (stage_of script NoDelay) world rank) →
+    Q (beginning script Robin NoDelay seed) → HasLawfulCells script (step_run script Robin NoDelay seed)
+unfolding step_run
+run_has_lawful_cells script seed Q picks moves within begins =
+    let stage = stage_of script NoDelay in
+    let P : World → Type 0 = λ w. Q w × HasCells stage w in
+    let first = cells_begin stage seed (last_before Robin script) (seeded seed order_stream) in
+    let holds = beginning_holds stage P seed (last_before Robin script) (seeded seed order_stream) refl (begins, first) in
+    let keeps : KeptByPicks P = λ world rank both. (picks world rank both.0, cells_picked stage world rank both.1) in
+    cells_at_end script NoDelay Q (run_from stage Robin (most_turns script) (beginning script Robin NoDelay seed))
+    (run_keeps stage P keeps (cells_kept stage Q moves within) (most_turns script) (beginning script Robin NoDelay seed) holds)

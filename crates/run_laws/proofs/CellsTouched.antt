@@ -5,7 +5,7 @@ use Rattle.std.specs.List.{AllByRecursion}
 use Rattle.std.specs.Option.{option_map_or}
 use Rattle.std.proofs.Math.ListN.{get_or-map}
 use Rattle.std.proofs.lemmas.Bool.{cases_eq, eq-eqb, ne_eqb}
-use Rattle.std.proofs.lemmas.List.{map-set, set-get_or, get_or-set_same, get_or-set_other, append-nil}
+use Rattle.std.proofs.lemmas.List.{length-map, map-set, set-get_or, get_or-set_same, get_or-set_other, append-nil}
 use Rattle.std.proofs.lemmas.List.Elements.{filter-append}
 use Rattle.rma_types.specs.declared.calls.Call.{Call}
 use Rattle.rma_types.specs.declared.scripts.Layout.{Layout}
@@ -26,6 +26,7 @@ use Rattle.run_laws.proofs.CellsHistory.{HasHistory, cell_after, touch_keeps, jo
 abbrev pub HasHistories : List (List Touching) → List Cell → Type 0
 HasHistories lists cells = (cell : ℕ) → cell < length cells → HasHistory (map (on_cell cell) lists) (cell_at cells cell)
 
+-- one more touch is on the cell or not
 on_cell_push : (cell : ℕ) (row : List Touching) (t : Touching) → on_cell cell (row ++ t ∷ []) ≡ on_cell cell row ++ cond (t.cell == cell) (t ∷ []) []
 on_cell_push cell row t = filter-append (is_on_cell cell) row (t ∷ [])
 
@@ -39,12 +40,14 @@ on_cell_with cell lists rank t =
     (on_cell_push cell (get_or lists rank []) t
     ∙ ap (λ (row : List Touching). row ++ cond (t.cell == cell) (t ∷ []) []) (sym (get_or-map (on_cell cell) lists rank [])))
 
+-- a touch on the cell is one more there
 on_this_cell : (cell : ℕ) (lists : List (List Touching)) (rank : ℕ) (t : Touching) → t.cell ≡ cell →
     map (on_cell cell) (with_touch lists rank t) ≡ with_touch (map (on_cell cell) lists) rank t
 on_this_cell cell lists rank t e =
     on_cell_with cell lists rank t
     ∙ ap (λ b. slice_set (map (on_cell cell) lists) rank (get_or (map (on_cell cell) lists) rank [] ++ cond b (t ∷ []) [])) (eq-eqb t.cell cell e)
 
+-- a touch on another cell changes nothing there
 on_other_cell : (cell : ℕ) (lists : List (List Touching)) (rank : ℕ) (t : Touching) → (t.cell ≡ cell → ⊥) →
     map (on_cell cell) (with_touch lists rank t) ≡ map (on_cell cell) lists
 on_other_cell cell lists rank t e =
@@ -53,21 +56,20 @@ on_other_cell cell lists rank t e =
     ∙ ap (slice_set (map (on_cell cell) lists) rank) (append-nil (get_or (map (on_cell cell) lists) rank []))
     ∙ set-get_or (map (on_cell cell) lists) rank []
 
+-- a touch leaves as many cells
 pub cells_after_length : (cells : List Cell) (cell : ℕ) (change : Option Change) → length (cells_after cells cell change) ≡ length cells
 cells_after_length cells cell None = refl
 cells_after_length cells cell (Some change) = length-set cells cell _
 
+-- what a touch leaves of its cell
 cell_after_is : (cells : List Cell) (cell : ℕ) (change : Option Change) → cell < length cells → cell_at (cells_after cells cell change) cell ≡ cell_after (cell_at cells cell) change
 cell_after_is cells cell None inside = refl
 cell_after_is cells cell (Some change) inside = get_or-set_same cells cell _ empty_cell inside
 
+-- a touch changes no other cell
 other_cell_stays : (cells : List Cell) (cell : ℕ) (change : Option Change) (other : ℕ) → (cell ≡ other → ⊥) → cell_at (cells_after cells cell change) other ≡ cell_at cells other
 other_cell_stays cells cell None other apart = refl
 other_cell_stays cells cell (Some change) other apart = get_or-set_other cells cell other _ empty_cell (λ e. apart (sym e))
-
-map_length : {X Y : Type 0} (f : X → Y) (xs : List X) → length (map f xs) ≡ length xs
-map_length f [] = refl
-map_length f (x ∷ xs) = ap suc (map_length f xs)
 
 -- one more touch, with the place and the bits that its cell has
 one_touch : (lists : List (List Touching)) (rank : ℕ) (t : Touching) (cells : List Cell) → rank < length lists → t.cell < length cells →
@@ -84,7 +86,7 @@ one_touch lists rank t cells inside within at bits old cell below = by_cell (cas
         (subst (HasHistory (with_touch (map (on_cell cell) lists) rank t))
         (sym (ap (cell_at (cells_after cells t.cell t.change)) (sym e) ∙ cell_after_is cells t.cell t.change within ∙ ap (λ c. cell_after (cell_at cells c) t.change) e))
         (touch_keeps (map (on_cell cell) lists) rank t (cell_at cells cell)
-        (subst (λ n. rank < n) (sym (map_length (on_cell cell) lists)) inside) (old cell is_below)
+        (subst (λ n. rank < n) (sym (length-map lists (on_cell cell))) inside) (old cell is_below)
         (at ∙ ap (λ c. (cell_at cells c).place) e) (bits ∙ ap (λ c. (cell_at cells c).bits) e)))
     by_cell (inr apart) =
         subst (λ (rows : List (List Touching)). HasHistory rows (cell_at (cells_after cells t.cell t.change) cell)) (sym (on_other_cell cell lists rank t apart))
@@ -120,14 +122,17 @@ touchings t issue element (piece ∷ pieces) cells =
 abbrev pub with_more : List (List Touching) → ℕ → List Touching → List (List Touching)
 with_more lists rank more = slice_set lists rank (get_or lists rank [] ++ more)
 
+-- the later of two changes at one place stays
 set_twice : {X : Type 0} (xs : List X) (i : ℕ) (x y : X) → slice_set (slice_set xs i x) i y ≡ slice_set xs i y
 set_twice [] i x y = refl
 set_twice (z ∷ xs) zero x y = refl
 set_twice (z ∷ xs) (suc i) x y = ap (λ l. z ∷ l) (set_twice xs i x y)
 
-with_none : (lists : List (List Touching)) (rank : ℕ) → with_more lists rank [] ≡ lists
+-- no more touches change nothing
+pub with_none : (lists : List (List Touching)) (rank : ℕ) → with_more lists rank [] ≡ lists
 with_none lists rank = ap (slice_set lists rank) (append-nil (get_or lists rank [])) ∙ set-get_or lists rank []
 
+-- one more touch and then more are all of them at once
 with_first : (lists : List (List Touching)) (rank : ℕ) (t : Touching) (more : List Touching) → rank < length lists →
     with_more (with_touch lists rank t) rank more ≡ with_more lists rank (t ∷ more)
 with_first lists rank t more inside =
@@ -156,19 +161,23 @@ touches_keep t issue element (piece ∷ pieces) lists rank cells count inside wi
 
 -- ---- the touches of a log that grows
 
+-- an element of a list that goes on
 get_append : {X : Type 0} (xs ys : List X) (i : ℕ) → i < length xs → slice_get (xs ++ ys) i ≡ slice_get xs i
 get_append [] ys i inside = absurd (omega arith)
 get_append (x ∷ xs) ys zero inside = refl
 get_append (x ∷ xs) ys (suc i) inside = get_append xs ys i (omega arith)
 
+-- the element between two lists
 pub get_seam : {X : Type 0} (xs : List X) (y : X) (ys : List X) → slice_get (xs ++ y ∷ ys) (length xs) ≡ Some y
 get_seam [] y ys = refl
 get_seam (x ∷ xs) y ys = get_seam xs y ys
 
+-- a fact of each element of two lists, of the first
 pub all_first : {X : Type 0} (P : X → Type 0) (xs ys : List X) → AllByRecursion P (xs ++ ys) → AllByRecursion P xs
 all_first P [] ys all = tt
 all_first P (x ∷ xs) ys all = (all.0, all_first P xs ys all.1)
 
+-- a fact of each element of two lists, of the second
 pub all_second : {X : Type 0} (P : X → Type 0) (xs ys : List X) → AllByRecursion P (xs ++ ys) → AllByRecursion P ys
 all_second P [] ys all = all
 all_second P (x ∷ xs) ys all = all_second P xs ys all.1
