@@ -1,0 +1,5 @@
+-- What the engine does is the step run.
+pub mod Worlds
+pub mod Tests
+pub mod Lists
+pub mod Boards

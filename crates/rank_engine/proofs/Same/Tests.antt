@@ -1,0 +1,66 @@
+-- The rank's own tests, at the calls of the built form.
+use Rattle.std.specs.Prelude.{◌≡◌, ℕ, zero, suc, ◌+◌, ◌*◌, ◌%◌, ◌<◌, ◌≤◌, Bool, true, false, cond, not, if◌then◌else◌, nat_lt, List, [], ◌∷◌, length, Option, Some, None, pos, slice_get, slice_index_or, refl}
+use Rattle.std.proofs.Common.{arith, ap, ap₂, sym, ◌∙◌, subst, lt-ltb, le-ltb, eq-eqb}
+use Rattle.rma_types.specs.declared.calls.Call.{Call}
+use Rattle.rma_types.specs.declared.calls.Call.TheVariants.{Allocate, Fence, Put, Load}
+use Rattle.rma_types.specs.declared.classes.Class.{Class}
+use Rattle.rma_types.specs.declared.classes.Class.TheVariants.{Sync as SyncClass, Range as RangeClass}
+use Rattle.rma_types.specs.declared.dtypes.Dtype.TheVariants.{Int32}
+use Rattle.rma_types.specs.declared.scripts.Part.{Part}
+use Rattle.rma_types.specs.declared.scripts.Script.{Script}
+use Rattle.rma_model.specs.OwnTests.{Seat as Tester, own}
+use Rattle.rma_model.specs.Knowledge.{Knowledge, nothing_known}
+use Rattle.rma_model.specs.Epochs.{AccessState, Idle as NoEpoch, FenceUnused, FenceUsed}
+use Rattle.rank_engine.proofs.Same.Worlds.{fence, live_for}
+
+abbrev pub tester : ℕ → ℕ → ℕ → Knowledge → Tester
+tester ranks rank space known = record { ranks = ranks; rank = rank; space = space; known = known }
+
+abbrev pub put_call : ℕ → ℕ → List ℕ → Call
+put_call target disp values = Put None 0 (Some (pos target)) (pos disp) Int32 values
+
+abbrev pub load_call : ℕ → ℕ → Call
+load_call disp count = Load 0 (pos disp) Int32 (pos count)
+
+-- an allocate is accepted where nothing is known
+pub own-allocate : (ranks rank space bytes : ℕ) → own (tester ranks rank space nothing_known) (Allocate 0 (pos bytes) (pos 4)) ≡ None
+own-allocate ranks rank space bytes = rw (le-ltb bytes 0 (omega arith)) refl
+
+-- a fence is accepted in each epoch
+pub own-fence_idle : (ranks rank space : ℕ) (parts : List Part) → own (tester ranks rank space (live_for parts NoEpoch)) fence ≡ None
+own-fence_idle ranks rank space parts = refl
+
+pub own-put_idle : (ranks rank space : ℕ) (parts : List Part) (target disp : ℕ) (values : List ℕ)
+    → target < ranks → own (tester ranks rank space (live_for parts NoEpoch)) (put_call target disp values) ≡ Some SyncClass
+own-put_idle ranks rank space parts target disp values within = rw (lt-ltb target ranks within, le-ltb (length values) 0 (omega arith)) refl
+
+pub aligned : (disp : ℕ) → (0 + disp * 4) % 4 ≡ 0
+aligned disp = omega arith
+
+pub same_end : (bytes disp count : ℕ) → nat_lt (0 + bytes) (0 + disp * 4 + count * 4) ≡ nat_lt bytes (4 * disp + 4 * count)
+same_end bytes disp count = ap₂ nat_lt (omega arith) (omega arith)
+
+abbrev pub part_with : ℕ → Part
+part_with bytes = record { base = 0; bytes = bytes; unit = 4 }
+
+abbrev pub by_range : ℕ → ℕ → ℕ → Option Class
+by_range bytes disp count = if nat_lt bytes (4 * disp + 4 * count) then Some RangeClass else None
+
+pub own-put_unused : (ranks rank space : ℕ) (parts : List Part) (target disp bytes : ℕ) (values : List ℕ)
+    → target < ranks → slice_get parts target ≡ Some (part_with bytes)
+    → own (tester ranks rank space (live_for parts FenceUnused)) (put_call target disp values) ≡ by_range bytes disp (length values)
+own-put_unused ranks rank space parts target disp bytes values within part =
+    rw (lt-ltb target ranks within, le-ltb (length values) 0 (omega arith), le-ltb disp 0 (omega arith), part, aligned disp, same_end bytes disp (length values)) refl
+
+pub own-put_used : (ranks rank space : ℕ) (parts : List Part) (target disp bytes : ℕ) (values : List ℕ)
+    → target < ranks → slice_get parts target ≡ Some (part_with bytes)
+    → own (tester ranks rank space (live_for parts FenceUsed)) (put_call target disp values) ≡ by_range bytes disp (length values)
+own-put_used ranks rank space parts target disp bytes values within part =
+    rw (lt-ltb target ranks within, le-ltb (length values) 0 (omega arith), le-ltb disp 0 (omega arith), part, aligned disp, same_end bytes disp (length values)) refl
+
+-- a load is tested alike in each epoch
+pub own-load : (ranks rank space : ℕ) (parts : List Part) (access : AccessState) (disp count bytes : ℕ)
+    → slice_get parts rank ≡ Some (part_with bytes)
+    → own (tester ranks rank space (live_for parts access)) (load_call disp count) ≡ by_range bytes disp count
+own-load ranks rank space parts access disp count bytes part =
+    rw (le-ltb count 0 (omega arith), le-ltb disp 0 (omega arith), part, aligned disp, same_end bytes disp count) refl
