@@ -3,3 +3,4 @@ pub mod Worlds
 pub mod Tests
 pub mod Lists
 pub mod Boards
+pub mod Touches
