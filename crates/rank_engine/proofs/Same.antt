@@ -4,3 +4,4 @@ pub mod Tests
 pub mod Lists
 pub mod Boards
 pub mod Touches
+pub mod Calls

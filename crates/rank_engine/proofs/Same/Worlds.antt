@@ -104,13 +104,14 @@ is_live Idle = true
 is_live Unused = true
 is_live Used = true
 
--- a rank is at its allocate, or behind it
-abbrev pub IsPlaced : ℕ → Seat → Type 0
-IsPlaced zero seat = (seat.epoch ≡ Unallocated) × (seat.allocated ≡ seat.entered)
-IsPlaced (suc n) seat = (is_live seat.epoch ≡ true) × (seat.allocated ≡ true)
+-- a rank with its epoch, with whether it has arrived at the allocate, and with whether its call's Arrive is put, is at
+-- its allocate, or behind it
+abbrev pub IsPlaced : ℕ → Epoch → Bool → Bool → Type 0
+IsPlaced zero epoch allocated entered = (epoch ≡ Unallocated) × (allocated ≡ entered)
+IsPlaced (suc n) epoch allocated entered = (is_live epoch ≡ true) × (allocated ≡ true)
 
 pub record IsSeat (calls : List Call) (seat : Seat) : Type 0 where
-  pub placed : IsPlaced seat.at seat
+  pub placed : IsPlaced seat.at seat.epoch seat.allocated seat.entered
   pub collective : seat.entered ≡ true → (call : Call) → slice_get calls seat.at ≡ Some call → transfer_of call ≡ None
 
 abbrev pub allocated_in : State → ℕ → Bool
