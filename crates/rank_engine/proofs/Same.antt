@@ -5,3 +5,4 @@ pub mod Lists
 pub mod Boards
 pub mod Touches
 pub mod Calls
+pub mod States
