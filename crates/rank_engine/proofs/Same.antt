@@ -6,3 +6,4 @@ pub mod Boards
 pub mod Touches
 pub mod Calls
 pub mod States
+pub mod Collectives
