@@ -7,3 +7,5 @@ pub mod Touches
 pub mod Calls
 pub mod States
 pub mod Collectives
+pub mod Built
+pub mod Turns

@@ -11,7 +11,10 @@ use Rattle.rma_types.specs.declared.scripts.Script.{Script}
 use Rattle.rma_model.specs.OwnTests.{Seat as Tester, own}
 use Rattle.rma_model.specs.Knowledge.{Knowledge, nothing_known}
 use Rattle.rma_model.specs.Epochs.{AccessState, Idle as NoEpoch, FenceUnused, FenceUsed}
-use Rattle.rank_engine.proofs.Same.Worlds.{fence, live_for}
+use Rattle.rank_engine.specs.declared.epochs.Epoch.{Epoch}
+use Rattle.rank_engine.specs.declared.epochs.Epoch.TheVariants.{Unallocated, Idle, Unused, Used}
+use Rattle.std.proofs.lemmas.Bool.{false≢true}
+use Rattle.rank_engine.proofs.Same.Worlds.{fence, live_for, known_for, is_live}
 
 abbrev pub tester : ℕ → ℕ → ℕ → Knowledge → Tester
 tester ranks rank space known = record { ranks = ranks; rank = rank; space = space; known = known }
@@ -64,3 +67,10 @@ pub own-load : (ranks rank space : ℕ) (parts : List Part) (access : AccessStat
     → own (tester ranks rank space (live_for parts access)) (load_call disp count) ≡ by_range bytes disp count
 own-load ranks rank space parts access disp count bytes part =
     rw (le-ltb count 0 (omega arith), le-ltb disp 0 (omega arith), part, aligned disp, same_end bytes disp count) refl
+
+-- a fence is accepted in each epoch on the window
+pub own-fence : (script : Script) (ranks rank space : ℕ) (epoch : Epoch) → is_live epoch ≡ true → own (tester ranks rank space (known_for script epoch)) fence ≡ None
+own-fence script ranks rank space Unallocated live = absurd (false≢true live)
+own-fence script ranks rank space Idle live = refl
+own-fence script ranks rank space Unused live = refl
+own-fence script ranks rank space Used live = refl
