@@ -9,3 +9,4 @@ pub mod States
 pub mod Collectives
 pub mod Built
 pub mod Turns
+pub mod Runs
