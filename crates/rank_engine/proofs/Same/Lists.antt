@@ -1,10 +1,8 @@
 -- Lists of seats, agents and numbers.
-use Rattle.std.specs.Prelude.{◌≡◌, ℕ, zero, suc, ◌+◌, ◌<◌, ◌≤◌, Bool, true, false, cond, not, ◌&&◌, List, [], ◌∷◌, ◌++◌, map, length, replicate, take, drop, Option, Some, None, slice_get, get_or, set, refl}
-use Rattle.std.specs.List.{filter, find, fold, list_all, AllByRecursion}
-use Rattle.std.specs.Option.{option_map_or}
-use Rattle.std.proofs.Common.{arith, ap, ap₂, sym, ◌∙◌, subst, add-zero, add-suc, add-one, not-suc-le-zero, le_of_suc-le-suc, zero-lt-suc, suc-le-suc}
+use Rattle.std.specs.Prelude.{◌≡◌, ℕ, zero, suc, ◌+◌, ◌<◌, ◌≤◌, Bool, true, false, cond, ◌&&◌, List, [], ◌∷◌, ◌++◌, map, length, replicate, take, drop, Some, slice_get, get_or, set, refl}
+use Rattle.std.specs.List.{filter, find, list_all, AllByRecursion}
+use Rattle.std.proofs.Common.{arith, ap, ap₂, sym, ◌∙◌, subst, add-zero, not-suc-le-zero, le_of_suc-le-suc, zero-lt-suc, suc-le-suc}
 use Rattle.rma_types.specs.declared.scripts.Script.{Script}
-use Rattle.rma_record.specs.declared.items.Item.{Item}
 use Rattle.rma_model.specs.Pieces.{numbers_from}
 use Rattle.rma_model.specs.World.{Agent, new_agent, unmarked}
 use Rattle.rank_engine.specs.Engine.{Seat, new_seat, free_of_mark}
@@ -36,7 +34,7 @@ set-agents_from script seed n (other ∷ seats) zero seat =
 set-agents_from script seed n (other ∷ seats) (suc i) seat =
     let e : n + suc i ≡ n + 1 + i = omega arith in
     ap (λ rest. agent_of script seed n other ∷ rest)
-      (ap (λ r. set (agents_from script seed (n + 1) seats) i (agent_of script seed r seat)) e ∙ set-agents_from script seed (n + 1) seats i seat)
+    (ap (λ r. set (agents_from script seed (n + 1) seats) i (agent_of script seed r seat)) e ∙ set-agents_from script seed (n + 1) seats i seat)
 
 -- the agents without marks are those of the seats without marks
 pub unmarked-agents_from : (script : Script) (seed n : ℕ) (seats : List Seat)
@@ -45,15 +43,18 @@ unmarked-agents_from script seed n [] = refl
 unmarked-agents_from script seed n (seat ∷ seats) =
     ap (λ rest. agent_of script seed n (free_of_mark seat) ∷ rest) (unmarked-agents_from script seed (n + 1) seats)
 
+-- as many agents as seats
 pub length-agents_from : (script : Script) (seed n : ℕ) (seats : List Seat) → length (agents_from script seed n seats) ≡ length seats
 length-agents_from script seed n [] = refl
 length-agents_from script seed n (seat ∷ seats) = ap suc (length-agents_from script seed (n + 1) seats)
 
+-- the logs of the agents
 pub logs-agents_from : (script : Script) (seed n : ℕ) (seats : List Seat)
     → map (λ (agent : Agent). agent.log) (agents_from script seed n seats) ≡ map (λ (seat : Seat). seat.log) seats
 logs-agents_from script seed n [] = refl
 logs-agents_from script seed n (seat ∷ seats) = ap (λ rest. seat.log ∷ rest) (logs-agents_from script seed (n + 1) seats)
 
+-- whether all agents have ended
 pub ended-agents_from : (script : Script) (seed n : ℕ) (seats : List Seat)
     → list_all (λ (agent : Agent). agent.ended) (agents_from script seed n seats) ≡ list_all (λ (seat : Seat). seat.ended) seats
 ended-agents_from script seed n [] = refl
@@ -66,12 +67,14 @@ new_agents script seed n (suc count) = ap (λ rest. new_agent seed n ∷ rest) (
 
 -- ---- lists of any kind
 
+-- what is found is the first that passes
 pub find-filter : {X : Type 0} (p : X → Bool) (xs : List X) → find p xs ≡ slice_get (filter p xs) 0
 find-filter p [] = refl
 find-filter p (x ∷ xs) =
     elim (p x) as (λ b. cond b (Some x) (find p xs) ≡ slice_get (cond b (x ∷ filter p xs) (filter p xs)) 0)
     [ true ↦ refl | false ↦ find-filter p xs ]
 
+-- one element more
 pub filter_push : {X : Type 0} (p : X → Bool) (xs : List X) (y : X) → filter p (xs ++ y ∷ []) ≡ filter p xs ++ cond (p y) (y ∷ []) []
 filter_push p [] y = refl
 filter_push p (x ∷ xs) y =
@@ -83,20 +86,24 @@ pub find_same : {X : Type 0} (p q : X → Bool) (xs : List X) → ((x : X) → p
 find_same p q [] same = refl
 find_same p q (x ∷ xs) same = ap₂ (λ b rest. cond b (Some x) rest) (same x) (find_same p q xs same)
 
+-- what holds of each element holds of the first ones
 pub all_take : {X : Type 0} (P : X → Type 0) (n : ℕ) (xs : List X) → AllByRecursion P xs → AllByRecursion P (take n xs)
 all_take P zero xs all = tt
 all_take P (suc n) [] all = tt
 all_take P (suc n) (x ∷ xs) all = (all.0, all_take P n xs all.1)
 
+-- what holds of each element holds of the last ones
 pub all_drop : {X : Type 0} (P : X → Type 0) (n : ℕ) (xs : List X) → AllByRecursion P xs → AllByRecursion P (drop n xs)
 all_drop P zero xs all = all
 all_drop P (suc n) [] all = tt
 all_drop P (suc n) (x ∷ xs) all = all_drop P n xs all.1
 
+-- what holds of the elements of two lists holds of both in a row
 pub all_append : {X : Type 0} (P : X → Type 0) (xs ys : List X) → AllByRecursion P xs → AllByRecursion P ys → AllByRecursion P (xs ++ ys)
 all_append P [] ys all more = more
 all_append P (x ∷ xs) ys all more = (all.0, all_append P xs ys all.1 more)
 
+-- equal options have equal values
 pub some_same : {X : Type 0} (y x : X) → Some y ≡ Some x → y ≡ x
 some_same y x same = cc
 
@@ -107,23 +114,22 @@ all_find P p (y ∷ ys) all x e =
     elim (p y) as (λ b. cond b (Some y) (find p ys) ≡ Some x → P x)
     [ true ↦ λ same. subst P (some_same y x same) all.0 | false ↦ λ rest. all_find P p ys all.1 x rest ] e
 
+-- numbers in a row are below their end
 pub all_numbers : (limit first count : ℕ) → first + count ≤ limit → AllByRecursion (λ n. n < limit) (numbers_from first count)
 all_numbers limit first zero l = tt
 all_numbers limit first (suc count) l = (omega arith, all_numbers limit (first + 1) count (omega arith))
 
+-- what a function gives at one of the numbers
 pub get_or-map_numbers : {X : Type 0} (f : ℕ → X) (first count i : ℕ) (d : X) → i < count → get_or (map f (numbers_from first count)) i d ≡ f (first + i)
 get_or-map_numbers f first zero i d l = absurd (not-suc-le-zero l)
 get_or-map_numbers f first (suc count) zero d l = ap f (sym (add-zero first))
 get_or-map_numbers f first (suc count) (suc i) d l = get_or-map_numbers f (first + 1) count i d (le_of_suc-le-suc l) ∙ ap f (omega arith)
 
+-- the same, where there may be none
 pub slice_get-map_numbers : {X : Type 0} (f : ℕ → X) (first count i : ℕ) → i < count → slice_get (map f (numbers_from first count)) i ≡ Some (f (first + i))
 slice_get-map_numbers f first zero i l = absurd (not-suc-le-zero l)
 slice_get-map_numbers f first (suc count) zero l = ap (λ n. Some (f n)) (sym (add-zero first))
 slice_get-map_numbers f first (suc count) (suc i) l = slice_get-map_numbers f (first + 1) count i (le_of_suc-le-suc l) ∙ ap (λ n. Some (f n)) (omega arith)
-
-pub length-numbers_from : (first count : ℕ) → length (numbers_from first count) ≡ count
-length-numbers_from first zero = refl
-length-numbers_from first (suc count) = ap suc (length-numbers_from (first + 1) count)
 
 -- a test of each number that is a test of each element
 pub list_all_numbers : {X : Type 0} (q : ℕ → Bool) (p : X → Bool) (d : X) (first : ℕ) (xs : List X)
@@ -131,7 +137,7 @@ pub list_all_numbers : {X : Type 0} (q : ℕ → Bool) (p : X → Bool) (d : X) 
 list_all_numbers q p d first [] same = refl
 list_all_numbers q p d first (x ∷ xs) same =
     ap₂ ◌&&◌ (ap q (sym (add-zero first)) ∙ same 0 (zero-lt-suc (length xs)))
-      (list_all_numbers q p d (first + 1) xs (λ i l. ap q (next i) ∙ same (suc i) (suc-le-suc l)))
+    (list_all_numbers q p d (first + 1) xs (λ i l. ap q (next i) ∙ same (suc i) (suc-le-suc l)))
   where
     next : (i : ℕ) → first + 1 + i ≡ first + suc i
     next i = omega arith

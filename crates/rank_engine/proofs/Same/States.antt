@@ -1,17 +1,16 @@
 -- A change of one seat, and an entry, on both sides.
-use Rattle.std.specs.Prelude.{◌≡◌, ℕ, zero, suc, ◌+◌, ◌<◌, Bool, true, false, List, [], ◌∷◌, ◌++◌, map, length, Option, Some, None, slice_get, slice_set, get_or, set, refl}
-use Rattle.std.proofs.Common.{arith, ap, ap₂, sym, ◌∙◌, subst, zero-add, inl, inr, ◌⊎◌, length-set}
+use Rattle.std.specs.Prelude.{◌≡◌, ℕ, zero, suc, ◌+◌, ◌<◌, Bool, List, [], ◌∷◌, ◌++◌, map, length, slice_set, get_or, set, refl}
+use Rattle.std.proofs.Common.{ap, ap₂, sym, ◌∙◌, subst, zero-add, inl, inr, length-set}
 use Rattle.std.proofs.lemmas.Bool.{cases_eq}
 use Rattle.std.proofs.lemmas.List.{get_or-set_same, get_or-set_other, length-map, length_push}
 use Rattle.rma_types.specs.declared.accesses.Step.{Step}
 use Rattle.rma_types.specs.declared.calls.Call.{Call}
 use Rattle.rma_types.specs.declared.scripts.Script.{Script}
-use Rattle.rma_record.specs.declared.items.Item.{Item}
 use Rattle.rma_record.specs.declared.items.Item.TheVariants.{Entry}
 use Rattle.rma_model.specs.declared.cells.Cell.{Cell}
-use Rattle.rma_model.specs.Entries.{Row, creations}
+use Rattle.rma_model.specs.Entries.{Row}
 use Rattle.rma_model.specs.Turns.{row_of}
-use Rattle.rma_model.specs.World.{Stage, Agent, World, agent_at, with_agent, with_entry, kept, unmarked, new_agent}
+use Rattle.rma_model.specs.World.{Agent, World, agent_at, with_agent, with_entry, kept, unmarked, new_agent}
 use Rattle.rank_engine.specs.Engine.{Seat, State, new_seat, seat_at, with_seat, calls_of_rank, keeps, free_of_mark, with_entry as put_entry}
 use Rattle.rank_engine.proofs.Same.Boards.{row_for}
 use Rattle.rank_engine.proofs.Same.Lists.{get_or-agents_from, set-agents_from, unmarked-agents_from}
@@ -23,6 +22,7 @@ pub agent_is : (script : Script) (seed : ℕ) (rows : List Row) (state : State) 
 agent_is script seed rows state rank l =
     get_or-agents_from script seed 0 state.seats rank (new_agent 0 0) l ∙ ap (λ r. agent_of script seed r (seat_at state rank)) (zero-add rank)
 
+-- one agent changes with its seat
 pub set_is : (script : Script) (seed : ℕ) (seats : List Seat) (rank : ℕ) (seat : Seat)
     → set (agents_from script seed 0 seats) rank (agent_of script seed rank seat) ≡ agents_from script seed 0 (set seats rank seat)
 set_is script seed seats rank seat =
@@ -49,9 +49,9 @@ field_set f (x ∷ xs) (suc i) (suc r) seat same = field_set f xs i r seat same
 pub each_set : (P : ℕ → Seat → Type 0) (limit : ℕ) (seats : List Seat) (i : ℕ) (seat : Seat) → i < length seats → P i seat
     → ((r : ℕ) → r < limit → P r (get_or seats r new_seat)) → (r : ℕ) → r < limit → P r (get_or (set seats i seat) r new_seat)
 each_set P limit seats i seat within new old r l = elim (cases_eq i r) [
-    | inl e ↦ subst (λ (k : ℕ). P k (get_or (set seats i seat) k new_seat)) e (subst (P i) (sym (get_or-set_same seats i seat new_seat within)) new)
-    | inr e ↦ subst (P r) (sym (get_or-set_other seats i r seat new_seat (λ f. e (sym f)))) (old r l)
-  ]
+  | inl e ↦ subst (λ (k : ℕ). P k (get_or (set seats i seat) k new_seat)) e (subst (P i) (sym (get_or-set_same seats i seat new_seat within)) new)
+  | inr e ↦ subst (P r) (sym (get_or-set_other seats i r seat new_seat (λ f. e (sym f)))) (old r l)
+]
 
 -- the counts of the board are those of other functions with the same values
 pub board_same : (script : Script) (rows : List Row) (allocated allocated_next : ℕ → Bool) (fences fences_next : ℕ → ℕ)
@@ -63,6 +63,7 @@ board_same script rows allocated allocated_next fences fences_next board same sa
   fences_of = λ r. rw (same_fences r) (board.fences_of r);
 }
 
+-- a seat and cells change, and the board does not
 pub sound_seat : (script : Script) (rows : List Row) (state : State) (rank : ℕ) (seat : Seat) (cells : List Cell)
     → IsSound script rows state → rank < script.ranks
     → seat.allocated ≡ (seat_at state rank).allocated → seat.fences ≡ (seat_at state rank).fences
@@ -80,11 +81,13 @@ sound_seat script rows state rank seat cells sound within allocated fences sits 
 
 -- ---- entries
 
+-- the seat of a rank when all marks are cleared
 pub get_or-free : (seats : List Seat) (r : ℕ) → get_or (map free_of_mark seats) r new_seat ≡ free_of_mark (get_or seats r new_seat)
 get_or-free [] r = refl
 get_or-free (seat ∷ seats) zero = refl
 get_or-free (seat ∷ seats) (suc r) = get_or-free seats r
 
+-- a mark says nothing of where a rank is
 pub seat-free : (calls : List Call) (seat : Seat) → IsSeat calls seat → IsSeat calls (free_of_mark seat)
 seat-free calls seat sits = record { placed = sits.placed; collective = sits.collective }
 
@@ -92,11 +95,13 @@ seat-free calls seat sits = record { placed = sits.placed; collective = sits.col
 abbrev pub entered_seat : State → ℕ → Step → (Seat → Seat) → Seat
 entered_seat state rank step after = let seat = seat_at state rank in free_of_mark (after (keeps seat (Entry seat.at state.entries step)))
 
+-- the seat of the rank of an entry
 pub entry_at : (state : State) (rank : ℕ) (step : Step) (after : Seat → Seat) → rank < length state.seats
     → seat_at (put_entry state rank step after) rank ≡ entered_seat state rank step after
 entry_at state rank step after l =
     get_or-set_same (map free_of_mark state.seats) rank (entered_seat state rank step after) new_seat (rw (length-map state.seats free_of_mark) l)
 
+-- the seat of another rank
 pub entry_other : (state : State) (rank : ℕ) (step : Step) (after : Seat → Seat) (r : ℕ) → (rank ≡ r → ⊥)
     → seat_at (put_entry state rank step after) r ≡ free_of_mark (seat_at state r)
 entry_other state rank step after r other =
@@ -110,6 +115,7 @@ entry_field f state rank step after same r =
     field_set f (map free_of_mark state.seats) rank r (entered_seat state rank step after) (same ∙ ap f (sym (get_or-free state.seats rank)))
     ∙ ap f (get_or-free state.seats r)
 
+-- an entry is put
 pub sound_entry : (script : Script) (rows : List Row) (row : Row) (state : State) (rank : ℕ) (step : Step) (after : Seat → Seat)
     → IsSound script rows state → rank < script.ranks
     → IsBoard script (rows ++ row ∷ []) (allocated_in (put_entry state rank step after)) (fences_in (put_entry state rank step after))
@@ -129,17 +135,18 @@ sound_entry script rows row state rank step after sound within board sits = reco
 pub with_entry-is : (script : Script) (seed : ℕ) (rows : List Row) (state : State) (rank : ℕ) (call : Call) (step : Step) (after : Agent → Agent) (after_seat : Seat → Seat)
     → rank < length state.seats
     → unmarked (after (kept (stage_for script) (rows ++ row_for rank (seat_at state rank).at call step ∷ []) rank (agent_of script seed rank (seat_at state rank))
-        (Entry (seat_at state rank).at (length rows) step)))
-      ≡ agent_of script seed rank (entered_seat state rank step after_seat)
+    (Entry (seat_at state rank).at (length rows) step)))
+    ≡ agent_of script seed rank (entered_seat state rank step after_seat)
     → with_entry (stage_for script) (world_of script seed rows state) rank (agent_at (world_of script seed rows state) rank)
-        (row_of rank (agent_at (world_of script seed rows state) rank) call step) after
-      ≡ world_of script seed (rows ++ row_for rank (seat_at state rank).at call step ∷ []) (put_entry state rank step after_seat)
+    (row_of rank (agent_at (world_of script seed rows state) rank) call step) after
+    ≡ world_of script seed (rows ++ row_for rank (seat_at state rank).at call step ∷ []) (put_entry state rank step after_seat)
 with_entry-is script seed rows state rank call step after after_seat l same =
     let world : World = world_of script seed rows state in
     ap (λ (agent : Agent). with_entry (stage_for script) world rank agent (row_of rank agent call step) after) (agent_is script seed rows state rank l)
     ∙ ap (λ agents. record world { rows = rows ++ row_for rank (seat_at state rank).at call step ∷ []; agents = agents })
-      (ap₂ (λ agents (agent : Agent). slice_set agents rank agent) (unmarked-agents_from script seed 0 state.seats) same
-      ∙ set_is script seed (map free_of_mark state.seats) rank (entered_seat state rank step after_seat))
+    (ap₂ (λ agents (agent : Agent). slice_set agents rank agent) (unmarked-agents_from script seed 0 state.seats) same
+    ∙ set_is script seed (map free_of_mark state.seats) rank (entered_seat state rank step after_seat))
 
+-- equal worlds are alike
 pub same_along : (script : Script) (seed : ℕ) (world other : World) (state : State) → world ≡ other → IsSame script seed other state → IsSame script seed world state
 same_along script seed world other state e same = record { rows = same.rows; is = e ∙ same.is; sound = same.sound }

@@ -1,24 +1,24 @@
 -- The touches of puts and loads, on both sides.
-use Rattle.std.specs.Prelude.{◌≡◌, ℕ, zero, suc, ◌+◌, ◌*◌, ◌/◌, ◌%◌, ◌^◌, ◌<◌, Bool, true, false, List, [], ◌∷◌, ◌++◌, map, length, Option, Some, None, pos, slice_get, slice_index, slice_index_or, slice_set, refl}
+use Rattle.std.specs.Prelude.{◌≡◌, ℕ, zero, suc, ◌+◌, ◌*◌, ◌/◌, ◌%◌, ◌^◌, ◌<◌, true, false, List, [], ◌∷◌, map, length, None, pos, slice_index, slice_set, refl}
 use Rattle.std.specs.List.{AllByRecursion}
-use Rattle.std.proofs.Common.{arith, ap, ap₂, sym, ◌∙◌, subst, zero-lt-suc, suc-le-suc, add-zero}
+use Rattle.std.proofs.Common.{arith, ap, ap₂, sym, ◌∙◌, zero-lt-suc, suc-le-suc, add-zero}
 use Rattle.rma_types.specs.declared.accesses.Kind.{Kind}
 use Rattle.rma_types.specs.declared.accesses.Kind.TheVariants.{Put as PutKind, Load as LoadKind}
 use Rattle.rma_types.specs.declared.dtypes.Dtype.TheVariants.{Int32}
 use Rattle.rma_types.specs.declared.ops.Op.TheVariants.{Replace, NoOp}
 use Rattle.rma_types.specs.declared.scripts.Layout.{Layout}
-use Rattle.rma_record.specs.declared.items.Item.{Item}
 use Rattle.rma_record.specs.declared.items.Item.TheVariants.{Touch}
 use Rattle.rma_model.specs.declared.cells.Cell.{Cell}
 use Rattle.rma_model.specs.declared.elements.Piece.{Piece}
 use Rattle.rma_model.specs.Elements.{with_element}
 use Rattle.rma_model.specs.Pieces.{numbers_from, pieces, first_cell}
 use Rattle.rma_model.specs.Transfers.{Transfer, Own, Named}
-use Rattle.rma_model.specs.World.{Touched, touch_each, cell_at, empty_cell}
+use Rattle.rma_model.specs.World.{Touched, touch_each, cell_at}
 use Rattle.rank_engine.specs.Engine.{Touched as Written, write_each, read_each, access_to}
 use Rattle.rank_engine.proofs.Same.Lists.{map_numbers_same}
 use Rattle.rank_engine.proofs.Same.Worlds.{IsFitting}
 
+-- the transfer of a put
 abbrev pub put_transfer : ℕ → ℕ → List ℕ → Transfer
 put_transfer target disp values = record {
   request = None;
@@ -34,6 +34,7 @@ put_transfer target disp values = record {
   compare = None;
 }
 
+-- the transfer of a load
 abbrev pub load_transfer : ℕ → ℕ → Transfer
 load_transfer disp count = record {
   request = None;
@@ -49,6 +50,7 @@ load_transfer disp count = record {
   compare = None;
 }
 
+-- where an element of whole cells lies
 abbrev pub piece_from : ℕ → ℕ → Piece
 piece_from first element = record { cell = first + element; first_byte = 0 }
 
@@ -72,9 +74,11 @@ pieces_are layout kind target disp count =
 pub with_element-whole : (bits value : ℕ) → bits < 2 ^ 32 → with_element bits 0 Int32 value ≡ value
 with_element-whole bits value l = omega arith
 
+-- the engine's touches, as the step run's
 abbrev pub as_touched : Written → Touched
 as_touched written = record { cells = written.cells; items = written.items }
 
+-- cells of 32 bits stay so where one is written
 pub fitting_set : (cells : List Cell) (c : ℕ) (cell : Cell) → cell.bits < 2 ^ 32 → IsFitting cells → IsFitting (slice_set cells c cell)
 fitting_set [] c cell small fits k = fits k
 fitting_set (x ∷ xs) zero cell small fits zero = small
@@ -89,6 +93,7 @@ fitting_writes issue element cell [] cells small fits = fits
 fitting_writes issue element cell (value ∷ values) cells small fits =
     fitting_writes issue (element + 1) (cell + 1) values _ small.1 (fitting_set cells cell (record { bits = value; place = (cell_at cells cell).place + 1 }) small.0 fits)
 
+-- one cell is written anew
 abbrev pub put_cell : List Cell → ℕ → ℕ → List Cell
 put_cell cells cell value = slice_set cells cell (record { bits = value; place = (cell_at cells cell).place + 1 })
 
@@ -97,20 +102,20 @@ pub touch_each-put : (target disp : ℕ) (values : List ℕ) (issue element firs
     → ((i : ℕ) → i < length rest → slice_index values (element + i) ≡ slice_index rest i)
     → AllByRecursion (λ value. value < 2 ^ 32) rest → IsFitting cells
     → touch_each (put_transfer target disp values) issue element (map (piece_from first) (numbers_from element (length rest))) cells
-      ≡ as_touched (write_each issue element (first + element) rest cells)
+    ≡ as_touched (write_each issue element (first + element) rest cells)
 touch_each-put target disp values issue element first [] cells same small fits = refl
 touch_each-put target disp values issue element first (value ∷ rest) cells same small fits =
     let cell : ℕ = first + element in
     let seen : Cell = cell_at cells cell in
     let new_bits : with_element seen.bits 0 Int32 (slice_index values element) ≡ value
-        = with_element-whole seen.bits (slice_index values element) (fits cell) ∙ ap (slice_index values) (sym (add-zero element)) ∙ same 0 (zero-lt-suc (length rest)) in
+    = with_element-whole seen.bits (slice_index values element) (fits cell) ∙ ap (slice_index values) (sym (add-zero element)) ∙ same 0 (zero-lt-suc (length rest)) in
     let next : touch_each (put_transfer target disp values) issue (element + 1) (map (piece_from first) (numbers_from (element + 1) (length rest))) (put_cell cells cell value)
-          ≡ as_touched (write_each issue (element + 1) (first + (element + 1)) rest (put_cell cells cell value))
-        = touch_each-put target disp values issue (element + 1) first rest (put_cell cells cell value)
-          (λ i l. ap (slice_index values) (shift i) ∙ same (suc i) (suc-le-suc l)) small.1
-          (fitting_set cells cell (record { bits = value; place = seen.place + 1 }) small.0 fits) in
+    ≡ as_touched (write_each issue (element + 1) (first + (element + 1)) rest (put_cell cells cell value))
+    = touch_each-put target disp values issue (element + 1) first rest (put_cell cells cell value)
+    (λ i l. ap (slice_index values) (shift i) ∙ same (suc i) (suc-le-suc l)) small.1
+    (fitting_set cells cell (record { bits = value; place = seen.place + 1 }) small.0 fits) in
     rw new_bits (ap (λ (touched : Touched). record { cells = touched.cells; items = Touch issue element cell seen.place seen.bits ∷ touched.items })
-      (next ∙ ap (λ c. as_touched (write_each issue (element + 1) c rest (put_cell cells cell value))) cell_next))
+    (next ∙ ap (λ c. as_touched (write_each issue (element + 1) c rest (put_cell cells cell value))) cell_next))
   where
     shift : (i : ℕ) → element + 1 + i ≡ element + suc i
     shift i = omega arith
@@ -121,14 +126,14 @@ touch_each-put target disp values issue element first (value ∷ rest) cells sam
 -- the touches of a load are its reads
 pub touch_each-load : (disp whole issue element first count : ℕ) (cells : List Cell)
     → touch_each (load_transfer disp whole) issue element (map (piece_from first) (numbers_from element count)) cells
-      ≡ record { cells = cells; items = read_each issue element (first + element) count cells }
+    ≡ record { cells = cells; items = read_each issue element (first + element) count cells }
 touch_each-load disp whole issue element first zero cells = refl
 touch_each-load disp whole issue element first (suc count) cells =
     ap (λ (touched : Touched). record {
       cells = touched.cells;
       items = Touch issue element (first + element) (cell_at cells (first + element)).place (cell_at cells (first + element)).bits ∷ touched.items;
     }) (touch_each-load disp whole issue (element + 1) first count cells
-      ∙ ap (λ c. record { cells = cells; items = read_each issue (element + 1) c count cells }) cell_next)
+    ∙ ap (λ c. record { cells = cells; items = read_each issue (element + 1) c count cells }) cell_next)
   where
     cell_next : first + (element + 1) ≡ first + element + 1
     cell_next = omega arith
