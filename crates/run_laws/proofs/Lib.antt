@@ -15,4 +15,6 @@ pub mod Fuel
 pub mod Moves
 pub mod Picks
 pub mod Runs
+pub mod TouchedLists
+pub mod TouchedLog
 pub mod Turns
