@@ -15,6 +15,8 @@ pub mod Fuel
 pub mod Moves
 pub mod Picks
 pub mod Runs
+pub mod TouchedLaw
 pub mod TouchedLists
 pub mod TouchedLog
+pub mod TouchedMoves
 pub mod Turns

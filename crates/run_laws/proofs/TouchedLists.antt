@@ -58,11 +58,13 @@ place_in at zero = inr (at, omega arith)
 place_in zero (suc count) = inl (omega arith)
 place_in (suc at) (suc count) = elim (place_in at count) [ inl h ↦ inl (omega arith) | inr h ↦ let same = h.1 in inr (h.0, omega arith) ]
 
+-- the front of a list is found at its own indices
 pub get_front : {X : Type 0} (xs ys : List X) (at : ℕ) → at < length xs → slice_get (xs ++ ys) at ≡ slice_get xs at
 get_front [] ys at h = absurd (omega arith)
 get_front (x ∷ xs) ys zero h = refl
 get_front (x ∷ xs) ys (suc at) h = get_front xs ys at (omega arith)
 
+-- what follows is found past them
 pub get_rest : {X : Type 0} (xs ys : List X) (at past : ℕ) → at ≡ length xs + past → slice_get (xs ++ ys) at ≡ slice_get ys past
 get_rest [] ys at past e = let same : at ≡ past = omega arith in ap (slice_get ys) same
 get_rest (x ∷ xs) ys zero past e = absurd (omega arith)

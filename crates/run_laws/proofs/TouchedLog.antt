@@ -1,13 +1,12 @@
 -- A log in which each Issue is followed by its touches, and by nothing else before them.
-use Rattle.std.proofs.Common.{◌≡◌, ◌≢◌, ℕ, zero, suc, ◌+◌, ◌<◌, ◌≤◌, inl, inr, Bool, true, false, cond, eqb, List, [], ◌∷◌, ◌++◌, length, take, drop, Option, Some, None, refl, sym, ◌∙◌, ap, subst, arith, append_assoc, append-nil, length-append}
+use Rattle.std.proofs.Common.{◌≡◌, ◌≢◌, ℕ, zero, suc, ◌+◌, ◌<◌, ◌≤◌, inl, inr, true, false, List, [], ◌∷◌, ◌++◌, length, take, drop, Option, Some, None, refl, sym, ◌∙◌, ap, subst, arith, append_assoc, append-nil, length-append}
 use Rattle.std.specs.Prelude.{slice_get, IsSome}
-use Rattle.std.specs.List.{flat_map, AllByRecursion}
+use Rattle.std.specs.List.{AllByRecursion}
 use Rattle.std.specs.Option.{option_map_or, option_map}
 use Rattle.std.proofs.Math.Seq.{take-append_seam, drop-append-add, take-length}
 use Rattle.std.proofs.lemmas.Bool.Decides.{eqb_tells}
 use Rattle.std.proofs.lemmas.Grind.{flat_map-append}
 use Rattle.std.proofs.lemmas.List.{take-append-le, drop-append-le}
-use Rattle.std.proofs.lemmas.Option.{slice_get_past}
 use Rattle.rma_types.specs.declared.accesses.Access.{Access}
 use Rattle.rma_types.specs.declared.calls.Call.{Call}
 use Rattle.rma_types.specs.declared.scripts.Layout.{Layout}
@@ -21,7 +20,7 @@ use Rattle.rma_model.specs.RankLaw.{touch_of, touched_by, elements_from, issued_
 use Rattle.rma_model.specs.Touches.{issued_by, issued_at, EachPair}
 use Rattle.rma_model.specs.Transfers.{Transfer, transfer_of}
 use Rattle.run_laws.proofs.Picks.{each_append, each_take}
-use Rattle.run_laws.proofs.TouchedLists.{each_of, each_turned, each_with, each_at, pair_joined, pair_same, place_in, get_front, get_rest, take_joined}
+use Rattle.run_laws.proofs.TouchedLists.{each_turned, each_with, each_at, pair_joined, pair_same, place_in, get_front, get_rest, take_joined}
 
 -- ---- touches of one Issue
 
@@ -35,6 +34,7 @@ touch_of_other : (index issue element cell place bits : ℕ) → issue ≢ index
 touch_of_other index issue element cell place bits other =
     elim (eqb_tells issue index) [ inl same ↦ absurd (other same.1) | inr not ↦ rw not.0 refl ]
 
+-- a touch of this Issue gives its element and its cell
 pub touch_of_own : (index element cell place bits : ℕ) → touch_of index (Touch index element cell place bits) ≡ (element, cell) ∷ []
 touch_of_own index element cell place bits =
     elim (eqb_tells index index) [ inl same ↦ rw same.0 refl | inr not ↦ absurd (not.1 refl) ]
@@ -214,6 +214,7 @@ plain_touches_nothing index (Tested number seen) e = refl
 plain_touches_nothing index (Refused number class seen) e = refl
 plain_touches_nothing index Ended e = refl
 
+-- nor does it name an Issue that is touched
 plain_has_no_issue : (item : Item) (items : List Item) → is_touch item ≡ false → issues_touched (item ∷ items) ≡ issues_touched items
 plain_has_no_issue (Touch of element cell place bits) items e = absurd (cc e)
 plain_has_no_issue (Issue number access) items e = refl
@@ -252,10 +253,10 @@ follows_still log item touches one plain own within follows =
     let cut = take_joined count rest (item ∷ touches) in
     let list = ap (take count) (drop-append-le (one.index + 1) log (item ∷ touches) (omega arith)) ∙ cut.1 in
     let same : touched_by one.index (take count (drop (one.index + 1) (log ++ item ∷ touches))) ≡ touched_by one.index (take count rest) =
-        ap (touched_by one.index) list
-        ∙ flat_map-append (touch_of one.index) (take count rest) (take cut.0 (item ∷ touches))
-        ∙ ap (λ more. touched_by one.index (take count rest) ++ more) (nothing cut.0)
-        ∙ append-nil (touched_by one.index (take count rest)) in
+    ap (touched_by one.index) list
+    ∙ flat_map-append (touch_of one.index) (take count rest) (take cut.0 (item ∷ touches))
+    ∙ ap (λ more. touched_by one.index (take count rest) ++ more) (nothing cut.0)
+    ∙ append-nil (touched_by one.index (take count rest)) in
     ap length same ∙ follows
   where
     away : length log ≢ one.index
@@ -272,8 +273,8 @@ follows_new : (log : List Item) (item : Item) (touches : List Item) (one : Issue
     touched_by (length log) touches ≡ elements_from 0 one.pieces → length touches ≡ length one.pieces → FollowsDirectly (log ++ item ∷ touches) one
 follows_new log item touches one at whole count =
     let list : take (length one.pieces) (drop (length log + 1) (log ++ item ∷ touches)) ≡ touches =
-        ap (take (length one.pieces)) (drop-append-add log (item ∷ touches) 1)
-        ∙ subst (λ n. take n touches ≡ touches) count (take-length touches) in
+    ap (take (length one.pieces)) (drop-append-add log (item ∷ touches) 1)
+    ∙ subst (λ n. take n touches ≡ touches) count (take-length touches) in
     subst (λ n. length (touched_by n (take (length one.pieces) (drop (n + 1) (log ++ item ∷ touches)))) ≡ length one.pieces) (sym at)
     (ap (λ items. length (touched_by (length log) items)) list ∙ ap length whole ∙ elements_count 0 one.pieces)
   where
@@ -286,12 +287,12 @@ issue_before : (memory : Layout) (calls : List Call) (log : List Item) (item : I
     (index issue element cell place bits : ℕ) → slice_get (log ++ item ∷ touches) index ≡ Some (Touch issue element cell place bits) →
     (issue < index) × IsSome (issued_at memory calls (log ++ item ∷ touches) issue)
 issue_before memory calls log item touches block is index issue element cell place bits e = elim (place_in index (length log)) [
-    | inl within ↦
-        let old = is.issues index issue element cell place bits (sym (get_front log (item ∷ touches) index within) ∙ e) in
-        let less : issue < length log = omega (arith, old.0) in
-        (old.0, subst (λ (o : Option Item). IsSome (option_map_or (issued_by memory calls issue) o None)) (sym (get_front log (item ∷ touches) issue less)) old.1)
-    | inr past ↦ in_block past.0 past.1 (sym (get_rest log (item ∷ touches) index past.0 past.1) ∙ e)
-  ]
+  | inl within ↦
+      let old = is.issues index issue element cell place bits (sym (get_front log (item ∷ touches) index within) ∙ e) in
+      let less : issue < length log = omega (arith, old.0) in
+      (old.0, subst (λ (o : Option Item). IsSome (option_map_or (issued_by memory calls issue) o None)) (sym (get_front log (item ∷ touches) issue less)) old.1)
+  | inr past ↦ in_block past.0 past.1 (sym (get_rest log (item ∷ touches) index past.0 past.1) ∙ e)
+]
   where
     issue_there : slice_get (log ++ item ∷ touches) (length log) ≡ Some item
     issue_there = get_rest log (item ∷ touches) (length log) 0 (omega arith)
@@ -309,10 +310,11 @@ issue_before memory calls log item touches block is index issue element cell pla
         let same : item ≡ Touch issue element cell place bits = cc there in
         absurd (cc (sym block.first ∙ ap is_touch same))
     in_block (suc past) at there =
-        let same : issue ≡ length log = each_at (IsTouchOf (length log)) touches past (Touch issue element cell place bits) block.own there in
-        (omega arith,
-        subst (λ n. IsSome (issued_at memory calls (log ++ item ∷ touches) n)) (sym same)
-        (subst (λ (o : Option Item). IsSome (option_map_or (issued_by memory calls (length log)) o None)) (sym issue_there) (has_issue past there)))
+        let same : issue ≡ length log = each_at (IsTouchOf (length log)) touches past (Touch issue element cell place bits) block.own there in (
+          omega arith,
+          subst (λ n. IsSome (issued_at memory calls (log ++ item ∷ touches) n)) (sym same)
+              (subst (λ (o : Option Item). IsSome (option_map_or (issued_by memory calls (length log)) o None)) (sym issue_there) (has_issue past there)),
+        )
 
 -- an item that is touched is a touch
 touches_are : (issue : ℕ) (item : Item) → IsTouchOf issue item → is_touch item ≡ true
@@ -331,11 +333,11 @@ whole_before : (memory : Layout) (calls : List Call) (log : List Item) (item : I
     (index : ℕ) (here : Item) → slice_get (log ++ item ∷ touches) index ≡ Some here → is_touch here ≡ false →
     IsWhole memory calls (take index (log ++ item ∷ touches))
 whole_before memory calls log item touches own is index here e plain = elim (place_in index (length log)) [
-    | inl within ↦
-        subst (IsWhole memory calls) (sym (take-append-le index log (item ∷ touches) (omega arith)))
-        (is.before index here (sym (get_front log (item ∷ touches) index within) ∙ e) plain)
-    | inr past ↦ in_block past.0 past.1 (sym (get_rest log (item ∷ touches) index past.0 past.1) ∙ e)
-  ]
+  | inl within ↦
+      subst (IsWhole memory calls) (sym (take-append-le index log (item ∷ touches) (omega arith)))
+      (is.before index here (sym (get_front log (item ∷ touches) index within) ∙ e) plain)
+  | inr past ↦ in_block past.0 past.1 (sym (get_rest log (item ∷ touches) index past.0 past.1) ∙ e)
+]
   where
     in_block : (past : ℕ) → index ≡ length log + past → slice_get (item ∷ touches) past ≡ Some here → IsWhole memory calls (take index (log ++ item ∷ touches))
     in_block zero at there =
