@@ -13,6 +13,7 @@ pub mod Calm
 pub mod Ending
 pub mod Fuel
 pub mod Moves
+pub mod Ordered
 pub mod Picks
 pub mod Runs
 pub mod TouchedLaw
