@@ -8,7 +8,7 @@ use Rattle.rma_record.specs.declared.items.Item.TheVariants.{Issue, Null, Touch,
 use Rattle.rma_model.specs.Delivery.{Issued}
 use Rattle.rma_model.specs.Items.{is_touch}
 use Rattle.rma_model.specs.Pieces.{numbers_from}
-use Rattle.rma_model.specs.RankLaw.{Post, calls_here, issued_in, IsTouchedWhole, HasItsIssue, FollowsDirectly, IsOwnDirect, KeepsIssueOrder, issues_touched, waits_at, IsAwaitedWhole, KeepsDelay, HasItemsOfCalls, untouched, IsLawfulLog}
+use Rattle.rma_model.specs.RankLaw.{Post, calls_here, issued_in, IsTouchedWhole, HasItsIssue, FollowsDirectly, IsOwnDirect, KeepsIssueOrder, issues_touched, waits_at, IsAwaitedWhole, KeepsDelay, HasItemsOfCalls, untouched, IsLookUpFollowed, IsLawfulLog}
 use Rattle.rma_model.specs.Touches.{EachPair}
 use Rattle.run_laws.proofs.TouchedLists.{each_of, each_turned, pair_turned}
 use Rattle.run_laws.proofs.TouchedLog.{IsTouched}
@@ -86,10 +86,12 @@ lawful_touches post log delay is = record {
   delay = subst (λ d. KeepsDelay d post log) (sym delay) is.direct;
 }
 
--- a log with the items of its calls whose touches are lawful is lawful
-pub lawful_log : (post : Post) (log : List Item) → HasItemsOfCalls post (untouched log) → HasLawfulTouches post log → IsLawfulLog post log
-lawful_log post log calls is = record {
+-- a log with the items of its calls, whose look-ups are followed and whose touches are lawful, is lawful
+pub lawful_log : (post : Post) (log : List Item) → HasItemsOfCalls post (untouched log) → AllByRecursion (IsLookUpFollowed post log) (numbers_from 0 (length log)) →
+    HasLawfulTouches post log → IsLawfulLog post log
+lawful_log post log calls look_ups is = record {
   calls = calls;
+  look_ups = look_ups;
   touches = is.touches;
   issues = is.issues;
   own_direct = is.own_direct;
