@@ -1,5 +1,5 @@
 -- In a run in which no access is delayed, each Issue of a log is followed by its touches.
-use Rattle.std.proofs.Common.{◌≡◌, ℕ, zero, suc, ◌+◌, true, false, List, [], ◌∷◌, ◌++◌, length, get_or, Some, None, refl, sym, ◌∙◌, ap, subst, append_assoc}
+use Rattle.std.proofs.Common.{◌≡◌, ℕ, suc, ◌+◌, true, false, List, [], ◌∷◌, ◌++◌, length, get_or, Some, None, refl, sym, ◌∙◌, ap, subst, append_assoc}
 use Rattle.std.specs.Prelude.{slice_get, slice_index_or, slice_set, map}
 use Rattle.std.specs.List.{AllByRecursion}
 use Rattle.std.proofs.Math.ListN.{get_or-map}
@@ -29,7 +29,7 @@ use Rattle.rma_model.specs.World.{Stage, Agent, World, agent_at, new_agent, call
 use Rattle.run_laws.proofs.Agents.{each_set, each_unmarked}
 use Rattle.run_laws.proofs.Calm.{issue_is_touched}
 use Rattle.run_laws.proofs.Moves.{Ends, RefusesAlone, IsRefused, Tests, Waits, WaitsInside, Passes, Issues, IssuesInside, Enters, Arrives, Leaves, IsAt, GoesOn, IsPlainItem, form_at, entered_by}
-use Rattle.run_laws.proofs.Runs.{KeptByPicks, KeptByMoves, run_keeps, beginning_holds}
+use Rattle.run_laws.proofs.Runs.{KeptByPicks, KeptByMoves, run_keeps, beginning_holds, new_agents_at}
 use Rattle.run_laws.proofs.TouchedLaw.{HasLawfulTouches, lawful_touches}
 use Rattle.run_laws.proofs.TouchedLog.{IsTouchOf, IsBlock, IsTouched, touch_of_own, no_block, block_more}
 
@@ -50,7 +50,7 @@ touches_count t issue element (piece ∷ places) cells =
     ap suc (touches_count t issue (element + 1) places (cells_after cells piece.cell (change_of t element piece.first_byte)))
 
 -- each is of the Issue
-touches_own : (t : Transfer) (issue element : ℕ) (places : List Piece) (cells : List Cell) → AllByRecursion (IsTouchOf issue) (touch_each t issue element places cells).items
+pub touches_own : (t : Transfer) (issue element : ℕ) (places : List Piece) (cells : List Cell) → AllByRecursion (IsTouchOf issue) (touch_each t issue element places cells).items
 touches_own t issue element [] cells = tt
 touches_own t issue element (piece ∷ places) cells =
     (refl, touches_own t issue (element + 1) places (cells_after cells piece.cell (change_of t element piece.first_byte)))
@@ -201,17 +201,11 @@ goes_on_keeps EntryForm after goes agent = ap (λ (a : Agent). a.log) (goes agen
 
 -- ---- beginning, picks, moves and end
 
--- a fact of a new rank holds of each rank at the beginning
-each_new : (P : Agent → Type 0) (seed : ℕ) → ((rank : ℕ) → P (new_agent seed rank)) → P (new_agent 0 0) → (ranks : List ℕ) (at : ℕ) → P (get_or (map (new_agent seed) ranks) at (new_agent 0 0))
-each_new P seed each default [] at = default
-each_new P seed each default (rank ∷ ranks) zero = each rank
-each_new P seed each default (rank ∷ ranks) (suc at) = each_new P seed each default ranks at
-
 -- the logs before the first turn
 pub touched-begins : (stage : Stage) (seed last draws : ℕ) → AllTouched stage (first_world stage seed last draws)
 touched-begins stage seed last draws = record {
   each = λ rank.
-      each_new (IsTouchedAgent stage rank) seed (λ r. no_block stage.layout (calls_at stage rank)) (no_block stage.layout (calls_at stage rank)) (numbers_from 0 stage.script.ranks) rank;
+      new_agents_at seed (IsTouchedAgent stage rank) (λ r. no_block stage.layout (calls_at stage rank)) (no_block stage.layout (calls_at stage rank)) (numbers_from 0 stage.script.ranks) rank;
 }
 
 -- a pick changes no log
@@ -242,7 +236,7 @@ touched-moves stage world next rank may all (Arrives call begins form e) = entry
 touched-moves stage world next rank may all (Leaves call here inside form e) = entry_keeps stage world rank call Leave finished (λ agent. refl) all
 
 -- the log of a rank in the run that a state is
-log_of_run : (world : World) (rank : ℕ) → slice_index_or (run_of world).logs rank [] ≡ (agent_at world rank).log
+pub log_of_run : (world : World) (rank : ℕ) → slice_index_or (run_of world).logs rank [] ≡ (agent_at world rank).log
 log_of_run world rank = get_or-map (λ (agent : Agent). agent.log) world.agents rank (new_agent 0 0)
 
 -- the touches of the log of a rank, whatever the entries
