@@ -10,6 +10,9 @@ pub mod CallsLaw
 pub mod CallsMoves
 pub mod CallsSteps
 pub mod Calm
+pub mod CellsHistory
+pub mod CellsKept
+pub mod CellsTouched
 pub mod Ending
 pub mod Fuel
 pub mod LookUps
