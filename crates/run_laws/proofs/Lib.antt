@@ -15,8 +15,13 @@ pub mod CellsKept
 pub mod CellsTouched
 pub mod Ending
 pub mod Fuel
+pub mod LookUps
 pub mod Moves
 pub mod Ordered
 pub mod Picks
 pub mod Runs
+pub mod TouchedLaw
+pub mod TouchedLists
+pub mod TouchedLog
+pub mod TouchedMoves
 pub mod Turns
