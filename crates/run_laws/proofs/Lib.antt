@@ -12,6 +12,7 @@ pub mod CallsSteps
 pub mod Calm
 pub mod Ending
 pub mod Fuel
+pub mod Inside
 pub mod InsideMemory
 pub mod Moves
 pub mod Ordered
