@@ -15,6 +15,8 @@ pub mod CellsKept
 pub mod CellsTouched
 pub mod Ending
 pub mod Fuel
+pub mod Inside
+pub mod InsideMemory
 pub mod LookUps
 pub mod Moves
 pub mod Ordered
