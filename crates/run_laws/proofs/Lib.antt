@@ -14,14 +14,17 @@ pub mod CellsHistory
 pub mod CellsKept
 pub mod CellsTouched
 pub mod Ending
+pub mod EndsAgree
 pub mod Fuel
 pub mod Inside
 pub mod InsideMemory
+pub mod Lawful
 pub mod LookUps
 pub mod Moves
 pub mod Ordered
 pub mod Picks
 pub mod Runs
+pub mod TouchedFollow
 pub mod TouchedLaw
 pub mod TouchedLists
 pub mod TouchedLog

@@ -26,7 +26,8 @@ use Rattle.run_laws.proofs.Calm.{issue_is_touched}
 use Rattle.run_laws.proofs.Moves.{Ends, RefusesAlone, IsRefused, Tests, Waits, WaitsInside, Passes, Issues, IssuesInside, Enters, Arrives, Leaves, Begins, IsAt, IsCalm, GoesOn, IsPlainItem, form_at, entered_by}
 use Rattle.run_laws.proofs.Runs.{KeptByPicks, KeptByMoves, run_keeps, beginning_holds, new_agents_at}
 use Rattle.run_laws.proofs.TouchedLists.{each_of, each_at, place_in, get_front, get_rest}
-use Rattle.run_laws.proofs.TouchedLog.{IsTouchOf}
+use Rattle.run_laws.proofs.TouchedFollow.{IsTouchOf}
+use Rattle.run_laws.proofs.TouchedLog.{}
 use Rattle.run_laws.proofs.TouchedMoves.{touches_own, log_of_run}
 
 -- ---- a log

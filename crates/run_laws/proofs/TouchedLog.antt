@@ -19,15 +19,12 @@ use Rattle.rma_model.specs.Pieces.{pieces}
 use Rattle.rma_model.specs.RankLaw.{touch_of, touched_by, elements_from, issued_from, IsTouchedWhole, FollowsDirectly, issues_touched}
 use Rattle.rma_model.specs.Touches.{issued_by, issued_at, EachPair}
 use Rattle.rma_model.specs.Transfers.{Transfer, transfer_of}
+use Rattle.rma_model.specs.Orderly.{TouchesFollow}
+use Rattle.run_laws.proofs.TouchedFollow.{IsTouchOf, follow_more}
 use Rattle.run_laws.proofs.Picks.{each_append, each_take}
 use Rattle.run_laws.proofs.TouchedLists.{each_turned, each_with, each_at, pair_joined, pair_same, place_in, get_front, get_rest, take_joined}
 
 -- ---- touches of one Issue
-
--- the item is a touch of the access whose Issue has this index
-abbrev pub IsTouchOf : ℕ → Item → Type 0
-IsTouchOf issue (Touch of element cell place bits) = of ≡ issue
-IsTouchOf issue other = ⊥
 
 -- a touch of another Issue is no touch of this one
 touch_of_other : (index issue element cell place bits : ℕ) → issue ≢ index → touch_of index (Touch issue element cell place bits) ≡ []
@@ -177,6 +174,7 @@ pub record IsTouched (memory : Layout) (calls : List Call) (log : List Item) : T
       (issue < index) × IsSome (issued_at memory calls log issue)
   pub before : (index : ℕ) (item : Item) → slice_get log index ≡ Some item → is_touch item ≡ false →
       IsWhole memory calls (take index log)
+  pub follow : TouchesFollow log
 
 -- ---- what a block leaves
 
@@ -360,6 +358,7 @@ no_block memory calls = record {
   rising = tt;
   issues = λ index issue element cell place bits e. absurd (cc e);
   before = λ index item e plain. absurd (cc e);
+  follow = λ index inside. absurd (omega arith);
 }
 
 -- the facts of a log hold after one block more
@@ -385,6 +384,7 @@ block_more memory calls log item touches is block = record {
       (λ x less. each_turned (λ y. y ≡ length log) (λ y. x ≤ y) (λ y same. omega arith) (issues_touched touches) last) (issues_touched log) is.below));
   issues = issue_before memory calls log item touches block is;
   before = whole_before memory calls log item touches block.own is;
+  follow = follow_more log item touches block.first block.own is.below is.follow;
 }
   where
     next : List Item

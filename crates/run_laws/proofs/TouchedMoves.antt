@@ -31,7 +31,8 @@ use Rattle.run_laws.proofs.Calm.{issue_is_touched}
 use Rattle.run_laws.proofs.Moves.{Ends, RefusesAlone, IsRefused, Tests, Waits, WaitsInside, Passes, Issues, IssuesInside, Enters, Arrives, Leaves, IsAt, GoesOn, IsPlainItem, form_at, entered_by}
 use Rattle.run_laws.proofs.Runs.{KeptByPicks, KeptByMoves, run_keeps, beginning_holds, new_agents_at}
 use Rattle.run_laws.proofs.TouchedLaw.{HasLawfulTouches, lawful_touches}
-use Rattle.run_laws.proofs.TouchedLog.{IsTouchOf, IsBlock, IsTouched, touch_of_own, no_block, block_more}
+use Rattle.run_laws.proofs.TouchedFollow.{IsTouchOf}
+use Rattle.run_laws.proofs.TouchedLog.{IsBlock, IsTouched, touch_of_own, no_block, block_more}
 
 -- ---- the touches that are made
 
