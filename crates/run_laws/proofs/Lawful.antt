@@ -2,6 +2,7 @@
 use Rattle.std.proofs.Common.{◌≡◌, ℕ, ◌+◌, ◌*◌, ◌<◌, ◌≤◌, Bool, true, false, List, [], ◌∷◌, length, get_or, Option, Some, None, refl, sym, ◌∙◌, ap, subst, arith}
 use Rattle.std.specs.Prelude.{slice_get, slice_index_or, map}
 use Rattle.std.specs.List.{list_all}
+use Rattle.std.proofs.lemmas.List.{length-map}
 use Rattle.rma_types.specs.declared.schedules.Delay.TheVariants.{None as NoDelay}
 use Rattle.rma_types.specs.declared.schedules.Order.TheVariants.{Robin}
 use Rattle.rma_types.specs.declared.scripts.Script.{Script}
@@ -12,6 +13,10 @@ use Rattle.rma_model.specs.Items.{has_ended}
 use Rattle.rma_model.specs.LawfulRun.{IsLawful, IsLawfulBy}
 use Rattle.rma_model.specs.Layout.{layout}
 use Rattle.rma_model.specs.Orderly.{HasOrderlyLogs, IsOrderly}
+use Rattle.rma_model.specs.Report.{calls_at as report_calls, log_at}
+use Rattle.rma_types.specs.declared.calls.Call.{Call}
+use Rattle.std.specs.Option.{option_map_or}
+use Rattle.std.proofs.Common.{zero, suc}
 use Rattle.rma_model.specs.RankLaw.{Post, IsLawfulLog}
 use Rattle.rma_model.specs.StepRun.{is_ready, step_run, stage_of, beginning, run_from, most_turns, delivered, last_before, pick}
 use Rattle.rma_model.specs.Generator.{seeded, order_stream}
@@ -20,6 +25,7 @@ use Rattle.run_laws.proofs.BoardMoves.{IsBoardLawful, board_begins, picks_keep_b
 use Rattle.run_laws.proofs.Calls.{HasCalls, calls-begins, calls-gives}
 use Rattle.run_laws.proofs.CallsLaw.{calls_kept_by_picks, calls_kept_by_moves}
 use Rattle.run_laws.proofs.CellsKept.{HasCells, MayIssue, IssuesInsideMemory, cells_begin, cells_picked, move_keeps_cells, cells_are_lawful}
+use Rattle.run_laws.proofs.EndsAgree.{AllAgree, agree_begins, picks_keep_agreement, moves_keep_agreement, all_end_alike}
 use Rattle.run_laws.proofs.Ending.{IsFew, run_ends}
 use Rattle.run_laws.proofs.Fuel.{turns_are_enough}
 use Rattle.run_laws.proofs.Inside.{IsAllocated, IsRoomy, roomy_begins, picks_keep_roomy, moves_keep_roomy, issue_is_inside, built_is_allocated}
@@ -40,6 +46,7 @@ pub record IsKept (stage : Stage) (world : World) : Type 0 where
   pub ordered : AllOrdered stage world
   pub roomy : IsRoomy stage world
   pub cells : HasCells stage world
+  pub ends : AllAgree world
 
 abbrev pub plain_stage : Script → Stage
 plain_stage script = stage_of script NoDelay
@@ -53,6 +60,7 @@ kept_begins stage seed last draws = record {
   ordered = order_begins stage seed last draws;
   roomy = roomy_begins stage seed last draws;
   cells = cells_begin stage seed last draws;
+  ends = agree_begins stage seed last draws;
 }
 
 kept_by_picks : (stage : Stage) → KeptByPicks (IsKept stage)
@@ -64,6 +72,7 @@ kept_by_picks stage world rank is = record {
   ordered = picks_keep_order stage world rank is.ordered;
   roomy = picks_keep_roomy stage world rank is.roomy;
   cells = cells_picked stage world rank is.cells;
+  ends = picks_keep_agreement world rank is.ends;
 }
 
 -- each issued access lies in the memory
@@ -80,6 +89,7 @@ kept_by_moves script allocated world next rank may is move =
       ordered = moves_keep_order stage world next rank may is.ordered move;
       roomy = moves_keep_roomy script NoDelay allocated world next rank may is.roomy move;
       cells = move_keeps_cells stage world next rank may (issues_inside script world rank is.roomy) is.cells move;
+      ends = moves_keep_agreement stage world next rank may is.ends move;
     }
 
 -- ---- the last state
@@ -104,3 +114,65 @@ last_is_over script seed few allocated rank inside =
           (record { calm = beginning_is_calm stage seed last (seeded seed order_stream) refl; ranks = ranks; few = subst (λ n. n ≤ 16) (sym ranks) few })
           (turns_are_enough script NoDelay seed last (seeded seed order_stream) few) in
     none_may_go (last_world script seed) none rank (subst (λ n. rank < n) (sym (last_holds script seed allocated).ranks) inside)
+
+-- ---- the run
+
+last_run : (script : Script) (seed : ℕ) → IsAllocated script → step_run script Robin NoDelay seed ≡ run_of (last_world script seed)
+unfolding step_run
+last_run script seed allocated = ap run_of (delivered_is (plain_stage script) (last_world script seed) (last_holds script seed allocated).calm)
+
+lawful_logs : (script : Script) (seed : ℕ) → script.ranks ≤ 16 → IsAllocated script → (rank : ℕ) → rank < script.ranks →
+    IsLawfulLog (record { stage = plain_stage script; rank = rank; rows = (last_world script seed).rows }) (slice_index_or (run_of (last_world script seed)).logs rank [])
+lawful_logs script seed few allocated rank inside =
+    let stage = plain_stage script in
+    let world = last_world script seed in
+    let kept = (last_holds script seed allocated).fact in
+    let over = last_is_over script seed few allocated rank inside in
+    lawful_log (record { stage = stage; rank = rank; rows = world.rows }) (slice_index_or (run_of world).logs rank [])
+      (calls-gives stage world kept.calls rank over)
+      (followed-gives stage world kept.followed rank world.rows over)
+      (touched-gives stage world refl kept.touched rank world.rows)
+
+-- the last state's run is lawful
+last_is_lawful : (script : Script) (seed : ℕ) → script.ranks ≤ 16 → IsAllocated script → IsLawful script NoDelay (run_of (last_world script seed))
+last_is_lawful script seed few allocated =
+    let stage = plain_stage script in
+    let world = last_world script seed in
+    let holds = last_holds script seed allocated in
+    record {
+      ranks = length-map world.agents (λ (agent : Agent). agent.log) ∙ holds.ranks;
+      cells = cells_are_lawful script NoDelay world holds.ranks holds.fact.cells;
+      rows = world.rows;
+      by = record { board = board_gives script NoDelay world holds.fact.board; logs = lawful_logs script seed few allocated };
+      ended = all_end_alike world.agents holds.fact.ends.each }
+
+-- the step run of a script whose windows are all allocated is lawful, in turn and where nothing is delayed
+pub allocated_run_is_lawful : (script : Script) (seed : ℕ) → script.ranks ≤ 16 → IsAllocated script → IsLawful script NoDelay (step_run script Robin NoDelay seed)
+allocated_run_is_lawful script seed few allocated =
+    subst (IsLawful script NoDelay) (sym (last_run script seed allocated)) (last_is_lawful script seed few allocated)
+
+-- so is that of a script of the built form
+pub step_run_is_lawful : (script : Script) (seed : ℕ) → IsBuilt script → IsLawful script NoDelay (step_run script Robin NoDelay seed)
+step_run_is_lawful script seed built = allocated_run_is_lawful script seed built.few_ranks (built_is_allocated script built)
+
+-- ---- the order of the logs
+
+in_list : {X : Type 0} (xs : List X) (i : ℕ) (d : X) → option_map_or (λ x. x) (slice_get xs i) d ≡ get_or xs i d
+in_list [] i d = refl
+in_list (x ∷ xs) zero d = refl
+in_list (x ∷ xs) (suc i) d = in_list xs i d
+
+last_is_orderly : (script : Script) (seed : ℕ) → IsAllocated script → HasOrderlyLogs script (run_of (last_world script seed))
+last_is_orderly script seed allocated rank inside =
+    let world = last_world script seed in
+    let kept = (last_holds script seed allocated).fact in
+    let calls : report_calls script rank ≡ calls_at (plain_stage script) rank = in_list script.calls rank [] in
+    let log : log_at (run_of world) rank ≡ (agent_at world rank).log = in_list (run_of world).logs rank [] ∙ log_in_run world rank in
+    subst (λ (c : List Call). IsOrderly c (log_at (run_of world) rank)) (sym calls)
+      (subst (IsOrderly (calls_at (plain_stage script) rank)) (sym log)
+        (record { in_order = (kept.ordered.each rank).order; touches_follow = (kept.touched.each rank).follow }))
+
+pub step_run_is_orderly : (script : Script) (seed : ℕ) → IsBuilt script → HasOrderlyLogs script (step_run script Robin NoDelay seed)
+step_run_is_orderly script seed built =
+    let allocated = built_is_allocated script built in
+    subst (HasOrderlyLogs script) (sym (last_run script seed allocated)) (last_is_orderly script seed allocated)
