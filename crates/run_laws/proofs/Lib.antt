@@ -14,6 +14,7 @@ pub mod Ending
 pub mod Fuel
 pub mod Inside
 pub mod InsideMemory
+pub mod LookUps
 pub mod Moves
 pub mod Ordered
 pub mod Picks
