@@ -1,5 +1,5 @@
 -- The look-up of an RMA call on a dynamic window is directly followed by its Issue.
-use Rattle.std.proofs.Common.{◌≡◌, ℕ, zero, suc, ◌+◌, ◌<◌, ◌⊎◌, inl, inr, Bool, true, false, List, [], ◌∷◌, ◌++◌, length, get_or, Option, Some, None, refl, sym, ◌∙◌, ap, subst, arith, append_assoc}
+use Rattle.std.proofs.Common.{◌≡◌, ℕ, zero, suc, ◌+◌, ◌⊎◌, inl, inr, true, false, List, [], ◌∷◌, ◌++◌, length, get_or, Option, Some, None, refl, sym, ◌∙◌, ap, subst, arith, append_assoc}
 use Rattle.std.specs.Prelude.{slice_get, slice_set, slice_index_or, map, is_some, IsTrue, IsSome, IsSomeAnd}
 use Rattle.std.specs.List.{AllByRecursion}
 use Rattle.std.proofs.lemmas.Bool.{eq-eqb}
@@ -7,6 +7,8 @@ use Rattle.rma_types.specs.declared.accesses.Access.{Access}
 use Rattle.rma_types.specs.declared.accesses.Step.{Step}
 use Rattle.rma_types.specs.declared.accesses.Step.TheVariants.{Arrive, Leave, One}
 use Rattle.rma_types.specs.declared.calls.Call.{Call}
+use Rattle.rma_types.specs.declared.schedules.Delay.TheVariants.{None as NoDelay}
+use Rattle.rma_types.specs.declared.schedules.Order.TheVariants.{Robin}
 use Rattle.rma_record.specs.declared.items.Item.{Item}
 use Rattle.rma_record.specs.declared.items.Item.TheVariants.{Issue, Null, Touch, Flush, Request, Entry, Tested, Refused, Ended}
 use Rattle.rma_model.specs.declared.cells.Cell.{Cell}
@@ -14,7 +16,7 @@ use Rattle.rma_model.specs.declared.elements.Piece.{Piece}
 use Rattle.rma_model.specs.Forms.{Form, NullForm, IssueForm, LookUpForm, FlushForm, RequestForm, CollectiveForm, TestForm, EntryForm, access_of}
 use Rattle.rma_model.specs.Pieces.{numbers_from, pieces}
 use Rattle.rma_model.specs.RankLaw.{Post, calls_here, belongs_to, IsLookUpFollowed}
-use Rattle.rma_model.specs.StepRun.{is_ready}
+use Rattle.rma_model.specs.StepRun.{is_ready, run_from}
 use Rattle.rma_model.specs.Transfers.{Transfer, transfer_of}
 use Rattle.rma_model.specs.Turns.{row_of, with_item, with_mark, opened, with_issue}
 use Rattle.rma_model.specs.Windows.{Window}
@@ -23,10 +25,9 @@ use Rattle.run_laws.proofs.Agents.{each_set, each_unmarked}
 use Rattle.run_laws.proofs.BoardMoves.{log_in_run}
 use Rattle.run_laws.proofs.Calm.{issue_is_touched}
 use Rattle.run_laws.proofs.CallForms.{look_up_moves, test_moves_nothing, entry_moves_nothing, collective_moves_nothing}
-use Rattle.run_laws.proofs.CallsKnown.{post_of}
 use Rattle.run_laws.proofs.Ending.{ready_agent}
-use Rattle.run_laws.proofs.Moves.{Move, Ends, RefusesAlone, IsRefused, Tests, Waits, WaitsInside, Passes, Issues, IssuesInside, Enters, Arrives, Leaves, Begins, IsAt, IsCalm, IsPlainItem, GoesOn, form_at, entered_by}
-use Rattle.run_laws.proofs.Runs.{MayMove, KeptByMoves, KeptByPicks, new_agents_at}
+use Rattle.run_laws.proofs.Moves.{Ends, RefusesAlone, IsRefused, Tests, Waits, WaitsInside, Passes, Issues, IssuesInside, Enters, Arrives, Leaves, Begins, IsAt, IsCalm, IsPlainItem, GoesOn, form_at, entered_by}
+use Rattle.run_laws.proofs.Runs.{KeptByMoves, KeptByPicks, run_keeps, beginning_holds, new_agents_at}
 
 -- ---- logs
 
@@ -336,3 +337,9 @@ look_ups_give stage world all post same unready =
     let there : AreFollowed (calls_here post) log =
     subst (λ (s : Stage). AreFollowed (calls_at s post.rank) log) (sym same) (subst (AreFollowed (calls_at stage post.rank)) (sym (log_in_run world post.rank)) done) in
     each_number (IsLookUpFollowed post log) (look_up_is_followed post log there) 0 (length log)
+
+-- the facts after any number of turns
+pub look_ups_after : (stage : Stage) (seed last draws turns : ℕ) → stage.delay ≡ NoDelay → AllFollowLookUps stage (run_from stage Robin turns (first_world stage seed last draws))
+look_ups_after stage seed last draws turns delay =
+    (run_keeps stage (AllFollowLookUps stage) (picks_keep_look_ups stage) (moves_keep_look_ups stage) turns (first_world stage seed last draws)
+    (beginning_holds stage (AllFollowLookUps stage) seed last draws delay (look_ups_begin stage seed last draws))).fact
