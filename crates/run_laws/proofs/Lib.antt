@@ -10,6 +10,9 @@ pub mod CallsLaw
 pub mod CallsMoves
 pub mod CallsSteps
 pub mod Calm
+pub mod CellsHistory
+pub mod CellsKept
+pub mod CellsTouched
 pub mod Ending
 pub mod Fuel
 pub mod Inside
@@ -19,4 +22,8 @@ pub mod Moves
 pub mod Ordered
 pub mod Picks
 pub mod Runs
+pub mod TouchedLaw
+pub mod TouchedLists
+pub mod TouchedLog
+pub mod TouchedMoves
 pub mod Turns

@@ -1,0 +1,2 @@
+-- Lemmas over the engine's definitions.
+pub mod Same
