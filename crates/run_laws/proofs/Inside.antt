@@ -1,10 +1,10 @@
 -- Where a script's windows are all allocated, each access that is issued lies in the memory.
 use Rattle.std.proofs.Common.{◌≡◌, ℕ, zero, suc, ◌+◌, ◌*◌, ◌/◌, ◌<◌, ◌≤◌, ◌⊎◌, inl, inr, Bool, true, false, not, ◌&&◌, cond, List, [], ◌∷◌, ◌++◌, length, get_or, take, Option, Some, None, refl, sym, ◌∙◌, ap, subst, arith}
-use Rattle.std.specs.Prelude.{map, slice_get, slice_set, slice_index_or, nat_lt, ◌==◌, ℤ, pos, replicate}
+use Rattle.std.specs.Prelude.{map, slice_get, slice_set, slice_index_or, nat_lt, ◌==◌}
 use Rattle.std.specs.List.{AllByRecursion, filter, find}
 use Rattle.std.specs.Option.{option_map_or}
 use Rattle.std.proofs.lemmas.Bool.{and_parts, eqb-true, ltb-false}
-use Rattle.std.proofs.lemmas.List.{length-map, length-replicate}
+use Rattle.std.proofs.lemmas.List.{length-replicate}
 use Rattle.rma_types.specs.declared.accesses.Access.{Access}
 use Rattle.rma_types.specs.declared.accesses.Step.{Step}
 use Rattle.rma_types.specs.declared.accesses.Step.TheVariants.{Arrive, Leave, One}
@@ -12,10 +12,11 @@ use Rattle.rma_types.specs.declared.classes.Class.{Class}
 use Rattle.rma_types.specs.declared.dtypes.Dtype.{Dtype}
 use Rattle.rma_types.specs.declared.dtypes.Dtype.TheVariants.{Int8, Int16, Int32, Uint8, Uint16, Uint32, Byte}
 use Rattle.rma_types.specs.Datatypes.{size_of}
-use Rattle.rma_types.specs.declared.calls.Flavor.{Flavor}
 use Rattle.rma_types.specs.declared.calls.Call.{Call}
-use Rattle.rma_types.specs.declared.calls.Call.TheVariants.{Allocate, Create, Dynamic, Free, Fence, TestWin, Flush, FlushAll, FlushLocal, FlushLocalAll, Sync, Barrier, WaitReq, TestReq, Put, Load}
+use Rattle.rma_types.specs.declared.calls.Call.TheVariants.{Allocate, Create, Dynamic, Free, Fence, TestWin, Flush, FlushAll, FlushLocal, FlushLocalAll, Sync, Barrier, WaitReq, TestReq}
 use Rattle.rma_types.specs.declared.schedules.Delay.{Delay}
+use Rattle.rma_types.specs.declared.schedules.Delay.TheVariants.{None as NoDelay}
+use Rattle.rma_types.specs.declared.schedules.Order.TheVariants.{Robin}
 use Rattle.rma_types.specs.declared.scripts.Script.{Script}
 use Rattle.rma_types.specs.declared.scripts.Layout.{Layout}
 use Rattle.rma_types.specs.declared.scripts.Part.{Part}
@@ -25,24 +26,24 @@ use Rattle.rma_model.specs.declared.elements.Piece.{Piece}
 use Rattle.rma_model.specs.BoardLaw.{NamesItsCall}
 use Rattle.rma_model.specs.BuiltForm.{IsBuilt, IsBuiltList, IsBuiltCall, IsBuiltAllocate}
 use Rattle.rma_model.specs.Entries.{Row, Act, acts, acts_after, is_arrive, is_creation}
-use Rattle.rma_model.specs.Epochs.{AccessState, ExposureState, Idle, Unexposed, access_after, exposure_after}
+use Rattle.rma_model.specs.Epochs.{access_after, exposure_after}
 use Rattle.rma_model.specs.Forms.{Form, NullForm, IssueForm, LookUpForm, FlushForm, RequestForm, CollectiveForm, TestForm, EntryForm, form_of, transfer_form, access_of}
-use Rattle.rma_model.specs.Knowledge.{Knowledge, next_number, without_window, with_epochs, with_window, after_call, accepted_by, entry_place, learn}
+use Rattle.rma_model.specs.Knowledge.{Knowledge, next_number, after_call, accepted_by, entry_place, learn}
 use Rattle.rma_model.specs.Layout.{layout, cells_of}
 use Rattle.rma_model.specs.OwnTests.{Seat, own, tests, first_class, window_at, rank_reached, address_of, bytes_of, passes_end, has_wrong_range}
-use Rattle.rma_model.specs.Pieces.{numbers_from, piece_at, pieces, first_cell}
-use Rattle.rma_model.specs.StepRun.{stage_of}
-use Rattle.rma_model.specs.Synchronising.{is_dynamic_flavor, flavor_made, window_named}
+use Rattle.rma_model.specs.Pieces.{numbers_from, piece_at, pieces}
+use Rattle.rma_model.specs.StepRun.{stage_of, run_from}
+use Rattle.rma_model.specs.Synchronising.{is_dynamic_flavor, window_named}
 use Rattle.rma_model.specs.Transfers.{Transfer, Target, Own, Null, Named, transfer_of, is_null}
 use Rattle.rma_model.specs.Turns.{row_of, with_item, with_mark, opened, with_issue}
-use Rattle.rma_model.specs.Windows.{Window, window_in, natural, base_of, part_made, part_in, part_of, shape_of, no_part}
-use Rattle.rma_model.specs.World.{Stage, Agent, World, agent_at, new_agent, calls_at, seat_of, kept, finished, unmarked, with_touches, shapes_after, first_world}
+use Rattle.rma_model.specs.Windows.{Window, window_in, part_made, part_in, part_of, shape_of, no_part}
+use Rattle.rma_model.specs.World.{Stage, Agent, World, agent_at, new_agent, seat_of, kept, finished, unmarked, shapes_after, first_world}
 use Rattle.run_laws.proofs.Agents.{each_set, each_unmarked}
 use Rattle.run_laws.proofs.Calm.{issue_is_touched}
 use Rattle.run_laws.proofs.InsideMemory.{bytes_at, allocate_has_memory, byte_is_inside}
-use Rattle.run_laws.proofs.Moves.{Move, Ends, RefusesAlone, IsRefused, Tests, Waits, WaitsInside, Passes, Issues, IssuesInside, Enters, Arrives, Leaves, Begins, IsAt, IsCalm, GoesOn, form_at, entered_by}
+use Rattle.run_laws.proofs.Moves.{Ends, RefusesAlone, IsRefused, Tests, Waits, WaitsInside, Passes, Issues, IssuesInside, Enters, Arrives, Leaves, Begins, IsAt, IsCalm, GoesOn, form_at, entered_by}
 use Rattle.run_laws.proofs.Picks.{each_append, each_take, numbers_below}
-use Rattle.run_laws.proofs.Runs.{MayMove, KeptByMoves, KeptByPicks, new_agents_at}
+use Rattle.run_laws.proofs.Runs.{MayMove, KeptByMoves, KeptByPicks, run_keeps, beginning_holds, new_agents_at}
 
 -- ---- scripts whose windows are all allocated
 
@@ -427,6 +428,14 @@ issue_is_inside script delay world rank call t window roomy moves live (inr (ent
     let room = live_is_roomy (layout script) seat call window (roomy.each rank) live in
     absurd (plain_is_not_looked_up window t.target room.plain
     (ap (λ o. transfer_form o t.target) (sym live) ∙ sym (form_of_transfer seat call t moves) ∙ form))
+
+-- the windows lie in the memory after any number of turns
+pub roomy_after : (script : Script) → IsAllocated script → (seed last draws turns : ℕ) →
+    IsRoomy (stage_of script NoDelay) (run_from (stage_of script NoDelay) Robin turns (first_world (stage_of script NoDelay) seed last draws))
+roomy_after script allocated seed last draws turns =
+    let stage = stage_of script NoDelay in
+    (run_keeps stage (IsRoomy stage) (picks_keep_roomy stage) (moves_keep_roomy script NoDelay allocated) turns (first_world stage seed last draws)
+    (beginning_holds stage (IsRoomy stage) seed last draws refl (roomy_begins stage seed last draws))).fact
 
 -- ---- scripts of the built form
 
