@@ -1,19 +1,16 @@
 -- The board of a run in which no access is delayed is lawful.
-use Rattle.std.proofs.Common.{◌≡◌, ◌≢◌, ℕ, zero, suc, ◌+◌, ◌<◌, ◌≤◌, Bool, true, false, cond, List, [], ◌∷◌, ◌++◌, length, get_or, take, Option, Some, None, refl, sym, ◌∙◌, ap, subst, arith, add-one, append_assoc}
-use Rattle.std.specs.Prelude.{slice_get, slice_set, slice_index_or, map, IsSomeAnd, ◌==◌, if◌then◌else◌}
-use Rattle.std.specs.List.{flat_map, AllByRecursion}
+use Rattle.std.proofs.Common.{◌≡◌, ℕ, zero, suc, ◌+◌, ◌<◌, ◌≤◌, cond, List, [], ◌∷◌, ◌++◌, length, Some, refl, sym, ◌∙◌, ap, subst, arith, append_assoc}
+use Rattle.std.specs.Prelude.{slice_get, IsSomeAnd, ◌==◌, if◌then◌else◌}
+use Rattle.std.specs.List.{AllByRecursion}
 use Rattle.std.proofs.lemmas.Grind.{flat_map-append}
 use Rattle.std.proofs.lemmas.List.{take-append-le, append-nil}
 use Rattle.std.proofs.lemmas.Bool.{eq-eqb, ne_eqb}
 use Rattle.std.proofs.Common.{length-append, zero-add, add-zero}
-use Rattle.rma_types.specs.declared.accesses.Step.{Step}
-use Rattle.rma_types.specs.declared.classes.Class.{Class}
 use Rattle.rma_types.specs.declared.calls.Call.{Call}
-use Rattle.rma_types.specs.declared.scripts.Script.{Script}
 use Rattle.rma_record.specs.declared.items.Item.{Item}
 use Rattle.rma_record.specs.declared.items.Item.TheVariants.{Issue, Null, Touch, Flush, Request, Entry, Tested, Refused, Ended}
-use Rattle.rma_model.specs.Board.{Allow, NotYet, Refuse, decide, shared}
-use Rattle.rma_model.specs.BoardLaw.{Mark, mark_by, marks_in, marks_from, NamesItsCall, first_row, AreAllowed, IsLook, Moment, EntryAt, LookAfter, moment_by, moments_in, IsBefore, IsWithin, HasLawfulLooks}
+use Rattle.rma_model.specs.Board.{NotYet, decide, shared}
+use Rattle.rma_model.specs.BoardLaw.{Mark, mark_by, marks_in, marks_from, first_row, IsLook, Moment, EntryAt, LookAfter, moment_by, moments_in, IsBefore, IsWithin}
 use Rattle.rma_model.specs.Entries.{Row}
 use Rattle.rma_model.specs.Touches.{EachPair}
 use Rattle.run_laws.proofs.Picks.{each_append}
@@ -107,10 +104,11 @@ LooksGrow ranks calls rows row rank log =
     × AllByRecursion (IsWithin (length (rows ++ row ∷ []))) (moments_in log)
 
 fits_grows : (ranks : ℕ) (calls : List Call) (rows : List Row) (row : Row) (rank : ℕ) (log : List Item) → FitsBoard ranks calls rows rank log → LooksGrow ranks calls rows row rank log
-fits_grows ranks calls rows row rank log fits =
-    (each_map_two (IsLook ranks rows rank calls) (IsSeen (length rows)) (IsLook ranks (rows ++ row ∷ []) rank calls) (look_grows ranks calls rows (row ∷ []) rank) log fits.looks fits.seen,
-     each_map (IsSeen (length rows)) (IsSeen (length (rows ++ row ∷ []))) (seen_grows (length rows) (length (rows ++ row ∷ [])) (longer rows row)) log fits.seen,
-     each_map (IsWithin (length rows)) (IsWithin (length (rows ++ row ∷ []))) (within_grows (length rows) (length (rows ++ row ∷ [])) (longer rows row)) (moments_in log) fits.within)
+fits_grows ranks calls rows row rank log fits = (
+  each_map_two (IsLook ranks rows rank calls) (IsSeen (length rows)) (IsLook ranks (rows ++ row ∷ []) rank calls) (look_grows ranks calls rows (row ∷ []) rank) log fits.looks fits.seen,
+  each_map (IsSeen (length rows)) (IsSeen (length (rows ++ row ∷ []))) (seen_grows (length rows) (length (rows ++ row ∷ [])) (longer rows row)) log fits.seen,
+  each_map (IsWithin (length rows)) (IsWithin (length (rows ++ row ∷ []))) (within_grows (length rows) (length (rows ++ row ∷ [])) (longer rows row)) (moments_in log) fits.within,
+)
 
 -- another rank's log fits the entries with one more
 pub other_fits : (ranks : ℕ) (calls : List Call) (rows : List Row) (row : Row) (rank : ℕ) (log : List Item) → (row.rank ≡ rank → ⊥) → FitsBoard ranks calls rows rank log → FitsBoard ranks calls (rows ++ row ∷ []) rank log
@@ -119,7 +117,11 @@ other_fits ranks calls rows row rank log other fits =
     let no_mark : marks_of_row rank (0 + length rows) row ≡ [] = ap (λ b. cond b (record { place = 0 + length rows; number = row.number; step = row.step } ∷ []) []) (ne_eqb row.rank rank other) in
     record {
       marks = fits.marks ∙ sym (marks_from_append rank 0 rows row ∙ ap (λ marks. marks_from rank 0 rows ++ marks) no_mark ∙ append-nil (marks_from rank 0 rows));
-      looks = grown.0; seen = grown.1; moments = fits.moments; within = grown.2 }
+      looks = grown.0;
+      seen = grown.1;
+      moments = fits.moments;
+      within = grown.2;
+    }
 
 -- this rank's log fits the entries with its own
 pub entry_fits : (ranks : ℕ) (calls : List Call) (rows : List Row) (row : Row) (rank : ℕ) (log : List Item) → row.rank ≡ rank → FitsBoard ranks calls rows rank log →
@@ -129,7 +131,7 @@ entry_fits ranks calls rows row rank log mine fits =
     let entry = Entry row.number (length rows) row.step in
     let mark : List Mark = record { place = length rows; number = row.number; step = row.step } ∷ [] in
     let has_mark : marks_of_row rank (0 + length rows) row ≡ mark =
-      ap (λ n. marks_of_row rank n row) (zero-add (length rows)) ∙ ap (λ b. cond b mark []) (eq-eqb row.rank rank mine) in
+    ap (λ n. marks_of_row rank n row) (zero-add (length rows)) ∙ ap (λ b. cond b mark []) (eq-eqb row.rank rank mine) in
     let seams = moments_append log (entry ∷ []) in
     let before : AllByRecursion (λ m. IsBefore m (EntryAt (length rows))) (moments_in log) = each_map (IsWithin (length rows)) (λ m. IsBefore m (EntryAt (length rows))) entry_after (moments_in log) fits.within in
     let inside : length rows < length (rows ++ row ∷ []) = omega (arith, length-append {A = Row}) in
@@ -138,11 +140,12 @@ entry_fits ranks calls rows row rank log mine fits =
       looks = each_append (IsLook ranks (rows ++ row ∷ []) rank calls) log (entry ∷ []) grown.0 (tt, tt);
       seen = each_append (IsSeen (length (rows ++ row ∷ []))) log (entry ∷ []) grown.1 (tt, tt);
       moments = subst (EachPair IsBefore) (sym seams) (pair_append IsBefore (moments_in log) (EntryAt (length rows)) fits.moments before);
-      within = subst (AllByRecursion (IsWithin (length (rows ++ row ∷ [])))) (sym seams) (each_append (IsWithin (length (rows ++ row ∷ []))) (moments_in log) (EntryAt (length rows) ∷ []) grown.2 (inside, tt)) }
+      within = subst (AllByRecursion (IsWithin (length (rows ++ row ∷ [])))) (sym seams) (each_append (IsWithin (length (rows ++ row ∷ []))) (moments_in log) (EntryAt (length rows) ∷ []) grown.2 (inside, tt));
+    }
   where
-  entry_after : (m : Moment) → IsWithin (length rows) m → IsBefore m (EntryAt (length rows))
-  entry_after (EntryAt place) h = h
-  entry_after (LookAfter seen) h = h
+    entry_after : (m : Moment) → IsWithin (length rows) m → IsBefore m (EntryAt (length rows))
+    entry_after (EntryAt place) h = h
+    entry_after (LookAfter seen) h = h
 
 -- ---- the log grows by other items
 
@@ -182,14 +185,15 @@ quiet_item_fits ranks calls rows rank log item q fits =
       looks = each_append (IsLook ranks rows rank calls) log (item ∷ []) fits.looks (quiet.0, tt);
       seen = each_append (IsSeen (length rows)) log (item ∷ []) fits.seen (quiet.1, tt);
       moments = subst (EachPair IsBefore) (sym no_moments) fits.moments;
-      within = subst (AllByRecursion (IsWithin (length rows))) (sym no_moments) fits.within }
+      within = subst (AllByRecursion (IsWithin (length rows))) (sym no_moments) fits.within;
+    }
 
 pub quiet_items_fit : (ranks : ℕ) (calls : List Call) (rows : List Row) (rank : ℕ) (items log : List Item) → AllByRecursion IsQuiet items → FitsBoard ranks calls rows rank log →
     FitsBoard ranks calls rows rank (log ++ items)
 quiet_items_fit ranks calls rows rank [] log q fits = subst (FitsBoard ranks calls rows rank) (sym (append-nil log)) fits
 quiet_items_fit ranks calls rows rank (item ∷ items) log q fits =
     subst (FitsBoard ranks calls rows rank) (append_assoc log (item ∷ []) items)
-      (quiet_items_fit ranks calls rows rank items (log ++ item ∷ []) q.1 (quiet_item_fits ranks calls rows rank log item q.0 fits))
+    (quiet_items_fit ranks calls rows rank items (log ++ item ∷ []) q.1 (quiet_item_fits ranks calls rows rank log item q.0 fits))
 
 -- a look at all entries that are there
 pub look_fits : (ranks : ℕ) (calls : List Call) (rows : List Row) (rank : ℕ) (log : List Item) (item : Item) → IsLook ranks rows rank calls item → IsSeen (length rows) item →
@@ -203,8 +207,9 @@ look_fits ranks calls rows rank log item look seen mark moment fits =
       looks = each_append (IsLook ranks rows rank calls) log (item ∷ []) fits.looks (look, tt);
       seen = each_append (IsSeen (length rows)) log (item ∷ []) fits.seen (seen, tt);
       moments = subst (EachPair IsBefore) (sym one_moment) (pair_append IsBefore (moments_in log) (LookAfter (length rows)) fits.moments before);
-      within = subst (AllByRecursion (IsWithin (length rows))) (sym one_moment) (each_append (IsWithin (length rows)) (moments_in log) (LookAfter (length rows) ∷ []) fits.within (omega arith, tt)) }
+      within = subst (AllByRecursion (IsWithin (length rows))) (sym one_moment) (each_append (IsWithin (length rows)) (moments_in log) (LookAfter (length rows) ∷ []) fits.within (omega arith, tt));
+    }
   where
-  look_after : (m : Moment) → IsWithin (length rows) m → IsBefore m (LookAfter (length rows))
-  look_after (EntryAt place) h = h
-  look_after (LookAfter seen) h = h
+    look_after : (m : Moment) → IsWithin (length rows) m → IsBefore m (LookAfter (length rows))
+    look_after (EntryAt place) h = h
+    look_after (LookAfter seen) h = h

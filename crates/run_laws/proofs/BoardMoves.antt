@@ -1,7 +1,7 @@
 -- Every move keeps the board lawful where no access is delayed.
-use Rattle.std.proofs.Common.{◌≡◌, ◌≢◌, ℕ, zero, suc, ◌+◌, ◌<◌, ◌≤◌, Bool, true, false, cond, List, [], ◌∷◌, ◌++◌, length, get_or, take, Option, Some, None, refl, sym, ◌∙◌, ap, subst, arith, append_assoc}
+use Rattle.std.proofs.Common.{◌≡◌, ℕ, zero, suc, ◌+◌, ◌<◌, Bool, true, false, cond, List, [], ◌∷◌, ◌++◌, length, get_or, take, Option, Some, None, refl, sym, ◌∙◌, ap, subst, arith, append_assoc}
 use Rattle.std.proofs.lemmas.List.{append-nil}
-use Rattle.std.specs.Prelude.{slice_get, slice_set, slice_index_or, map, IsSomeAnd}
+use Rattle.std.specs.Prelude.{slice_set, slice_index_or, map}
 use Rattle.std.specs.List.{AllByRecursion}
 use Rattle.std.proofs.Math.Seq.{take-length}
 use Rattle.std.proofs.Math.ListN.{get_or-map}
@@ -13,27 +13,26 @@ use Rattle.rma_types.specs.declared.calls.Call.{Call}
 use Rattle.rma_types.specs.declared.schedules.Delay.{Delay}
 use Rattle.rma_types.specs.declared.scripts.Script.{Script}
 use Rattle.rma_record.specs.declared.items.Item.{Item}
-use Rattle.rma_record.specs.declared.items.Item.TheVariants.{Issue, Null, Touch, Flush, Request, Entry, Tested, Refused, Ended}
-use Rattle.rma_record.specs.declared.runs.Run.{Run}
+use Rattle.rma_record.specs.declared.items.Item.TheVariants.{Issue, Entry, Tested, Refused, Ended}
 use Rattle.rma_model.specs.declared.elements.Piece.{Piece}
 use Rattle.rma_model.specs.declared.cells.Cell.{Cell}
-use Rattle.rma_model.specs.Board.{Decision, Allow, NotYet, Refuse, decide, shared, decision, refusal, question, is_allowed_now}
-use Rattle.rma_model.specs.BoardLaw.{NamesItsCall, AreEntries, AreAllowed, IsLook, HasLawfulLooks, HasLawfulBoard, LookAfter, first_row, first_step, mark_by, moment_by, marks_in, marks_from}
-use Rattle.rma_model.specs.Entries.{Row, is_testwin}
+use Rattle.rma_model.specs.Board.{Allow, NotYet, Refuse, decide, shared, question, is_allowed_now}
+use Rattle.rma_model.specs.BoardLaw.{NamesItsCall, AreAllowed, IsLook, HasLawfulLooks, HasLawfulBoard, LookAfter, first_row, first_step, mark_by, moment_by, marks_in}
+use Rattle.rma_model.specs.Entries.{Row}
 use Rattle.rma_model.specs.Forms.{Form, NullForm, IssueForm, LookUpForm, FlushForm, RequestForm, CollectiveForm, TestForm, EntryForm, access_of}
 use Rattle.rma_model.specs.Pieces.{pieces}
 use Rattle.rma_model.specs.RankLaw.{needs_board}
 use Rattle.rma_model.specs.Transfers.{Transfer}
 use Rattle.rma_model.specs.Turns.{row_of, answer, with_item, with_mark, opened, with_issue}
 use Rattle.rma_model.specs.Windows.{Window}
-use Rattle.rma_model.specs.World.{Stage, Agent, World, agent_at, new_agent, with_agent, calls_at, seat_of, kept, finished, unmarked, with_entry, with_touches, touch_each, run_of}
-use Rattle.run_laws.proofs.Agents.{each_set, each_set_apart, each_unmarked}
+use Rattle.rma_model.specs.World.{Stage, Agent, World, agent_at, new_agent, calls_at, seat_of, kept, finished, unmarked, touch_each, run_of}
+use Rattle.run_laws.proofs.Agents.{each_set, each_set_apart}
 use Rattle.run_laws.proofs.BoardLaw.{FitsBoard, IsQuiet, IsSeen, quiet_item_fits, quiet_items_fit, look_fits, entry_fits, other_fits}
 use Rattle.run_laws.proofs.Calm.{issue_is_touched}
 use Rattle.run_laws.proofs.CallForms.{collective_arrives, test_has_one_step, entry_has_one_step, look_up_has_one_step}
-use Rattle.run_laws.proofs.Moves.{Move, Ends, RefusesAlone, IsRefused, Tests, Waits, WaitsInside, Passes, Issues, IssuesInside, Enters, Arrives, Leaves, Begins, IsAt, IsCalm, IsPlainItem, GoesOn, form_at, step_by, entered_by}
+use Rattle.run_laws.proofs.Moves.{Ends, RefusesAlone, IsRefused, Tests, Waits, WaitsInside, Passes, Issues, IssuesInside, Enters, Arrives, Leaves, IsAt, IsCalm, IsPlainItem, GoesOn, form_at, step_by, entered_by}
 use Rattle.run_laws.proofs.Picks.{each_append}
-use Rattle.run_laws.proofs.Runs.{MayMove, KeptByMoves, KeptByPicks, new_agents_at}
+use Rattle.run_laws.proofs.Runs.{KeptByMoves, KeptByPicks, new_agents_at}
 use Rattle.rma_model.specs.Pieces.{numbers_from}
 use Rattle.rma_model.specs.StepRun.{stage_of}
 use Rattle.rma_model.specs.World.{first_world}
@@ -66,17 +65,21 @@ with_log stage rows agents rank next all here = each_set (Fits stage rows) agent
 
 quiet_item_keeps : (stage : Stage) (world : World) (rank : ℕ) (item : Item) → IsQuiet item → IsBoardLawful stage world → IsBoardLawful stage (with_item stage world rank item)
 quiet_item_keeps stage world rank item quiet lawful = record {
-  calls = lawful.calls; allowed = lawful.allowed;
+  calls = lawful.calls;
+  allowed = lawful.allowed;
   logs = with_log stage world.rows world.agents rank (finished (kept stage world.rows rank (agent_at world rank) item)) lawful.logs
-    (λ inside. quiet_item_fits stage.script.ranks (calls_at stage rank) world.rows rank (agent_at world rank).log item quiet (lawful.logs rank inside)) }
+      (λ inside. quiet_item_fits stage.script.ranks (calls_at stage rank) world.rows rank (agent_at world rank).log item quiet (lawful.logs rank inside));
+}
 
 -- a look at all entries
 look_keeps : (stage : Stage) (world : World) (rank : ℕ) (item : Item) → IsLook stage.script.ranks world.rows rank (calls_at stage rank) item → IsSeen (length world.rows) item →
     mark_by item ≡ [] → moment_by item ≡ LookAfter (length world.rows) ∷ [] → IsBoardLawful stage world → IsBoardLawful stage (with_item stage world rank item)
 look_keeps stage world rank item look seen mark moment lawful = record {
-  calls = lawful.calls; allowed = lawful.allowed;
+  calls = lawful.calls;
+  allowed = lawful.allowed;
   logs = with_log stage world.rows world.agents rank (finished (kept stage world.rows rank (agent_at world rank) item)) lawful.logs
-    (λ inside. look_fits stage.script.ranks (calls_at stage rank) world.rows rank (agent_at world rank).log item look seen mark moment (lawful.logs rank inside)) }
+      (λ inside. look_fits stage.script.ranks (calls_at stage rank) world.rows rank (agent_at world rank).log item look seen mark moment (lawful.logs rank inside));
+}
 
 -- the step of a call's first entry, by its form
 pub step_is_first : (stage : Stage) (world : World) (rank : ℕ) (call : Call) (form : Form) → form_at stage world rank call ≡ form → needs_board form ≡ true → step_by form ≡ first_step call
@@ -96,9 +99,10 @@ if_is_no_refusal false class e = cc e
 -- a refusal by the board is the class that the entries give
 pub refused_by : (ranks : ℕ) (rows : List Row) (row : Row) (class : Class) → decide ranks rows row ≡ Refuse class → shared ranks rows row ≡ Some class
 refused_by ranks rows row class e =
-    elim (shared ranks rows row) as (λ (o : Option Class). shared ranks rows row ≡ o → o ≡ Some class)
-      [ None ↦ λ none. absurd (if_is_no_refusal (is_allowed_now (question ranks rows row) row.step) class (rw none at e))
-      | Some other ↦ λ some. let same : Refuse other ≡ Refuse class = rw some at e in cc same ] refl
+    elim (shared ranks rows row) as (λ (o : Option Class). shared ranks rows row ≡ o → o ≡ Some class) [
+      | None ↦ λ none. absurd (if_is_no_refusal (is_allowed_now (question ranks rows row) row.step) class (rw none at e))
+      | Some other ↦ λ some. let same : Refuse other ≡ Refuse class = rw some at e in cc same
+    ] refl
 
 -- ---- looks
 
@@ -113,16 +117,16 @@ refusal_fits : (stage : Stage) (world : World) (rank : ℕ) (call : Call) (class
 refusal_fits stage world rank call class here e lawful zero none = quiet_item_keeps stage world rank (Refused (agent_at world rank).at class 0) tt lawful
 refusal_fits stage world rank call class here e lawful (suc before) some =
     look_keeps stage world rank (Refused (agent_at world rank).at class (suc before))
-      (rw here (subst (λ (rows : List Row). shared stage.script.ranks rows (first_row rank (agent_at world rank).at call) ≡ Some class) (sym (at_all world.rows before some))
-        (refused_by stage.script.ranks world.rows (first_row rank (agent_at world rank).at call) class e)))
-      (omega arith) refl (ap (λ n. LookAfter n ∷ []) (sym some)) lawful
+    (rw here (subst (λ (rows : List Row). shared stage.script.ranks rows (first_row rank (agent_at world rank).at call) ≡ Some class) (sym (at_all world.rows before some))
+    (refused_by stage.script.ranks world.rows (first_row rank (agent_at world rank).at call) class e)))
+    (omega arith) refl (ap (λ n. LookAfter n ∷ []) (sym some)) lawful
 
 test_fits : (stage : Stage) (world : World) (rank : ℕ) (call : Call) → IsAt stage world rank call → answer stage world rank call (first_step call) ≡ NotYet →
     IsBoardLawful stage world → IsBoardLawful stage (with_item stage world rank (Tested (agent_at world rank).at (length world.rows)))
 test_fits stage world rank call here e lawful =
     look_keeps stage world rank (Tested (agent_at world rank).at (length world.rows))
-      (rw here (subst (λ (rows : List Row). decide stage.script.ranks rows (first_row rank (agent_at world rank).at call) ≡ NotYet) (sym (take-length world.rows)) e))
-      (omega arith) refl refl lawful
+    (rw here (subst (λ (rows : List Row). decide stage.script.ranks rows (first_row rank (agent_at world rank).at call) ≡ NotYet) (sym (take-length world.rows)) e))
+    (omega arith) refl refl lawful
 
 -- ---- entries
 
@@ -138,14 +142,15 @@ entry_keeps stage world rank call step after same inside ranks here e lawful =
       calls = each_append (NamesItsCall stage.script) world.rows (row ∷ []) lawful.calls (record { rank = subst (λ n. rank < n) ranks inside; call = here }, tt);
       allowed = allowed_append stage.script.ranks [] world.rows row lawful.allowed e;
       logs = each_set_apart (Fits stage rows) (map unmarked world.agents) (new_agent 0 0) rank next
-        (subst (λ n. rank < n) (sym (length-map world.agents unmarked)) inside)
-        (λ within. subst (FitsBoard stage.script.ranks (calls_at stage rank) rows rank) (sym (same (kept stage rows rank agent (Entry agent.at (length world.rows) step))))
+          (subst (λ n. rank < n) (sym (length-map world.agents unmarked)) inside)
+          (λ within. subst (FitsBoard stage.script.ranks (calls_at stage rank) rows rank) (sym (same (kept stage rows rank agent (Entry agent.at (length world.rows) step))))
           (entry_fits stage.script.ranks (calls_at stage rank) world.rows row rank agent.log refl (lawful.logs rank within)))
-        (λ k other. others k other) }
+          (λ k other. others k other);
+    }
   where
-  others : (k : ℕ) → (k ≡ rank → ⊥) → Fits stage (world.rows ++ row_of rank (agent_at world rank) call step ∷ []) k (get_or (map unmarked world.agents) k (new_agent 0 0))
-  others k other = subst (Fits stage (world.rows ++ row_of rank (agent_at world rank) call step ∷ []) k) (sym (get_or-map unmarked world.agents k (new_agent 0 0)))
-    (λ within. other_fits stage.script.ranks (calls_at stage k) world.rows (row_of rank (agent_at world rank) call step) k (agent_at world k).log (λ same_rank. other (sym same_rank)) (lawful.logs k within))
+    others : (k : ℕ) → (k ≡ rank → ⊥) → Fits stage (world.rows ++ row_of rank (agent_at world rank) call step ∷ []) k (get_or (map unmarked world.agents) k (new_agent 0 0))
+    others k other = subst (Fits stage (world.rows ++ row_of rank (agent_at world rank) call step ∷ []) k) (sym (get_or-map unmarked world.agents k (new_agent 0 0)))
+        (λ within. other_fits stage.script.ranks (calls_at stage k) world.rows (row_of rank (agent_at world rank) call step) k (agent_at world k).log (λ same_rank. other (sym same_rank)) (lawful.logs k within))
 
 opened_log : (agent : Agent) → (opened agent).log ≡ agent.log
 opened_log agent = refl
@@ -177,11 +182,13 @@ issue_keeps stage world rank t window calm lawful =
     let next = finished (kept stage world.rows rank agent (Issue agent.at access)) in
     let touched = touch_each t (length agent.log) 0 places world.cells in
     subst (IsBoardLawful stage) (sym (issue_is_touched stage world rank t window calm.delay))
-      (record {
-        calls = lawful.calls; allowed = lawful.allowed;
-        logs = with_log stage world.rows world.agents rank (record next { log = next.log ++ touched.items }) lawful.logs
+    (record {
+      calls = lawful.calls;
+      allowed = lawful.allowed;
+      logs = with_log stage world.rows world.agents rank (record next { log = next.log ++ touched.items }) lawful.logs
           (λ inside. quiet_items_fit stage.script.ranks (calls_at stage rank) world.rows rank touched.items next.log (touches_are_quiet t (length agent.log) 0 places world.cells)
-            (quiet_item_fits stage.script.ranks (calls_at stage rank) world.rows rank agent.log (Issue agent.at access) tt (lawful.logs rank inside))) })
+          (quiet_item_fits stage.script.ranks (calls_at stage rank) world.rows rank agent.log (Issue agent.at access) tt (lawful.logs rank inside)));
+    })
 
 plain_is_quiet : (form : Form) (number : ℕ) (item : Item) → IsPlainItem form number item → IsQuiet item
 plain_is_quiet NullForm number item e = subst IsQuiet (sym e) tt
@@ -197,19 +204,23 @@ plain_is_quiet EntryForm number item e = absurd e
 
 mark_keeps : (stage : Stage) (world : World) (rank : ℕ) → IsBoardLawful stage world → IsBoardLawful stage (with_mark world rank)
 mark_keeps stage world rank lawful = record {
-  calls = lawful.calls; allowed = lawful.allowed;
-  logs = with_log stage world.rows world.agents rank _ lawful.logs (lawful.logs rank) }
+  calls = lawful.calls;
+  allowed = lawful.allowed;
+  logs = with_log stage world.rows world.agents rank _ lawful.logs (lawful.logs rank);
+}
 
 -- every move keeps the board lawful
 pub moves_keep_board : (stage : Stage) → KeptByMoves stage (IsBoardLawful stage)
 moves_keep_board stage world next rank may lawful (Ends e) = record {
-  calls = lawful.calls; allowed = lawful.allowed;
+  calls = lawful.calls;
+  allowed = lawful.allowed;
   logs = with_log stage world.rows world.agents rank _ lawful.logs
-    (λ inside. quiet_item_fits stage.script.ranks (calls_at stage rank) world.rows rank (agent_at world rank).log Ended tt (lawful.logs rank inside)) }
+      (λ inside. quiet_item_fits stage.script.ranks (calls_at stage rank) world.rows rank (agent_at world rank).log Ended tt (lawful.logs rank inside));
+}
 moves_keep_board stage world next rank may lawful (RefusesAlone call class here new class_is) = quiet_item_keeps stage world rank (Refused (agent_at world rank).at class 0) tt lawful
 moves_keep_board stage world next rank may lawful (IsRefused call class begins board e) =
     refusal_fits stage world rank call class begins.here
-      (ap (answer stage world rank call) (sym (step_is_first stage world rank call (form_at stage world rank call) refl board)) ∙ e) lawful (length world.rows) refl
+    (ap (answer stage world rank call) (sym (step_is_first stage world rank call (form_at stage world rank call) refl board)) ∙ e) lawful (length world.rows) refl
 moves_keep_board stage world next rank may lawful (Tests call begins form e) =
     test_fits stage world rank call begins.here (ap (answer stage world rank call) (test_has_one_step (seat_of stage rank (agent_at world rank)) call form) ∙ e) lawful
 moves_keep_board stage world next rank may lawful (Waits call begins board test e) = mark_keeps stage world rank lawful
@@ -233,11 +244,13 @@ empty_fits ranks calls rank = record { marks = refl; looks = tt; seen = tt; mome
 -- the board is lawful before the first turn
 pub board_begins : (stage : Stage) (seed last draws : ℕ) → IsBoardLawful stage (first_world stage seed last draws)
 board_begins stage seed last draws = record {
-  calls = tt; allowed = tt;
-  logs = λ rank inside. subst (FitsBoard stage.script.ranks (calls_at stage rank) [] rank) (sym (no_log rank)) (empty_fits stage.script.ranks (calls_at stage rank) rank) }
+  calls = tt;
+  allowed = tt;
+  logs = λ rank inside. subst (FitsBoard stage.script.ranks (calls_at stage rank) [] rank) (sym (no_log rank)) (empty_fits stage.script.ranks (calls_at stage rank) rank);
+}
   where
-  no_log : (rank : ℕ) → (agent_at (first_world stage seed last draws) rank).log ≡ []
-  no_log rank = new_agents_at seed (λ agent. agent.log ≡ []) (λ r. refl) refl (numbers_from 0 stage.script.ranks) rank
+    no_log : (rank : ℕ) → (agent_at (first_world stage seed last draws) rank).log ≡ []
+    no_log rank = new_agents_at seed (λ agent. agent.log ≡ []) (λ r. refl) refl (numbers_from 0 stage.script.ranks) rank
 
 -- the log of a rank in the run that a state is
 pub log_in_run : (world : World) (rank : ℕ) → slice_index_or (run_of world).logs rank [] ≡ (agent_at world rank).log
@@ -248,9 +261,11 @@ pub board_gives : (script : Script) (delay : Delay) (world : World) → IsBoardL
 board_gives script delay world lawful = record {
   entries = record {
     calls = lawful.calls;
-    places = λ rank inside. ap marks_in (log_in_run world rank) ∙ (lawful.logs rank inside).marks };
+    places = λ rank inside. ap marks_in (log_in_run world rank) ∙ (lawful.logs rank inside).marks;
+  };
   allowed = lawful.allowed;
   looks = λ rank inside.
-    let fits = lawful.logs rank inside in
-    subst (HasLawfulLooks script world.rows rank) (sym (log_in_run world rank))
-      (record { looks = fits.looks; moments = fits.moments; within = fits.within }) }
+      let fits = lawful.logs rank inside in
+      subst (HasLawfulLooks script world.rows rank) (sym (log_in_run world rank))
+      (record { looks = fits.looks; moments = fits.moments; within = fits.within });
+}

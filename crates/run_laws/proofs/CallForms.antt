@@ -1,13 +1,13 @@
 -- What the form of a call says of the call.
-use Rattle.std.proofs.Common.{◌≡◌, ◌≢◌, ℕ, Bool, true, false, cond, Option, Some, None, refl}
+use Rattle.std.proofs.Common.{◌≡◌, ℕ, true, false, cond, Option, Some, None, refl}
 use Rattle.std.specs.Option.{option_map_or}
 use Rattle.rma_types.specs.declared.calls.Call.{Call}
 use Rattle.rma_types.specs.declared.calls.Call.TheVariants.{Allocate, Create, Dynamic, Free, Attach, Detach, Fence, Post, Start, Complete, WaitWin, TestWin, LockOne, Unlock, LockAll, UnlockAll, Flush, FlushAll, FlushLocal, FlushLocalAll, Sync, Barrier, Put, Get, Acc, GetAcc, Fop, Cas, Load, Store, WaitReq, TestReq}
-use Rattle.rma_types.specs.declared.accesses.Step.TheVariants.{Arrive, Leave, One}
+use Rattle.rma_types.specs.declared.accesses.Step.TheVariants.{Arrive, One}
 use Rattle.rma_model.specs.BoardLaw.{first_step}
 use Rattle.rma_model.specs.Entries.{is_testwin, is_creation}
-use Rattle.rma_model.specs.Forms.{Form, NullForm, IssueForm, LookUpForm, FlushForm, RequestForm, CollectiveForm, TestForm, EntryForm, form_of, transfer_form}
-use Rattle.rma_model.specs.OwnTests.{Seat, own, window_at}
+use Rattle.rma_model.specs.Forms.{Form, NullForm, IssueForm, LookUpForm, CollectiveForm, TestForm, EntryForm, form_of, transfer_form}
+use Rattle.rma_model.specs.OwnTests.{Seat, window_at}
 use Rattle.rma_model.specs.Synchronising.{is_dynamic_flavor, window_named}
 use Rattle.rma_model.specs.Transfers.{Transfer, Target, Own, Null, Named, target_of, transfer_of}
 use Rattle.rma_model.specs.Windows.{Window}

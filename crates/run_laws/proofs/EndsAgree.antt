@@ -1,15 +1,14 @@
 -- A rank has ended exactly where its log ends with Ended.
-use Rattle.std.proofs.Common.{◌≡◌, ℕ, zero, suc, ◌+◌, ◌-◌, ◌<◌, Bool, true, false, List, [], ◌∷◌, ◌++◌, length, get_or, Option, Some, None, refl, sym, ◌∙◌, ap, subst, arith, append_assoc, length-append}
+use Rattle.std.proofs.Common.{◌≡◌, ℕ, suc, ◌+◌, ◌-◌, true, false, List, [], ◌∷◌, ◌++◌, length, get_or, Some, refl, sym, ◌∙◌, ap, subst, arith, append_assoc, length-append}
 use Rattle.std.specs.Prelude.{slice_get, slice_set, map}
 use Rattle.std.specs.List.{list_all}
 use Rattle.std.specs.Option.{option_map_or}
 use Rattle.std.proofs.lemmas.List.{append-nil}
-use Rattle.std.proofs.Math.ListN.{get_or-map}
 use Rattle.rma_types.specs.declared.accesses.Step.{Step}
 use Rattle.rma_types.specs.declared.accesses.Step.TheVariants.{Arrive, Leave, One}
 use Rattle.rma_types.specs.declared.calls.Call.{Call}
 use Rattle.rma_record.specs.declared.items.Item.{Item}
-use Rattle.rma_record.specs.declared.items.Item.TheVariants.{Issue, Null, Touch, Flush, Request, Entry, Tested, Refused, Ended}
+use Rattle.rma_record.specs.declared.items.Item.TheVariants.{Issue, Touch, Entry, Ended}
 use Rattle.rma_model.specs.declared.cells.Cell.{Cell}
 use Rattle.rma_model.specs.declared.elements.Piece.{Piece}
 use Rattle.rma_model.specs.Forms.{Form, NullForm, IssueForm, LookUpForm, FlushForm, RequestForm, CollectiveForm, TestForm, EntryForm, access_of}
@@ -18,12 +17,12 @@ use Rattle.rma_model.specs.Pieces.{pieces, numbers_from}
 use Rattle.rma_model.specs.Transfers.{Transfer}
 use Rattle.rma_model.specs.Turns.{row_of, with_item, with_mark, opened, with_issue}
 use Rattle.rma_model.specs.Windows.{Window}
-use Rattle.rma_model.specs.World.{Stage, Agent, World, agent_at, new_agent, with_agent, seat_of, kept, finished, unmarked, touch_each, first_world}
+use Rattle.rma_model.specs.World.{Stage, Agent, World, agent_at, new_agent, seat_of, kept, finished, unmarked, touch_each, first_world}
 use Rattle.run_laws.proofs.Agents.{each_set, each_unmarked}
 use Rattle.run_laws.proofs.Calm.{issue_is_touched}
 use Rattle.run_laws.proofs.Ending.{ready_agent}
-use Rattle.run_laws.proofs.Moves.{Move, Ends, RefusesAlone, IsRefused, Tests, Waits, WaitsInside, Passes, Issues, IssuesInside, Enters, Arrives, Leaves, Begins, IsCalm, IsPlainItem, GoesOn, form_at, entered_by}
-use Rattle.run_laws.proofs.Runs.{MayMove, KeptByMoves, KeptByPicks, new_agents_at}
+use Rattle.run_laws.proofs.Moves.{Ends, RefusesAlone, IsRefused, Tests, Waits, WaitsInside, Passes, Issues, IssuesInside, Enters, Arrives, Leaves, IsCalm, IsPlainItem, GoesOn, form_at, entered_by}
+use Rattle.run_laws.proofs.Runs.{KeptByMoves, KeptByPicks, new_agents_at}
 
 -- the last of some items and one more
 last_item : (xs : List Item) (item : Item) → slice_get (xs ++ item ∷ []) (length xs) ≡ Some item
@@ -49,8 +48,10 @@ pub record AllAgree (world : World) : Type 0 where
   pub each : (rank : ℕ) → Agrees rank (agent_at world rank)
 
 pub agree_begins : (stage : Stage) (seed last draws : ℕ) → AllAgree (first_world stage seed last draws)
-agree_begins stage seed last draws = record { each = λ rank.
-  new_agents_at seed (λ agent. has_ended agent.log ≡ agent.ended) (λ r. refl) refl (numbers_from 0 stage.script.ranks) rank }
+agree_begins stage seed last draws = record {
+  each = λ rank.
+      new_agents_at seed (λ agent. has_ended agent.log ≡ agent.ended) (λ r. refl) refl (numbers_from 0 stage.script.ranks) rank;
+}
 
 pub picks_keep_agreement : KeptByPicks AllAgree
 picks_keep_agreement world rank o = record { each = o.each }
@@ -64,7 +65,8 @@ entry_changes world rank next o here = each_set Agrees (map unmarked world.agent
 -- an item that is not Ended, of a rank that has not ended
 item_keeps : (stage : Stage) (world : World) (rank : ℕ) (item : Item) → is_ended item ≡ false → (agent_at world rank).ended ≡ false → AllAgree world → AllAgree (with_item stage world rank item)
 item_keeps stage world rank item plain going o = record {
-  each = one_changes world rank (finished (kept stage world.rows rank (agent_at world rank) item)) o (ends_by (agent_at world rank).log item ∙ plain ∙ sym going) }
+  each = one_changes world rank (finished (kept stage world.rows rank (agent_at world rank) item)) o (ends_by (agent_at world rank).log item ∙ plain ∙ sym going);
+}
 
 mark_keeps : (world : World) (rank : ℕ) → AllAgree world → AllAgree (with_mark world rank)
 mark_keeps world rank o = record { each = one_changes world rank (record (agent_at world rank) { marked = true }) o (o.each rank) }
@@ -74,8 +76,10 @@ entry_keeps : (stage : Stage) (world : World) (rank : ℕ) (call : Call) (step :
 entry_keeps stage world rank call step after same_log same_end going o =
     let agent = agent_at world rank in
     let next = kept stage (world.rows ++ row_of rank agent call step ∷ []) rank agent (Entry agent.at (length world.rows) step) in
-    record { each = entry_changes world rank (unmarked (after next)) o
-      (ap has_ended (same_log next) ∙ ends_by agent.log (Entry agent.at (length world.rows) step) ∙ sym going ∙ sym (same_end next)) }
+    record {
+      each = entry_changes world rank (unmarked (after next)) o
+          (ap has_ended (same_log next) ∙ ends_by agent.log (Entry agent.at (length world.rows) step) ∙ sym going ∙ sym (same_end next));
+    }
 
 issue_keeps : (stage : Stage) (world : World) (rank : ℕ) (t : Transfer) (window : Window) → IsCalm stage world → (agent_at world rank).ended ≡ false → AllAgree world → AllAgree (with_issue stage world rank t window)
 issue_keeps stage world rank t window calm going o =
@@ -85,8 +89,10 @@ issue_keeps stage world rank t window calm going o =
     let next = finished (kept stage world.rows rank agent (Issue agent.at access)) in
     let touched = touch_each t (length agent.log) 0 places world.cells in
     subst AllAgree (sym (issue_is_touched stage world rank t window calm.delay))
-      (record { each = one_changes world rank (record next { log = next.log ++ touched.items }) o
-        (touches_do_not_end t (length agent.log) 0 places world.cells next.log (ends_by agent.log (Issue agent.at access)) ∙ sym going) })
+    (record {
+      each = one_changes world rank (record next { log = next.log ++ touched.items }) o
+          (touches_do_not_end t (length agent.log) 0 places world.cells next.log (ends_by agent.log (Issue agent.at access)) ∙ sym going);
+    })
 
 plain_is_not_ended : (form : Form) (number : ℕ) (item : Item) → IsPlainItem form number item → is_ended item ≡ false
 plain_is_not_ended NullForm number item e = rw e refl
@@ -111,7 +117,8 @@ goes_on_same EntryForm after goes agent = (ap (λ (a : Agent). a.log) (goes agen
 -- every move keeps the agreement
 pub moves_keep_agreement : (stage : Stage) → KeptByMoves stage AllAgree
 moves_keep_agreement stage world next rank may o (Ends e) = record {
-  each = one_changes world rank (record (kept stage world.rows rank (agent_at world rank) Ended) { ended = true }) o (ends_by (agent_at world rank).log Ended) }
+  each = one_changes world rank (record (kept stage world.rows rank (agent_at world rank) Ended) { ended = true }) o (ends_by (agent_at world rank).log Ended);
+}
 moves_keep_agreement stage world next rank may o (RefusesAlone call class here new class_is) = item_keeps stage world rank _ refl (ready_agent (agent_at world rank) may.ready).0 o
 moves_keep_agreement stage world next rank may o (IsRefused call class begins board e) = item_keeps stage world rank _ refl (ready_agent (agent_at world rank) may.ready).0 o
 moves_keep_agreement stage world next rank may o (Tests call begins form e) = item_keeps stage world rank _ refl (ready_agent (agent_at world rank) may.ready).0 o

@@ -1,16 +1,15 @@
 -- The turns of the step run are enough.
-use Rattle.std.proofs.Common.{◌≡◌, ℕ, zero, suc, ◌+◌, ◌-◌, ◌*◌, ◌<◌, ◌≤◌, Bool, true, false, cond, List, [], ◌∷◌, length, get_or, refl, sym, ◌∙◌, ap, subst, arith, add-zero, zero-add, add-one}
+use Rattle.std.proofs.Common.{◌≡◌, ℕ, zero, suc, ◌+◌, ◌*◌, ◌≤◌, List, [], ◌∷◌, length, get_or, refl, ◌∙◌, ap, arith, zero-add, add-one}
 use Rattle.std.proofs.lemmas.List.Sums.{sum_by-cons}
 use Rattle.std.specs.Prelude.{map}
 use Rattle.std.specs.List.{sum_by}
 use Rattle.rma_types.specs.declared.calls.Call.{Call}
 use Rattle.rma_types.specs.declared.scripts.Script.{Script}
 use Rattle.rma_types.specs.declared.schedules.Delay.{Delay}
-use Rattle.rma_model.specs.Layout.{calls_of}
 use Rattle.rma_model.specs.Pieces.{numbers_from}
 use Rattle.rma_model.specs.StepRun.{most_turns, stage_of}
-use Rattle.rma_model.specs.World.{Stage, Agent, new_agent, calls_at, first_world}
-use Rattle.run_laws.proofs.Ending.{weight, weight_of, left_of, left_in, total}
+use Rattle.rma_model.specs.World.{Stage, new_agent, first_world}
+use Rattle.run_laws.proofs.Ending.{left_of, left_in, total}
 
 -- the lengths of the lists from one on, for so many numbers
 lengths_from : List (List Call) → ℕ → ℕ → ℕ
@@ -34,10 +33,10 @@ lengths_are_few [] count = let none = lengths_of_none 0 count in omega arith
 lengths_are_few (list ∷ calls) zero = omega arith
 lengths_are_few (list ∷ calls) (suc count) =
     few (lengths_from (list ∷ calls) (0 + 1) count) (lengths_from calls 0 count) (sum_by length calls) (length list) (sum_by length (list ∷ calls))
-      (ap (λ n. lengths_from (list ∷ calls) n count) (zero-add 1) ∙ lengths_shift list calls 0 count) (lengths_are_few calls count) (sum_by-cons length list calls)
+    (ap (λ n. lengths_from (list ∷ calls) n count) (zero-add 1) ∙ lengths_shift list calls 0 count) (lengths_are_few calls count) (sum_by-cons length list calls)
   where
-  few : (a b s l t : ℕ) → a ≡ b → b ≤ s → t ≡ l + s → l + a ≤ t
-  few a b s l t e f g = omega arith
+    few : (a b s l t : ℕ) → a ≡ b → b ≤ s → t ≡ l + s → l + a ≤ t
+    few a b s l t e f g = omega arith
 
 -- what is left before the first turn
 left_at_first : (stage : Stage) (seed first rank count : ℕ) → total (left_of stage) rank (map (new_agent seed) (numbers_from rank count)) ≡ 64 * lengths_from stage.script.calls rank count + 2 * count
@@ -52,5 +51,5 @@ turns_are_enough script delay seed last draws few =
     let lengths = lengths_are_few script.calls script.ranks in
     enough _ (lengths_from script.calls 0 script.ranks) (sum_by length script.calls) script.ranks left lengths few
   where
-  enough : (l n s r : ℕ) → l ≡ 64 * n + 2 * r → n ≤ s → r ≤ 16 → l ≤ 64 * (s + 1)
-  enough l n s r a b c = omega arith
+    enough : (l n s r : ℕ) → l ≡ 64 * n + 2 * r → n ≤ s → r ≤ 16 → l ≤ 64 * (s + 1)
+    enough l n s r a b c = omega arith

@@ -38,26 +38,13 @@ use Rattle.rma_model.specs.Transfers.{Transfer, Target, Own, Null, Named, transf
 use Rattle.rma_model.specs.Turns.{row_of, with_item, with_mark, opened, with_issue}
 use Rattle.rma_model.specs.Windows.{Window, window_in, part_made, part_in, part_of, shape_of, no_part}
 use Rattle.rma_model.specs.World.{Stage, Agent, World, agent_at, new_agent, seat_of, kept, finished, unmarked, shapes_after, first_world}
+pub use Rattle.run_laws.specs.Lawful.{Allocates, IsAllocated}
 use Rattle.run_laws.proofs.Agents.{each_set, each_unmarked}
 use Rattle.run_laws.proofs.Calm.{issue_is_touched}
 use Rattle.run_laws.proofs.InsideMemory.{bytes_at, allocate_has_memory, byte_is_inside}
 use Rattle.run_laws.proofs.Moves.{Ends, RefusesAlone, IsRefused, Tests, Waits, WaitsInside, Passes, Issues, IssuesInside, Enters, Arrives, Leaves, Begins, IsAt, IsCalm, GoesOn, form_at, entered_by}
 use Rattle.run_laws.proofs.Picks.{each_append, each_take, numbers_below}
 use Rattle.run_laws.proofs.Runs.{MayMove, KeptByMoves, KeptByPicks, run_keeps, beginning_holds, new_agents_at}
-
--- ---- scripts whose windows are all allocated
-
--- a call that makes a window allocates its memory
-abbrev pub Allocates : Call → Type 0
-Allocates (Create win base bytes unit) = ⊥
-Allocates (Dynamic win) = ⊥
-Allocates other = Unit {0}
-
--- each rank has a space and a list of calls, and each window is allocated
-pub record IsAllocated (script : Script) : Type 0 where
-  pub spaces : length script.spaces ≡ script.ranks
-  pub lists : length script.calls ≡ script.ranks
-  pub calls : AllByRecursion (AllByRecursion Allocates) script.calls
 
 -- ---- lists
 

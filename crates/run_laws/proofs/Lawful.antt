@@ -1,39 +1,33 @@
 -- The step run of a script of the built form is lawful, and its logs are in order.
-use Rattle.std.proofs.Common.{◌≡◌, ℕ, ◌+◌, ◌*◌, ◌<◌, ◌≤◌, Bool, true, false, List, [], ◌∷◌, length, get_or, Option, Some, None, refl, sym, ◌∙◌, ap, subst, arith}
-use Rattle.std.specs.Prelude.{slice_get, slice_index_or, map}
-use Rattle.std.specs.List.{list_all}
+use Rattle.std.proofs.Common.{◌≡◌, ℕ, ◌<◌, ◌≤◌, false, List, [], ◌∷◌, get_or, refl, sym, ◌∙◌, ap, subst}
+use Rattle.std.specs.Prelude.{slice_get, slice_index_or}
 use Rattle.std.proofs.lemmas.List.{length-map}
 use Rattle.rma_types.specs.declared.schedules.Delay.TheVariants.{None as NoDelay}
 use Rattle.rma_types.specs.declared.schedules.Order.TheVariants.{Robin}
 use Rattle.rma_types.specs.declared.scripts.Script.{Script}
-use Rattle.rma_record.specs.declared.items.Item.{Item}
-use Rattle.rma_record.specs.declared.runs.Run.{Run}
-use Rattle.rma_model.specs.BuiltForm.{IsBuilt}
-use Rattle.rma_model.specs.Items.{has_ended}
-use Rattle.rma_model.specs.LawfulRun.{IsLawful, IsLawfulBy}
-use Rattle.rma_model.specs.Layout.{layout}
+use Rattle.rma_model.specs.LawfulRun.{IsLawful}
 use Rattle.rma_model.specs.Orderly.{HasOrderlyLogs, IsOrderly}
 use Rattle.rma_model.specs.Report.{calls_at as report_calls, log_at}
 use Rattle.rma_types.specs.declared.calls.Call.{Call}
 use Rattle.std.specs.Option.{option_map_or}
 use Rattle.std.proofs.Common.{zero, suc}
-use Rattle.rma_model.specs.RankLaw.{Post, IsLawfulLog}
-use Rattle.rma_model.specs.StepRun.{is_ready, step_run, stage_of, beginning, run_from, most_turns, delivered, last_before, pick}
+use Rattle.rma_model.specs.RankLaw.{IsLawfulLog}
+use Rattle.rma_model.specs.StepRun.{is_ready, step_run, stage_of, beginning, run_from, most_turns, last_before}
 use Rattle.rma_model.specs.Generator.{seeded, order_stream}
-use Rattle.rma_model.specs.World.{Stage, Agent, World, agent_at, new_agent, calls_at, first_world, run_of}
+use Rattle.rma_model.specs.World.{Stage, Agent, World, agent_at, calls_at, first_world, run_of}
+use Rattle.run_laws.specs.Lawful.{AllocatedRunIsLawful, BuiltRunIsLawful, BuiltRunIsOrderly}
 use Rattle.run_laws.proofs.BoardMoves.{IsBoardLawful, board_begins, picks_keep_board, moves_keep_board, board_gives, log_in_run}
 use Rattle.run_laws.proofs.Calls.{HasCalls, calls-begins, calls-gives}
 use Rattle.run_laws.proofs.CallsLaw.{calls_kept_by_picks, calls_kept_by_moves}
-use Rattle.run_laws.proofs.CellsKept.{HasCells, MayIssue, IssuesInsideMemory, cells_begin, cells_picked, move_keeps_cells, cells_are_lawful}
+use Rattle.run_laws.proofs.CellsKept.{HasCells, IssuesInsideMemory, cells_begin, cells_picked, move_keeps_cells, cells_are_lawful}
 use Rattle.run_laws.proofs.EndsAgree.{AllAgree, agree_begins, picks_keep_agreement, moves_keep_agreement, all_end_alike}
-use Rattle.run_laws.proofs.Ending.{IsFew, run_ends}
+use Rattle.run_laws.proofs.Ending.{run_ends}
 use Rattle.run_laws.proofs.Fuel.{turns_are_enough}
 use Rattle.run_laws.proofs.Inside.{IsAllocated, IsRoomy, roomy_begins, picks_keep_roomy, moves_keep_roomy, issue_is_inside, built_is_allocated}
 use Rattle.run_laws.proofs.LookUps.{AllFollowed, followed-begins, followed-picked, followed-moves, followed-gives}
-use Rattle.run_laws.proofs.Moves.{Move, IsCalm}
 use Rattle.run_laws.proofs.Ordered.{AllOrdered, order_begins, picks_keep_order, moves_keep_order}
 use Rattle.run_laws.proofs.Picks.{none_may_go}
-use Rattle.run_laws.proofs.Runs.{MayMove, KeptByMoves, KeptByPicks, Holds, run_keeps, beginning_holds, beginning_is_calm, beginning_ranks, delivered_is}
+use Rattle.run_laws.proofs.Runs.{KeptByMoves, KeptByPicks, Holds, run_keeps, beginning_holds, beginning_is_calm, beginning_ranks, delivered_is}
 use Rattle.run_laws.proofs.TouchedLaw.{lawful_log}
 use Rattle.run_laws.proofs.TouchedMoves.{AllTouched, touched-begins, touched-picked, touched-moves, touched-gives}
 
@@ -102,7 +96,7 @@ last_holds script seed allocated =
     let stage = plain_stage script in
     let last = last_before Robin script in
     run_keeps stage (IsKept stage) (kept_by_picks stage) (kept_by_moves script allocated) (most_turns script) (beginning script Robin NoDelay seed)
-      (beginning_holds stage (IsKept stage) seed last (seeded seed order_stream) refl (kept_begins stage seed last (seeded seed order_stream)))
+    (beginning_holds stage (IsKept stage) seed last (seeded seed order_stream) refl (kept_begins stage seed last (seeded seed order_stream)))
 
 -- no rank may have a turn in it
 last_is_over : (script : Script) (seed : ℕ) → script.ranks ≤ 16 → IsAllocated script → (rank : ℕ) → rank < script.ranks → is_ready (agent_at (last_world script seed) rank) ≡ false
@@ -111,8 +105,8 @@ last_is_over script seed few allocated rank inside =
     let last = last_before Robin script in
     let ranks = beginning_ranks stage seed last (seeded seed order_stream) in
     let none = run_ends stage (most_turns script) (beginning script Robin NoDelay seed)
-          (record { calm = beginning_is_calm stage seed last (seeded seed order_stream) refl; ranks = ranks; few = subst (λ n. n ≤ 16) (sym ranks) few })
-          (turns_are_enough script NoDelay seed last (seeded seed order_stream) few) in
+    (record { calm = beginning_is_calm stage seed last (seeded seed order_stream) refl; ranks = ranks; few = subst (λ n. n ≤ 16) (sym ranks) few })
+    (turns_are_enough script NoDelay seed last (seeded seed order_stream) few) in
     none_may_go (last_world script seed) none rank (subst (λ n. rank < n) (sym (last_holds script seed allocated).ranks) inside)
 
 -- ---- the run
@@ -129,9 +123,9 @@ lawful_logs script seed few allocated rank inside =
     let kept = (last_holds script seed allocated).fact in
     let over = last_is_over script seed few allocated rank inside in
     lawful_log (record { stage = stage; rank = rank; rows = world.rows }) (slice_index_or (run_of world).logs rank [])
-      (calls-gives stage world kept.calls rank over)
-      (followed-gives stage world kept.followed rank world.rows over)
-      (touched-gives stage world refl kept.touched rank world.rows)
+    (calls-gives stage world kept.calls rank over)
+    (followed-gives stage world kept.followed rank world.rows over)
+    (touched-gives stage world refl kept.touched rank world.rows)
 
 -- the last state's run is lawful
 last_is_lawful : (script : Script) (seed : ℕ) → script.ranks ≤ 16 → IsAllocated script → IsLawful script NoDelay (run_of (last_world script seed))
@@ -144,15 +138,16 @@ last_is_lawful script seed few allocated =
       cells = cells_are_lawful script NoDelay world holds.ranks holds.fact.cells;
       rows = world.rows;
       by = record { board = board_gives script NoDelay world holds.fact.board; logs = lawful_logs script seed few allocated };
-      ended = all_end_alike world.agents holds.fact.ends.each }
+      ended = all_end_alike world.agents holds.fact.ends.each;
+    }
 
 -- the step run of a script whose windows are all allocated is lawful, in turn and where nothing is delayed
-pub allocated_run_is_lawful : (script : Script) (seed : ℕ) → script.ranks ≤ 16 → IsAllocated script → IsLawful script NoDelay (step_run script Robin NoDelay seed)
+pub allocated_run_is_lawful : AllocatedRunIsLawful
 allocated_run_is_lawful script seed few allocated =
     subst (IsLawful script NoDelay) (sym (last_run script seed allocated)) (last_is_lawful script seed few allocated)
 
 -- so is that of a script of the built form
-pub step_run_is_lawful : (script : Script) (seed : ℕ) → IsBuilt script → IsLawful script NoDelay (step_run script Robin NoDelay seed)
+pub step_run_is_lawful : BuiltRunIsLawful
 step_run_is_lawful script seed built = allocated_run_is_lawful script seed built.few_ranks (built_is_allocated script built)
 
 -- ---- the order of the logs
@@ -169,10 +164,10 @@ last_is_orderly script seed allocated rank inside =
     let calls : report_calls script rank ≡ calls_at (plain_stage script) rank = in_list script.calls rank [] in
     let log : log_at (run_of world) rank ≡ (agent_at world rank).log = in_list (run_of world).logs rank [] ∙ log_in_run world rank in
     subst (λ (c : List Call). IsOrderly c (log_at (run_of world) rank)) (sym calls)
-      (subst (IsOrderly (calls_at (plain_stage script) rank)) (sym log)
-        (record { in_order = (kept.ordered.each rank).order; touches_follow = (kept.touched.each rank).follow }))
+    (subst (IsOrderly (calls_at (plain_stage script) rank)) (sym log)
+    (record { in_order = (kept.ordered.each rank).order; touches_follow = (kept.touched.each rank).follow }))
 
-pub step_run_is_orderly : (script : Script) (seed : ℕ) → IsBuilt script → HasOrderlyLogs script (step_run script Robin NoDelay seed)
+pub step_run_is_orderly : BuiltRunIsOrderly
 step_run_is_orderly script seed built =
     let allocated = built_is_allocated script built in
     subst (HasOrderlyLogs script) (sym (last_run script seed allocated)) (last_is_orderly script seed allocated)

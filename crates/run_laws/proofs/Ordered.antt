@@ -1,14 +1,13 @@
 -- The items of each log stand in the order of their calls.
-use Rattle.std.proofs.Common.{◌≡◌, ℕ, zero, suc, ◌+◌, ◌<◌, Bool, true, false, cond, List, [], ◌∷◌, ◌++◌, length, get_or, Option, Some, None, refl, sym, ◌∙◌, ap, subst, arith, append_assoc}
+use Rattle.std.proofs.Common.{◌≡◌, ℕ, ◌+◌, Bool, true, false, cond, List, [], ◌∷◌, ◌++◌, length, get_or, Some, refl, sym, ◌∙◌, ap, subst, append_assoc}
 use Rattle.std.proofs.lemmas.List.{append-nil}
-use Rattle.std.specs.Prelude.{slice_get, slice_set, slice_index_or, map, is_some, if◌then◌else◌}
+use Rattle.std.specs.Prelude.{slice_get, slice_set, map, is_some, if◌then◌else◌}
 use Rattle.std.proofs.lemmas.Option.{slice_get_within}
-use Rattle.std.proofs.Math.ListN.{get_or-map}
 use Rattle.rma_types.specs.declared.accesses.Step.TheVariants.{Arrive, Leave, One}
 use Rattle.rma_types.specs.declared.accesses.Step.{Step}
 use Rattle.rma_types.specs.declared.calls.Call.{Call}
 use Rattle.rma_record.specs.declared.items.Item.{Item}
-use Rattle.rma_record.specs.declared.items.Item.TheVariants.{Issue, Null, Touch, Flush, Request, Entry, Tested, Refused, Ended}
+use Rattle.rma_record.specs.declared.items.Item.TheVariants.{Issue, Touch, Entry, Ended}
 use Rattle.rma_model.specs.declared.cells.Cell.{Cell}
 use Rattle.rma_model.specs.declared.elements.Piece.{Piece}
 use Rattle.rma_model.specs.Entries.{Row}
@@ -20,12 +19,12 @@ use Rattle.rma_model.specs.Report.{ended_by}
 use Rattle.rma_model.specs.Transfers.{Transfer, transfer_of}
 use Rattle.rma_model.specs.Turns.{row_of, with_item, with_mark, opened, with_issue}
 use Rattle.rma_model.specs.Windows.{Window}
-use Rattle.rma_model.specs.World.{Stage, Agent, World, agent_at, new_agent, with_agent, calls_at, seat_of, kept, finished, unmarked, touch_each, first_world}
+use Rattle.rma_model.specs.World.{Stage, Agent, World, agent_at, new_agent, calls_at, seat_of, kept, finished, unmarked, touch_each, first_world}
 use Rattle.run_laws.proofs.Agents.{each_set, each_unmarked}
 use Rattle.run_laws.proofs.Calm.{issue_is_touched}
 use Rattle.run_laws.proofs.CallForms.{look_up_moves, test_moves_nothing, entry_moves_nothing}
-use Rattle.run_laws.proofs.Moves.{Move, Ends, RefusesAlone, IsRefused, Tests, Waits, WaitsInside, Passes, Issues, IssuesInside, Enters, Arrives, Leaves, Begins, IsAt, IsCalm, IsPlainItem, GoesOn, form_at, entered_by}
-use Rattle.run_laws.proofs.Runs.{MayMove, KeptByMoves, KeptByPicks, new_agents_at}
+use Rattle.run_laws.proofs.Moves.{Ends, RefusesAlone, IsRefused, Tests, Waits, WaitsInside, Passes, Issues, IssuesInside, Enters, Arrives, Leaves, Begins, IsAt, IsCalm, IsPlainItem, GoesOn, form_at, entered_by}
+use Rattle.run_laws.proofs.Runs.{KeptByMoves, KeptByPicks, new_agents_at}
 
 -- the call after those that the items ended
 abbrev pub next_after : List Call → ℕ → List Item → ℕ
@@ -56,14 +55,16 @@ stays : (calls : List Call) (at : ℕ) (log : List Item) (item : Item) → IsOrd
     IsOrdered calls at (log ++ item ∷ [])
 stays calls at log item o named not_ended = record {
   order = order_append calls 0 log item o.order (subst (λ n. IsNext (length calls) n (named_by item)) (sym o.leads) named);
-  leads = next_append calls 0 log item ∙ ap (λ b. cond b (next_after calls 0 log + 1) (next_after calls 0 log)) not_ended ∙ o.leads }
+  leads = next_append calls 0 log item ∙ ap (λ b. cond b (next_after calls 0 log + 1) (next_after calls 0 log)) not_ended ∙ o.leads;
+}
 
 -- an item that ends the call at which the rank is
 goes : (calls : List Call) (at : ℕ) (log : List Item) (item : Item) → IsOrdered calls at log → IsNext (length calls) at (named_by item) → is_some (ended_by calls item) ≡ true →
     IsOrdered calls (at + 1) (log ++ item ∷ [])
 goes calls at log item o named ended = record {
   order = order_append calls 0 log item o.order (subst (λ n. IsNext (length calls) n (named_by item)) (sym o.leads) named);
-  leads = next_append calls 0 log item ∙ ap (λ b. cond b (next_after calls 0 log + 1) (next_after calls 0 log)) ended ∙ ap (λ n. n + 1) o.leads }
+  leads = next_append calls 0 log item ∙ ap (λ b. cond b (next_after calls 0 log + 1) (next_after calls 0 log)) ended ∙ ap (λ n. n + 1) o.leads;
+}
 
 -- touches name no call
 touches_stay : (calls : List Call) (at : ℕ) (t : Transfer) (issue element : ℕ) (places : List Piece) (cells : List Cell) (log : List Item) → IsOrdered calls at log →
@@ -81,8 +82,10 @@ pub record AllOrdered (stage : Stage) (world : World) : Type 0 where
   pub each : (rank : ℕ) → IsOrderedAgent stage rank (agent_at world rank)
 
 pub order_begins : (stage : Stage) (seed last draws : ℕ) → AllOrdered stage (first_world stage seed last draws)
-order_begins stage seed last draws = record { each = λ rank.
-  new_agents_at seed (λ agent. IsOrdered (calls_at stage rank) agent.at agent.log) (λ r. record { order = tt; leads = refl }) (record { order = tt; leads = refl }) (numbers_from 0 stage.script.ranks) rank }
+order_begins stage seed last draws = record {
+  each = λ rank.
+      new_agents_at seed (λ agent. IsOrdered (calls_at stage rank) agent.at agent.log) (λ r. record { order = tt; leads = refl }) (record { order = tt; leads = refl }) (numbers_from 0 stage.script.ranks) rank;
+}
 
 pub picks_keep_order : (stage : Stage) → KeptByPicks (AllOrdered stage)
 picks_keep_order stage world rank o = record { each = o.each }
@@ -101,8 +104,9 @@ item_keeps : (stage : Stage) (world : World) (rank : ℕ) (call : Call) (item : 
     is_some (ended_by (calls_at stage rank) item) ≡ true → AllOrdered stage world → AllOrdered stage (with_item stage world rank item)
 item_keeps stage world rank call item here named ended o = record {
   each = one_changes stage world rank (finished (kept stage world.rows rank (agent_at world rank) item)) o
-    (goes (calls_at stage rank) (agent_at world rank).at (agent_at world rank).log item (o.each rank)
-      (subst (IsNext (length (calls_at stage rank)) (agent_at world rank).at) (sym named) (refl, slice_get_within (calls_at stage rank) (agent_at world rank).at call here)) ended) }
+      (goes (calls_at stage rank) (agent_at world rank).at (agent_at world rank).log item (o.each rank)
+      (subst (IsNext (length (calls_at stage rank)) (agent_at world rank).at) (sym named) (refl, slice_get_within (calls_at stage rank) (agent_at world rank).at call here)) ended);
+}
 
 mark_keeps : (stage : Stage) (world : World) (rank : ℕ) → AllOrdered stage world → AllOrdered stage (with_mark world rank)
 mark_keeps stage world rank o = record { each = one_changes stage world rank (record (agent_at world rank) { marked = true }) o (o.each rank) }
@@ -112,7 +116,8 @@ entry_keeps : (stage : Stage) (world : World) (rank : ℕ) (call : Call) (step :
     IsOrderedAgent stage rank (after (kept stage (world.rows ++ row_of rank (agent_at world rank) call step ∷ []) rank (agent_at world rank) (Entry (agent_at world rank).at (length world.rows) step))) →
     AllOrdered stage (entered_by stage world rank call step after)
 entry_keeps stage world rank call step after o here = record {
-  each = entry_changes stage world rank (unmarked (after (kept stage (world.rows ++ row_of rank (agent_at world rank) call step ∷ []) rank (agent_at world rank) (Entry (agent_at world rank).at (length world.rows) step)))) o here }
+  each = entry_changes stage world rank (unmarked (after (kept stage (world.rows ++ row_of rank (agent_at world rank) call step ∷ []) rank (agent_at world rank) (Entry (agent_at world rank).at (length world.rows) step)))) o here;
+}
 
 named_next : (stage : Stage) (world : World) (rank : ℕ) (call : Call) → IsAt stage world rank call → IsNext (length (calls_at stage rank)) (agent_at world rank).at (Some (agent_at world rank).at)
 named_next stage world rank call here = (refl, slice_get_within (calls_at stage rank) (agent_at world rank).at call here)
@@ -144,24 +149,24 @@ one_entry stage world rank call after begins LookUpForm e goes_on o =
     let moves = look_up_moves (seat_of stage rank (agent_at world rank)) call e in
     let rows = world.rows ++ row_of rank (agent_at world rank) call One ∷ [] in
     entry_keeps stage world rank call One after o
-      (subst (IsOrderedAgent stage rank) (sym (goes_on (kept stage rows rank (agent_at world rank) (Entry (agent_at world rank).at (length world.rows) One))))
-        (opens stage world rank call One rows (length world.rows) begins.here
-          (entry_ends (calls_at stage rank) (agent_at world rank).at (length world.rows) One call false begins.here (ap (ends_call One) moves.1)) o))
+    (subst (IsOrderedAgent stage rank) (sym (goes_on (kept stage rows rank (agent_at world rank) (Entry (agent_at world rank).at (length world.rows) One))))
+    (opens stage world rank call One rows (length world.rows) begins.here
+    (entry_ends (calls_at stage rank) (agent_at world rank).at (length world.rows) One call false begins.here (ap (ends_call One) moves.1)) o))
 one_entry stage world rank call after begins FlushForm e goes_on o = absurd goes_on
 one_entry stage world rank call after begins RequestForm e goes_on o = absurd goes_on
 one_entry stage world rank call after begins CollectiveForm e goes_on o = absurd goes_on
 one_entry stage world rank call after begins TestForm e goes_on o =
     let rows = world.rows ++ row_of rank (agent_at world rank) call One ∷ [] in
     entry_keeps stage world rank call One after o
-      (subst (IsOrderedAgent stage rank) (sym (goes_on (kept stage rows rank (agent_at world rank) (Entry (agent_at world rank).at (length world.rows) One))))
-        (ends stage world rank call One rows (length world.rows) begins.here
-          (entry_ends (calls_at stage rank) (agent_at world rank).at (length world.rows) One call true begins.here (ap (ends_call One) (test_moves_nothing (seat_of stage rank (agent_at world rank)) call e))) o))
+    (subst (IsOrderedAgent stage rank) (sym (goes_on (kept stage rows rank (agent_at world rank) (Entry (agent_at world rank).at (length world.rows) One))))
+    (ends stage world rank call One rows (length world.rows) begins.here
+    (entry_ends (calls_at stage rank) (agent_at world rank).at (length world.rows) One call true begins.here (ap (ends_call One) (test_moves_nothing (seat_of stage rank (agent_at world rank)) call e))) o))
 one_entry stage world rank call after begins EntryForm e goes_on o =
     let rows = world.rows ++ row_of rank (agent_at world rank) call One ∷ [] in
     entry_keeps stage world rank call One after o
-      (subst (IsOrderedAgent stage rank) (sym (goes_on (kept stage rows rank (agent_at world rank) (Entry (agent_at world rank).at (length world.rows) One))))
-        (ends stage world rank call One rows (length world.rows) begins.here
-          (entry_ends (calls_at stage rank) (agent_at world rank).at (length world.rows) One call true begins.here (ap (ends_call One) (entry_moves_nothing (seat_of stage rank (agent_at world rank)) call e))) o))
+    (subst (IsOrderedAgent stage rank) (sym (goes_on (kept stage rows rank (agent_at world rank) (Entry (agent_at world rank).at (length world.rows) One))))
+    (ends stage world rank call One rows (length world.rows) begins.here
+    (entry_ends (calls_at stage rank) (agent_at world rank).at (length world.rows) One call true begins.here (ap (ends_call One) (entry_moves_nothing (seat_of stage rank (agent_at world rank)) call e))) o))
 
 issue_keeps : (stage : Stage) (world : World) (rank : ℕ) (call : Call) (t : Transfer) (window : Window) → IsCalm stage world → IsAt stage world rank call → AllOrdered stage world →
     AllOrdered stage (with_issue stage world rank t window)
@@ -172,9 +177,11 @@ issue_keeps stage world rank call t window calm here o =
     let next = finished (kept stage world.rows rank agent (Issue agent.at access)) in
     let touched = touch_each t (length agent.log) 0 places world.cells in
     subst (AllOrdered stage) (sym (issue_is_touched stage world rank t window calm.delay))
-      (record { each = one_changes stage world rank (record next { log = next.log ++ touched.items }) o
-        (touches_stay (calls_at stage rank) next.at t (length agent.log) 0 places world.cells next.log
-          (goes (calls_at stage rank) agent.at agent.log (Issue agent.at access) (o.each rank) (named_next stage world rank call here) refl)) })
+    (record {
+      each = one_changes stage world rank (record next { log = next.log ++ touched.items }) o
+          (touches_stay (calls_at stage rank) next.at t (length agent.log) 0 places world.cells next.log
+          (goes (calls_at stage rank) agent.at agent.log (Issue agent.at access) (o.each rank) (named_next stage world rank call here) refl));
+    })
 
 plain_names : (calls : List Call) (form : Form) (number : ℕ) (item : Item) → IsPlainItem form number item → (named_by item ≡ Some number) × (is_some (ended_by calls item) ≡ true)
 plain_names calls NullForm number item e = rw e (refl, refl)
@@ -190,7 +197,8 @@ plain_names calls EntryForm number item e = absurd e
 pub moves_keep_order : (stage : Stage) → KeptByMoves stage (AllOrdered stage)
 moves_keep_order stage world next rank may o (Ends e) = record {
   each = one_changes stage world rank (record (kept stage world.rows rank (agent_at world rank) Ended) { ended = true }) o
-    (stays (calls_at stage rank) (agent_at world rank).at (agent_at world rank).log Ended (o.each rank) tt refl) }
+      (stays (calls_at stage rank) (agent_at world rank).at (agent_at world rank).log Ended (o.each rank) tt refl);
+}
 moves_keep_order stage world next rank may o (RefusesAlone call class here new class_is) = item_keeps stage world rank call _ here refl refl o
 moves_keep_order stage world next rank may o (IsRefused call class begins board e) = item_keeps stage world rank call _ begins.here refl refl o
 moves_keep_order stage world next rank may o (Tests call begins form e) = item_keeps stage world rank call _ begins.here refl refl o
@@ -204,9 +212,9 @@ moves_keep_order stage world next rank may o (IssuesInside call t window here in
 moves_keep_order stage world next rank may o (Enters call after begins goes_on e) = one_entry stage world rank call after begins (form_at stage world rank call) refl goes_on o
 moves_keep_order stage world next rank may o (Arrives call begins form e) =
     entry_keeps stage world rank call Arrive opened o
-      (opens stage world rank call Arrive (world.rows ++ row_of rank (agent_at world rank) call Arrive ∷ []) (length world.rows) begins.here
-        (entry_ends (calls_at stage rank) (agent_at world rank).at (length world.rows) Arrive call false begins.here refl) o)
+    (opens stage world rank call Arrive (world.rows ++ row_of rank (agent_at world rank) call Arrive ∷ []) (length world.rows) begins.here
+    (entry_ends (calls_at stage rank) (agent_at world rank).at (length world.rows) Arrive call false begins.here refl) o)
 moves_keep_order stage world next rank may o (Leaves call here inside form e) =
     entry_keeps stage world rank call Leave finished o
-      (ends stage world rank call Leave (world.rows ++ row_of rank (agent_at world rank) call Leave ∷ []) (length world.rows) here
-        (entry_ends (calls_at stage rank) (agent_at world rank).at (length world.rows) Leave call true here refl) o)
+    (ends stage world rank call Leave (world.rows ++ row_of rank (agent_at world rank) call Leave ∷ []) (length world.rows) here
+    (entry_ends (calls_at stage rank) (agent_at world rank).at (length world.rows) Leave call true here refl) o)

@@ -1,5 +1,5 @@
 -- The touches of an access are those that lead the items after its Issue: kept as a block is added to a log.
-use Rattle.std.proofs.Common.{◌≡◌, ◌≢◌, ℕ, zero, suc, ◌+◌, ◌<◌, ◌≤◌, ◌⊎◌, inl, inr, Bool, true, false, cond, List, [], ◌∷◌, ◌++◌, length, drop, refl, sym, ◌∙◌, ap, subst, arith, add-one}
+use Rattle.std.proofs.Common.{◌≡◌, ℕ, ◌+◌, ◌<◌, ◌≤◌, ◌⊎◌, inl, inr, Bool, true, false, cond, List, [], ◌∷◌, ◌++◌, length, drop, refl, sym, ◌∙◌, ap, subst, arith}
 use Rattle.std.specs.Prelude.{nat_lt}
 use Rattle.std.proofs.lemmas.Bool.{ltb-true, ltb-false}
 use Rattle.std.specs.List.{filter, AllByRecursion}
@@ -129,9 +129,9 @@ block_follows log item touches plain own below =
     ap (leading (is_touch_of index)) (drop-append-add log (item ∷ touches) 1)
     ∙ leading_all (is_touch_of index) touches pass
     ∙ sym (filter-append (is_touch_of index) log (item ∷ touches)
-      ∙ ap (λ front. front ++ filter (is_touch_of index) (item ∷ touches)) (filter_none (is_touch_of index) log none)
-      ∙ ap (λ b. cond b (item ∷ filter (is_touch_of index) touches) (filter (is_touch_of index) touches)) (plain_fails index item plain)
-      ∙ filter_all (is_touch_of index) touches pass)
+    ∙ ap (λ front. front ++ filter (is_touch_of index) (item ∷ touches)) (filter_none (is_touch_of index) log none)
+    ∙ ap (λ b. cond b (item ∷ filter (is_touch_of index) touches) (filter (is_touch_of index) touches)) (plain_fails index item plain)
+    ∙ filter_all (is_touch_of index) touches pass)
 
 lt_or_le : (a b : ℕ) → (a < b) ⊎ (b ≤ a)
 lt_or_le a b = elim (nat_lt a b) as (λ t. nat_lt a b ≡ t → (a < b) ⊎ (b ≤ a)) [ true ↦ λ e. inl (ltb-true a b e) | false ↦ λ e. inr (ltb-false a b e) ] refl
@@ -140,10 +140,12 @@ lt_or_le a b = elim (nat_lt a b) as (λ t. nat_lt a b ≡ t → (a < b) ⊎ (b �
 pub follow_more : (log : List Item) (item : Item) (touches : List Item) → is_touch item ≡ false → AllByRecursion (IsTouchOf (length log)) touches →
     AllByRecursion (λ n. n < length log) (issues_touched log) → TouchesFollow log → TouchesFollow (log ++ item ∷ touches)
 follow_more log item touches plain own below follows index inside =
-    elim (lt_or_le index (length log))
-      [ inl less ↦ below_follows log item touches index less plain own (follows index less)
-      | inr more ↦ elim (eqb_tells index (length log))
-          [ inl same ↦ subst (FollowsAt (log ++ item ∷ touches)) (sym same.1) (block_follows log item touches plain own below)
-          | inr other ↦ no_touch_follows (log ++ item ∷ touches) index
-              (each_append (λ x. is_touch_of index x ≡ false) log (item ∷ touches) (none_above index (length log) more log below)
-                (plain_fails index item plain, all_other index (length log) (λ e. other.1 (sym e)) touches own)) ] ]
+    elim (lt_or_le index (length log)) [
+      | inl less ↦ below_follows log item touches index less plain own (follows index less)
+      | inr more ↦ elim (eqb_tells index (length log)) [
+        | inl same ↦ subst (FollowsAt (log ++ item ∷ touches)) (sym same.1) (block_follows log item touches plain own below)
+        | inr other ↦ no_touch_follows (log ++ item ∷ touches) index
+            (each_append (λ x. is_touch_of index x ≡ false) log (item ∷ touches) (none_above index (length log) more log below)
+            (plain_fails index item plain, all_other index (length log) (λ e. other.1 (sym e)) touches own))
+      ]
+    ]

@@ -1,1 +1,2 @@
 -- What the theorems say.
+pub mod Lawful
