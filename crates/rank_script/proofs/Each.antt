@@ -3,7 +3,7 @@ use Rattle.std.proofs.Common.{◌≡◌, ℕ, zero, suc, ◌+◌, ◌<◌, ◌�
 use Rattle.std.specs.List.{AllByRecursion, flat_map}
 use Rattle.std.proofs.lemmas.Option.{same_Some}
 use Rattle.rank_script.specs.Reading.{◌>>=◌, many}
-use Rattle.rank_script.proofs.Words.{bind_some}
+use Rattle.rank_script.proofs.Words.{bind_some, joined}
 use Rattle.rank_script.proofs.Digits.{chosen}
 
 -- items at their places, from this place on
@@ -40,7 +40,7 @@ module _ {A : Type 0} (goes : List ℕ → Bool) (read : ℕ → List ℕ → Op
             let t = reads.takes at text b.0.0 b.0.1 b.1 in
             let u = many_takes left (at + 1) b.0.1 d.0.0 d.0.1 d.1 in
             let parts : text ≡ (spell at b.0.0 ++ spelled spell (at + 1) d.0.0) ++ d.0.1 =
-            t.0 ∙ ap (λ (s : List ℕ). spell at b.0.0 ++ s) u.parts ∙ sym (append_assoc (spell at b.0.0) (spelled spell (at + 1) d.0.0) d.0.1) in
+            joined text (spell at b.0.0) b.0.1 (spelled spell (at + 1) d.0.0) d.0.1 t.0 u.parts in
             subst (λ (y : List A × List ℕ). Took (suc left) at text y.0 y.1) (same_Some (b.0.0 ∷ d.0.0, d.0.1) (xs, rest) d.2) (record { parts = parts; count = omega (arith, u.count); all = (t.1, u.all) })
         | inr ended ↦
             subst (λ (y : List A × List ℕ). Took (suc left) at text y.0 y.1) (same_Some ([], text) (xs, rest) ended.1) (record { parts = refl; count = omega arith; all = tt })

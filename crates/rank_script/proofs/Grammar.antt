@@ -1,10 +1,10 @@
 -- What a reader takes is spelled so, and what is spelled so is read again: of a reader, and of what is made of readers.
-use Rattle.std.proofs.Common.{◌≡◌, ℕ, ◌<◌, ◌≤◌, true, false, cond, ltb, List, ◌++◌, Option, Some, None, refl, sym, ap, subst, ◌∙◌, append_assoc, arith}
+use Rattle.std.proofs.Common.{◌≡◌, ℕ, ◌<◌, ◌≤◌, true, false, cond, ltb, List, ◌++◌, Option, Some, None, refl, ap, subst, ◌∙◌, append_assoc, arith}
 use Rattle.std.specs.Fmt.{decimal}
 use Rattle.std.proofs.lemmas.Bool.{ltb-true, lt-ltb}
 use Rattle.std.proofs.lemmas.Option.{same_Some}
 use Rattle.rank_script.specs.Reading.{◌>>=◌, after, behind, ended, both, number_at, below}
-use Rattle.rank_script.proofs.Words.{bind_some, guard_some, after_takes, after_again}
+use Rattle.rank_script.proofs.Words.{bind_some, guard_some, joined, after_takes, after_again}
 use Rattle.rank_script.proofs.Digits.{begins_digit, number_takes, number_again}
 
 -- P: what has a spelling; Q: what may stand behind it
@@ -36,7 +36,7 @@ module _ {A : Type 0} (read : List ℕ → Option (A × List ℕ)) (spell : A �
     takes = λ text x rest e.
         let b = bind_some (after word text) read (x, rest) e in
         let t = reads.takes b.0 x rest b.2 in
-        (after_takes word text b.0 b.1 ∙ ap (λ (s : List ℕ). word ++ s) t.0 ∙ sym (append_assoc word (spell x) rest), t.1);
+        (joined text word b.0 (spell x) rest (after_takes word text b.0 b.1) t.0, t.1);
     again = λ x rest p q. ap (behind word read) (append_assoc word (spell x) rest) ∙ rw (after_again word (spell x ++ rest)) (reads.again x rest p q);
   }
 
@@ -48,7 +48,7 @@ module _ {A : Type 0} (read : List ℕ → Option (A × List ℕ)) (spell : A �
         let t = reads.takes text b.0.0 b.0.1 b.1 in
         let w = after_takes word b.0.1 d.0 d.1 in
         subst (λ (y : A × List ℕ). (text ≡ (spell y.0 ++ word) ++ y.1) × P y.0) (same_Some (b.0.0, d.0) (x, rest) d.2)
-        (t.0 ∙ ap (λ (s : List ℕ). spell b.0.0 ++ s) w ∙ sym (append_assoc (spell b.0.0) word d.0), t.1);
+        (joined text (spell b.0.0) b.0.1 word d.0 t.0 w, t.1);
     again = λ x rest p q. ap (ended read word) (append_assoc (spell x) word rest) ∙ rw (reads.again x (word ++ rest) p (follows rest), after_again word rest) refl;
   }
 
@@ -61,6 +61,6 @@ both_reads {A} {B} first spell P second spell' P' Q one two = record {
       let t = one.takes text b.0.0 b.0.1 b.1 in
       let u = two.takes b.0.1 d.0.0 d.0.1 d.1 in
       subst (λ (y : (A × B) × List ℕ). (text ≡ (spell y.0.0 ++ spell' y.0.1) ++ y.1) × (P y.0.0 × P' y.0.1)) (same_Some ((b.0.0, d.0.0), d.0.1) (x, rest) d.2)
-      (t.0 ∙ ap (λ (s : List ℕ). spell b.0.0 ++ s) u.0 ∙ sym (append_assoc (spell b.0.0) (spell' d.0.0) d.0.1), (t.1, u.1));
+      (joined text (spell b.0.0) b.0.1 (spell' d.0.0) d.0.1 t.0 u.0, (t.1, u.1));
   again = λ x rest p q. ap (both first second) (append_assoc (spell x.0) (spell' x.1) rest) ∙ rw (one.again x.0 (spell' x.1 ++ rest) p.0 tt, two.again x.1 rest p.1 q) refl;
 }

@@ -8,7 +8,7 @@ use Rattle.rma_types.specs.declared.calls.Call.{Call}
 use Rattle.rma_model.specs.BuiltForm.{IsBuiltCall, IsBuiltList}
 use Rattle.rma_model.specs.Canon.{call_line}
 use Rattle.rank_script.specs.Reading.{◌>>=◌, after, number_at, many, with_front, begins_call, call_at, calls_at, rank_at, allocate_at, list_at}
-use Rattle.rank_script.proofs.Words.{bind_some, guard_some, after_takes, after_again}
+use Rattle.rank_script.proofs.Words.{bind_some, guard_some, joined, after_takes, after_again}
 use Rattle.rank_script.proofs.Digits.{number_takes, number_again}
 use Rattle.rank_script.proofs.Each.{ReadsEach, spelled-flat_map, many_takes, many_again}
 use Rattle.rank_script.proofs.CallLines.{call_takes, call_again, call_begins, allocate_takes, allocate_again}
@@ -27,7 +27,7 @@ rank_takes rank text rest e =
     let number = number_takes b.0 d.0.0 d.0.1 d.1 in
     let parts : b.0 ≡ decimal rank ++ (codes "\n" ++ rest) =
     number.0 ∙ ap (λ (n : ℕ). decimal n ++ d.0.1) (eqb-true d.0.0 rank g.0) ∙ ap (λ (s : List ℕ). decimal rank ++ s) (after_takes (codes "\n") d.0.1 rest g.1) in
-    after_takes (codes "rank ") text b.0 b.1 ∙ ap (λ (s : List ℕ). codes "rank " ++ s) (parts ∙ sym (append_assoc (decimal rank) (codes "\n") rest))
+    joined text (codes "rank ") b.0 (decimal rank ++ codes "\n") rest (after_takes (codes "rank ") text b.0 b.1) (parts ∙ sym (append_assoc (decimal rank) (codes "\n") rest))
 
 rank_again : (rank : ℕ) (rest : List ℕ) → rank < 4294967296 → rank_at rank (rank_text rank ++ rest) ≡ Some rest
 unfolding rank_at
@@ -73,9 +73,9 @@ list_takes ranks few rank text calls rest e =
     let t = many_takes begins_call (λ _. call_at ranks) (λ _. call_line) (IsBuiltCall ranks) (λ _. Unit {0}) (call_reads ranks few) 65536 0 d.0.1 f.0.0 f.0.1 f.1 in
     let others : d.0.1 ≡ flat_map call_line f.0.0 ++ f.0.1 = t.parts ∙ ap (λ (s : List ℕ). s ++ f.0.1) (spelled-flat_map call_line 0 f.0.0) in
     let body : b.0 ≡ flat_map call_line (d.0.0 ∷ f.0.0) ++ f.0.1 =
-    first.0 ∙ ap (λ (s : List ℕ). call_line d.0.0 ++ s) others ∙ sym (append_assoc (call_line d.0.0) (flat_map call_line f.0.0) f.0.1) in
+    joined b.0 (call_line d.0.0) d.0.1 (flat_map call_line f.0.0) f.0.1 first.0 others in
     let parts : text ≡ list_text rank (d.0.0 ∷ f.0.0) ++ f.0.1 =
-    line ∙ ap (λ (s : List ℕ). rank_text rank ++ s) body ∙ sym (append_assoc (rank_text rank) (flat_map call_line (d.0.0 ∷ f.0.0)) f.0.1) in
+    joined text (rank_text rank) b.0 (flat_map call_line (d.0.0 ∷ f.0.0)) f.0.1 line body in
     subst (λ (y : List Call × List ℕ). (text ≡ list_text rank y.0 ++ y.1) × IsShortList ranks y.0) (same_Some (d.0.0 ∷ f.0.0, f.0.1) (calls, rest) f.2)
     (parts, record { built = (first.1, t.all); count = omega (arith, t.count) })
 

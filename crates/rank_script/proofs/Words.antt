@@ -1,5 +1,5 @@
 -- Reading a word: what is taken is the word, and a word is read again.
-use Rattle.std.proofs.Common.{◌≡◌, ◌≢◌, ℕ, Bool, true, false, eqb, List, [], ◌∷◌, ◌++◌, Option, Some, None, refl, cond, eq-eqb}
+use Rattle.std.proofs.Common.{◌≡◌, ◌≢◌, ℕ, Bool, true, false, eqb, List, [], ◌∷◌, ◌++◌, Option, Some, None, refl, sym, ap, ◌∙◌, append_assoc, cond, eq-eqb}
 use Rattle.std.proofs.lemmas.Bool.{eqb-true}
 use Rattle.rank_script.specs.Reading.{◌>>=◌, after}
 
@@ -39,3 +39,7 @@ after_is word text (Some rest) e other = absurd (other rest (after_takes word te
 
 pub after_none : (word text : List ℕ) → ((rest : List ℕ) → text ≢ word ++ rest) → after word text ≡ None
 after_none word text other = after_is word text (after word text) refl other
+
+-- two parts, one behind the other
+pub joined : (text first middle second rest : List ℕ) → text ≡ first ++ middle → middle ≡ second ++ rest → text ≡ (first ++ second) ++ rest
+joined text first middle second rest e f = e ∙ ap (λ (s : List ℕ). first ++ s) f ∙ sym (append_assoc first second rest)

@@ -7,12 +7,19 @@ use std::alloc::{AllocError, AllocFailed};
 /// The kind of a fault.
 #[derive(Clone, Copy, Debug, PartialEq, Eq)]
 pub enum FaultKind {
+    /// A token that is no word of its place.
     Word,
+    /// A token that is no number.
     Number,
+    /// A token that is no datatype.
     Datatype,
+    /// A token that is no operation.
     Op,
+    /// A token that names no window or request.
     Name,
+    /// A line in a wrong place, or with too few or too many tokens.
     Shape,
+    /// A number out of its range, or a total past its limit.
     Limit,
     /// Memory ran out. It says nothing of the text.
     NoMemory,
