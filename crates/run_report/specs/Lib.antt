@@ -1,0 +1,3 @@
+-- What a run must be for its report to be written in one pass, and the parts of the text that the code writes.
+pub mod Orderly
+pub mod Parts
