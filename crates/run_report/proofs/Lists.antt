@@ -57,3 +57,11 @@ pub drop_min : {X : Type 0} (k : ℕ) (xs : List X) → drop (min k (length xs))
 drop_min k xs = elim (cases_lt k (length xs)) [
     inl l ↦ let e : min k (length xs) ≡ k = omega arith in rw e refl
   | inr g ↦ let e : min k (length xs) ≡ length xs = omega arith in rw e (at_drop_all (λ ys. ys) xs (length xs) (omega arith) ∙ sym (at_drop_all (λ ys. ys) xs k g)) ]
+
+-- one number more is written
+pub written_step : (f : ℕ → List ℕ) (k n : ℕ) (text next whole : List ℕ) → k < n → text ++ flat_map f (numbers_from k (n - k)) ≡ whole → next ≡ text ++ f k
+  → next ++ flat_map f (numbers_from (k + 1) (n - (k + 1))) ≡ whole
+written_step f k n text next whole h i e =
+    ap (λ t. t ++ flat_map f (numbers_from (k + 1) (n - (k + 1)))) e
+    ∙ append_assoc text (f k) (flat_map f (numbers_from (k + 1) (n - (k + 1))))
+    ∙ ap (λ t. text ++ t) (sym (numbers_step (flat_map f) k n h)) ∙ i

@@ -5,6 +5,7 @@
 #![tactic(auto)]
 
 mod calls;
+mod counts;
 mod fetches;
 mod findings;
 mod memory;
