@@ -1,6 +1,6 @@
 -- What the board answers an entry after the entries before it: MPI 3.1, section 11.5, in this project's profile.
-use Rattle.std.specs.Prelude.{ℕ, ◌+◌, ◌*◌, Bool, true, false, not, ◌&&◌, ◌||◌, ◌==◌, if◌then◌else◌, nat_lt, nat_le, List, [], ◌∷◌, ◌++◌, map, length, take, reverse, Option, Some, None, ℤ, slice_get}
-use Rattle.std.specs.List.{list_any, list_all, count_by, filter, fold, find, flat_map}
+use Rattle.std.specs.Prelude.{ℕ, Bool, true, false, not, ◌&&◌, ◌||◌, ◌==◌, if◌then◌else◌, nat_lt, nat_le, List, [], ◌∷◌, ◌++◌, map, length, take, reverse, Option, Some, None, slice_get}
+use Rattle.std.specs.List.{list_any, list_all, count_by, filter, fold, flat_map}
 use Rattle.std.specs.Option.{option_map_or}
 use Rattle.rma_types.specs.declared.accesses.Step.{Step}
 use Rattle.rma_types.specs.declared.accesses.Step.TheVariants.{Arrive, Leave, One}
@@ -11,8 +11,8 @@ use Rattle.rma_types.specs.declared.calls.Flavor.{Flavor}
 use Rattle.rma_types.specs.declared.calls.Lock.{Lock}
 use Rattle.rma_types.specs.declared.calls.Lock.TheVariants.{Shared, Exclusive}
 use Rattle.rma_types.specs.declared.calls.Call.{Call}
-use Rattle.rma_types.specs.declared.calls.Call.TheVariants.{Allocate, Create, Dynamic, Free, Attach, Detach, Fence, Post, Start, Complete, WaitWin, TestWin, LockOne, Unlock, LockAll, UnlockAll, Barrier}
-use Rattle.rma_model.specs.Entries.{Row, Act, acts, window_of, is_arrive, is_leave, is_fence, is_post, is_start, is_complete, is_wait, is_free, calls_on, arrivals}
+use Rattle.rma_types.specs.declared.calls.Call.TheVariants.{Free, Attach, Detach, Fence, Post, Start, WaitWin, TestWin, LockOne, Unlock, LockAll, UnlockAll}
+use Rattle.rma_model.specs.Entries.{Row, Act, acts, window_of, is_leave, is_post, is_start, is_complete, is_wait, calls_on, arrivals}
 use Rattle.rma_model.specs.Transfers.{Transfer, Target, Own, Null, Named, transfer_of}
 use Rattle.rma_model.specs.Synchronising.{flavor_made, is_same_flavor, rank_number, members_of, is_member}
 use Rattle.rma_model.specs.Windows.{Region, is_attached, natural}
@@ -43,7 +43,7 @@ arrivals_of q rank = arrivals q.entries q.call rank q.window
 abbrev pub round_arrivals : Question → List Call
 round_arrivals q =
     flat_map (λ rank. option_map_or (λ call. call ∷ []) (slice_get (arrivals_of q rank) (length (arrivals_of q q.rank))) [])
-      (numbers_from 0 q.ranks)
+    (numbers_from 0 q.ranks)
 
 -- every rank has arrived as often as this one, so in each of its rounds
 abbrev pub all_arrived : Question → Bool
@@ -127,13 +127,13 @@ released at holder window held =
 abbrev pub held_after : ℕ → List Held → Act → List Held
 held_after ranks held act = by_call act.row.call
   where
-  by_call : Call → List Held
-  by_call (LockOne win kind target asserts) =
-      held ++ record { holder = act.row.rank; window = act.window; target = rank_number target; kind = kind } ∷ []
-  by_call (LockAll win asserts) = held ++ locks_of_all ranks act.row.rank act.window
-  by_call (Unlock win target) = released (λ one. one == rank_number target) act.row.rank act.window held
-  by_call (UnlockAll win) = released (λ one. true) act.row.rank act.window held
-  by_call call = held
+    by_call : Call → List Held
+    by_call (LockOne win kind target asserts) =
+        held ++ record { holder = act.row.rank; window = act.window; target = rank_number target; kind = kind } ∷ []
+    by_call (LockAll win asserts) = held ++ locks_of_all ranks act.row.rank act.window
+    by_call (Unlock win target) = released (λ one. one == rank_number target) act.row.rank act.window held
+    by_call (UnlockAll win) = released (λ one. true) act.row.rank act.window held
+    by_call call = held
 
 -- the locks that are held after the entries
 abbrev pub held_locks : ℕ → List Act → List Held
@@ -153,14 +153,14 @@ excludes a b = is_exclusive a || is_exclusive b
 abbrev pub attached_after : ℕ → List Region → Act → List Region
 attached_after rank regions act = if act.row.rank == rank then by_call act.row.call else regions
   where
-  by_call : Call → List Region
-  by_call (Attach win base bytes) =
-      regions ++ record { win = act.window; base = natural base; bytes = natural bytes; attached = true } ∷ []
-  by_call (Detach win base) =
-      filter (λ (region : Region). not (region.win == act.window && region.base == natural base)) regions
-  by_call (Free win) =
-      if is_leave act.row.step then filter (λ (region : Region). not (region.win == act.window)) regions else regions
-  by_call call = regions
+    by_call : Call → List Region
+    by_call (Attach win base bytes) =
+        regions ++ record { win = act.window; base = natural base; bytes = natural bytes; attached = true } ∷ []
+    by_call (Detach win base) =
+        filter (λ (region : Region). not (region.win == act.window && region.base == natural base)) regions
+    by_call (Free win) =
+        if is_leave act.row.step then filter (λ (region : Region). not (region.win == act.window)) regions else regions
+    by_call call = regions
 
 -- the regions that a rank has attached after the entries
 abbrev pub attached_by : List Act → ℕ → List Region
@@ -185,18 +185,18 @@ abbrev pub refusal : Question → Step → Option Class
 refusal q Leave = None
 refusal q Arrive = by_call q.call
   where
-  by_call : Call → Option Class
-  by_call (Fence win asserts) = refuse_if (list_any (fences_differ asserts) (round_arrivals q)) AssertClass
-  by_call call = option_map_or
-    (λ flavor. refuse_if (list_any (creations_differ flavor) (round_arrivals q)) FlavorClass) (flavor_made call) None
+    by_call : Call → Option Class
+    by_call (Fence win asserts) = refuse_if (list_any (fences_differ asserts) (round_arrivals q)) AssertClass
+    by_call call = option_map_or
+        (λ flavor. refuse_if (list_any (creations_differ flavor) (round_arrivals q)) FlavorClass) (flavor_made call) None
 refusal q One = by_call q.call
   where
-  by_call : Call → Option Class
-  by_call (Post win group asserts) =
-      refuse_if (list_any (λ (one : Held). one.target == q.rank) (held_here q)) SyncClass
-  by_call (LockOne win kind target asserts) = refuse_if (is_rank_posted q (rank_number target)) SyncClass
-  by_call (LockAll win asserts) = refuse_if (list_any (is_rank_posted q) (numbers_from 0 q.ranks)) SyncClass
-  by_call call = option_map_or (λ (t : Transfer). refuse_if (reaches_unattached q t (target_rank t.target)) RangeClass) (transfer_of call) None
+    by_call : Call → Option Class
+    by_call (Post win group asserts) =
+        refuse_if (list_any (λ (one : Held). one.target == q.rank) (held_here q)) SyncClass
+    by_call (LockOne win kind target asserts) = refuse_if (is_rank_posted q (rank_number target)) SyncClass
+    by_call (LockAll win asserts) = refuse_if (list_any (is_rank_posted q) (numbers_from 0 q.ranks)) SyncClass
+    by_call call = option_map_or (λ (t : Transfer). refuse_if (reaches_unattached q t (target_rank t.target)) RangeClass) (transfer_of call) None
 
 -- the entry is allowed, where it is not refused
 abbrev pub is_allowed_now : Question → Step → Bool
@@ -204,27 +204,32 @@ is_allowed_now q Arrive = true
 is_allowed_now q Leave = all_arrived q
 is_allowed_now q One = by_call q.call
   where
-  by_call : Call → Bool
-  by_call (Start win group asserts) = start_has_posts q (members_of group)
-  by_call (WaitWin win) = wait_has_completes q
-  by_call (TestWin win) = wait_has_completes q
-  by_call (LockOne win kind target asserts) =
-      list_all (λ (one : Held). not (one.target == rank_number target && excludes kind one.kind)) (held_here q)
-  by_call (LockAll win asserts) = list_all (λ (one : Held). not (is_exclusive one.kind)) (held_here q)
-  by_call call = true
+    by_call : Call → Bool
+    by_call (Start win group asserts) = start_has_posts q (members_of group)
+    by_call (WaitWin win) = wait_has_completes q
+    by_call (TestWin win) = wait_has_completes q
+    by_call (LockOne win kind target asserts) =
+        list_all (λ (one : Held). not (one.target == rank_number target && excludes kind one.kind)) (held_here q)
+    by_call (LockAll win asserts) = list_all (λ (one : Held). not (is_exclusive one.kind)) (held_here q)
+    by_call call = true
 
 -- a refusal is tested before the rest
 abbrev pub decision : Question → Step → Decision
 decision q step = decided (refusal q step)
   where
-  decided : Option Class → Decision
-  decided (Some class) = Refuse class
-  decided None = if is_allowed_now q step then Allow else NotYet
+    decided : Option Class → Decision
+    decided (Some class) = Refuse class
+    decided None = if is_allowed_now q step then Allow else NotYet
 
 -- the question that an entry is, after the entries before it
 abbrev pub question : ℕ → List Row → Row → Question
 question ranks before row = record {
-  ranks = ranks; entries = acts before; rank = row.rank; call = row.call; window = window_of before row }
+  ranks = ranks;
+  entries = acts before;
+  rank = row.rank;
+  call = row.call;
+  window = window_of before row;
+}
 
 -- the board's answer to an entry after the entries before it
 abbrev pub decide : ℕ → List Row → Row → Decision

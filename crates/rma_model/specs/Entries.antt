@@ -1,11 +1,11 @@
 -- The entries of the board, in the order of their places: this project's profile of MPI 3.1, sections 11.2 and 11.5.
-use Rattle.std.specs.Prelude.{ℕ, ◌+◌, ◌-◌, ◌*◌, Bool, true, false, ◌&&◌, ◌==◌, if◌then◌else◌, List, [], ◌∷◌, ◌++◌, map, Option, Some, None, is_some}
+use Rattle.std.specs.Prelude.{ℕ, ◌+◌, ◌-◌, ◌*◌, Bool, true, false, ◌&&◌, ◌==◌, if◌then◌else◌, List, [], ◌∷◌, ◌++◌, map, is_some}
 use Rattle.std.specs.List.{count_by, filter}
 use Rattle.std.specs.Option.{option_map_or}
 use Rattle.rma_types.specs.declared.accesses.Step.{Step}
 use Rattle.rma_types.specs.declared.accesses.Step.TheVariants.{Arrive, Leave, One}
 use Rattle.rma_types.specs.declared.calls.Call.{Call}
-use Rattle.rma_types.specs.declared.calls.Call.TheVariants.{Fence, Free, Barrier, Post, Start, Complete, WaitWin, TestWin, Attach, Detach}
+use Rattle.rma_types.specs.declared.calls.Call.TheVariants.{Fence, Free, Barrier, Post, Start, Complete, WaitWin, TestWin}
 use Rattle.rma_model.specs.Synchronising.{window_named, flavor_made}
 
 -- an entry: the rank, the number of its call in the rank's list, the call, and the step
@@ -83,10 +83,11 @@ creations rows rank win =
 abbrev pub window_of : List Row → Row → ℕ
 window_of before row = option_map_or numbered (window_named row.call) 0
   where
-  begins : Bool
-  begins = is_arrive row.step && is_creation row.call
-  numbered : ℕ → ℕ
-  numbered win = 32 * (if begins then creations before row.rank win else creations before row.rank win - 1) + win
+    begins : Bool
+    begins = is_arrive row.step && is_creation row.call
+
+    numbered : ℕ → ℕ
+    numbered win = 32 * (if begins then creations before row.rank win else creations before row.rank win - 1) + win
 
 -- an entry with the number of its window
 pub record Act : Type 0 where
@@ -110,5 +111,5 @@ calls_on test entries rank window =
 abbrev pub arrivals : List Act → Call → ℕ → ℕ → List Call
 arrivals entries collective rank window =
     map (λ (act : Act). act.row.call) (filter
-      (λ (act : Act). act.row.rank == rank && act.window == window && is_arrive act.row.step && is_same_collective collective act.row.call)
-      entries)
+    (λ (act : Act). act.row.rank == rank && act.window == window && is_arrive act.row.step && is_same_collective collective act.row.call)
+    entries)

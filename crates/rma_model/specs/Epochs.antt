@@ -1,10 +1,9 @@
 -- The epochs of a rank on one window: MPI 3.1, section 11.5.
-use Rattle.std.specs.Prelude.{ℕ, Bool, true, false, not, ◌&&◌, ◌||◌, ◌==◌, if◌then◌else◌, List, [], ◌∷◌, ◌++◌, Option, Some, None, is_some}
-use Rattle.std.specs.List.{list_any, filter}
+use Rattle.std.specs.Prelude.{ℕ, Bool, true, false, not, ◌&&◌, ◌||◌, ◌==◌, if◌then◌else◌, List, [], ◌∷◌, ◌++◌, is_some}
+use Rattle.std.specs.List.{filter}
 use Rattle.std.specs.Option.{option_map_or}
-use Rattle.rma_types.specs.declared.calls.Asserts.{Asserts}
 use Rattle.rma_types.specs.declared.calls.Call.{Call}
-use Rattle.rma_types.specs.declared.calls.Call.TheVariants.{Allocate, Create, Dynamic, Free, Attach, Detach, Fence, Post, Start, Complete, WaitWin, TestWin, LockOne, Unlock, LockAll, UnlockAll, Flush, FlushAll, FlushLocal, FlushLocalAll, Sync, Barrier, Put, Get, Acc, GetAcc, Fop, Cas, Load, Store, WaitReq, TestReq}
+use Rattle.rma_types.specs.declared.calls.Call.TheVariants.{Free, Fence, Post, Start, Complete, WaitWin, TestWin, LockOne, Unlock, LockAll, UnlockAll, Flush, FlushAll, FlushLocal, FlushLocalAll, Sync}
 use Rattle.rma_model.specs.Transfers.{Transfer, Target, Own, Null, Named, transfer_of}
 use Rattle.rma_model.specs.Synchronising.{rank_number, members_of, is_member}
 
@@ -83,10 +82,10 @@ may_reach AllLocked rank = true
 abbrev pub may_transfer : AccessState → Transfer → Bool
 may_transfer state t = reaches t.target
   where
-  reaches : Target → Bool
-  reaches Own = true
-  reaches Null = true
-  reaches (Named rank) = if is_some t.request then is_locked_at state (rank_number rank) else may_reach state (rank_number rank)
+    reaches : Target → Bool
+    reaches Own = true
+    reaches Null = true
+    reaches (Named rank) = if is_some t.request then is_locked_at state (rank_number rank) else may_reach state (rank_number rank)
 
 -- the call is allowed in the states
 abbrev pub is_in_epoch : AccessState → ExposureState → Call → Bool
@@ -126,10 +125,10 @@ used AllLocked = AllLocked
 abbrev pub after_transfer : AccessState → Transfer → AccessState
 after_transfer access t = reached t.target
   where
-  reached : Target → AccessState
-  reached Own = access
-  reached Null = access
-  reached (Named rank) = if is_some t.request then access else used access
+    reached : Target → AccessState
+    reached Own = access
+    reached Null = access
+    reached (Named rank) = if is_some t.request then access else used access
 
 -- the access state after the accepted call
 abbrev pub access_after : AccessState → Call → AccessState

@@ -4,19 +4,16 @@ use Rattle.std.specs.List.{count_by, filter, fold}
 use Rattle.std.specs.Option.{option_map_or}
 use Rattle.rma_types.specs.declared.accesses.Step.{Step}
 use Rattle.rma_types.specs.declared.accesses.Step.TheVariants.{Arrive, Leave, One}
-use Rattle.rma_types.specs.declared.accesses.Access.{Access}
 use Rattle.rma_types.specs.declared.calls.Flavor.{Flavor}
 use Rattle.rma_types.specs.declared.calls.Call.{Call}
 use Rattle.rma_types.specs.declared.calls.Call.TheVariants.{Create, Free, Attach, Detach, WaitReq, TestReq}
 use Rattle.rma_record.specs.declared.items.Item.{Item}
 use Rattle.rma_record.specs.declared.items.Item.TheVariants.{Issue, Null, Touch, Flush, Request, Entry, Tested, Refused, Ended}
 use Rattle.rma_types.specs.declared.scripts.Part.{Part}
-use Rattle.rma_types.specs.declared.scripts.Layout.{Layout}
-use Rattle.rma_model.specs.Entries.{Act}
 use Rattle.rma_model.specs.Transfers.{Transfer, transfer_of}
 use Rattle.rma_model.specs.Synchronising.{window_named, flavor_made}
-use Rattle.rma_model.specs.Epochs.{AccessState, Idle, ExposureState, Unexposed, access_after, exposure_after}
-use Rattle.rma_model.specs.Windows.{Window, Region, natural, shape_of}
+use Rattle.rma_model.specs.Epochs.{Idle, Unexposed, access_after, exposure_after}
+use Rattle.rma_model.specs.Windows.{Window, Region, natural}
 
 -- a live request: its name, and the number of the call that made it
 pub record LiveRequest : Type 0 where
@@ -47,25 +44,33 @@ abbrev pub with_window : (ℕ → List Part) → Knowledge → Call → ℕ → 
 with_window shapes known call win flavor = record {
   created = known.created ++ win ∷ [];
   windows = known.windows ++ record {
-    win = win; number = next_number known.created win; flavor = flavor; parts = shapes (next_number known.created win);
-    access = Idle; exposure = Unexposed } ∷ [];
+    win = win;
+    number = next_number known.created win;
+    flavor = flavor;
+    parts = shapes (next_number known.created win);
+    access = Idle;
+    exposure = Unexposed;
+  } ∷ [];
   regions = known.regions ++ region_made call;
-  requests = known.requests }
+  requests = known.requests;
+}
 
 -- a window is freed, and with it the ranges that were its own or attached to it
 abbrev pub without_window : Knowledge → ℕ → Knowledge
 without_window known win = record known {
   windows = filter (λ (window : Window). not (window.win == win)) known.windows;
-  regions = filter (λ (region : Region). not (region.win == win)) known.regions }
+  regions = filter (λ (region : Region). not (region.win == win)) known.regions;
+}
 
 -- the epochs on the window that the call names go on
 abbrev pub with_epochs : Knowledge → Call → Knowledge
 with_epochs known call = option_map_or
-  (λ win. record known {
-    windows = map (λ (window : Window). if window.win == win
-      then record window { access = access_after window.access call; exposure = exposure_after window.exposure call }
-      else window) known.windows })
-  (window_named call) known
+    (λ win. record known {
+      windows = map (λ (window : Window). if window.win == win
+          then record window { access = access_after window.access call; exposure = exposure_after window.exposure call }
+          else window) known.windows;
+    })
+    (window_named call) known
 
 -- the regions after an attach or a detach
 abbrev pub regions_after : List Region → Call → List Region
@@ -81,23 +86,24 @@ requests_after requests number (WaitReq name) = filter (λ (one : LiveRequest). 
 requests_after requests number (TestReq name) = filter (λ (one : LiveRequest). not (one.name == name)) requests
 requests_after requests number call = option_map_or made (transfer_of call) requests
   where
-  made : Transfer → List LiveRequest
-  made t = option_map_or (λ name. requests ++ record { name = name; number = number } ∷ []) t.request requests
+    made : Transfer → List LiveRequest
+    made t = option_map_or (λ name. requests ++ record { name = name; number = number } ∷ []) t.request requests
 
 -- a call other than a creation or a free is accepted
 abbrev pub after_plain : Knowledge → ℕ → Call → Knowledge
 after_plain known number call = record (with_epochs known call) {
   regions = regions_after known.regions call;
-  requests = requests_after known.requests number call }
+  requests = requests_after known.requests number call;
+}
 
 -- what is known after the accepted call of this number; shapes gives the parts of a window by its number
 abbrev pub after_call : (ℕ → List Part) → Knowledge → ℕ → Call → Knowledge
 after_call shapes known number (Free win) = without_window known win
 after_call shapes known number call = by_flavor (flavor_made call) (window_named call)
   where
-  by_flavor : Option Flavor → Option ℕ → Knowledge
-  by_flavor (Some flavor) (Some win) = with_window shapes known call win flavor
-  by_flavor flavor win = after_plain known number call
+    by_flavor : Option Flavor → Option ℕ → Knowledge
+    by_flavor (Some flavor) (Some win) = with_window shapes known call win flavor
+    by_flavor flavor win = after_plain known number call
 
 -- an entry ends its call, unless it is an Arrive or the look-up of an RMA call
 abbrev pub ends_call : Step → Option Transfer → Bool
@@ -114,18 +120,24 @@ accepted_by calls (Touch issue element cell place bits) = None
 accepted_by calls (Flush number) = Some number
 accepted_by calls (Request number) = Some number
 accepted_by calls (Entry number place step) = option_map_or
-  (λ (call : Call). if ends_call step (transfer_of call) then Some number else None) (slice_get calls number) None
+    (λ (call : Call). if ends_call step (transfer_of call) then Some number else None) (slice_get calls number) None
 accepted_by calls (Tested number seen) = None
 accepted_by calls (Refused number class seen) = None
 accepted_by calls Ended = None
 
--- what is known after one more item
-abbrev pub learn : (ℕ → List Part) → List Call → Knowledge → Item → Knowledge
+-- the place of an item that is an entry
+abbrev pub entry_place : Item → ℕ
+entry_place (Entry number place step) = place
+entry_place item = 0
+
+-- What is known after one more item. shapes gives the parts of a window by its number, at a place of the board: those
+-- that the arrivals before this place brought.
+abbrev pub learn : (ℕ → ℕ → List Part) → List Call → Knowledge → Item → Knowledge
 learn shapes calls known item = option_map_or heard (accepted_by calls item) known
   where
-  heard : ℕ → Knowledge
-  heard number = option_map_or (λ (call : Call). after_call shapes known number call) (slice_get calls number) known
+    heard : ℕ → Knowledge
+    heard number = option_map_or (λ (call : Call). after_call (shapes (entry_place item)) known number call) (slice_get calls number) known
 
 -- what a rank knows after these items of its log
-abbrev pub known_after : (ℕ → List Part) → List Call → List Item → Knowledge
+abbrev pub known_after : (ℕ → ℕ → List Part) → List Call → List Item → Knowledge
 known_after shapes calls items = fold (learn shapes calls) nothing_known items

@@ -1,5 +1,5 @@
 -- The text of a report on a run: this project's profile.
-use Rattle.std.specs.Prelude.{ℕ, ◌+◌, ◌-◌, ◌*◌, ◌/◌, ◌%◌, Bool, true, false, not, ◌==◌, if◌then◌else◌, ℤ, pos, List, [], ◌∷◌, ◌++◌, map, length, take, drop, sum, sum_by, count_by, slice_get, Option, Some, None, codes}
+use Rattle.std.specs.Prelude.{ℕ, ◌+◌, ◌*◌, ◌/◌, ◌%◌, Bool, false, not, ◌==◌, if◌then◌else◌, ℤ, List, [], ◌∷◌, ◌++◌, map, length, take, drop, sum, sum_by, count_by, slice_get, Option, Some, None, codes}
 use Rattle.std.specs.List.{filter, flat_map, find, list_any, list_all, enumerate_from}
 use Rattle.std.specs.Option.{option_map_or, option_and_then}
 use Rattle.std.specs.Fmt.{digit_glyph}
@@ -17,11 +17,12 @@ use Rattle.rma_types.specs.CallWords.{word_of}
 use Rattle.rma_types.specs.Classes.{class_text}
 use Rattle.rma_types.specs.Datatypes.{size_of}
 use Rattle.rma_record.specs.declared.items.Item.{Item}
-use Rattle.rma_record.specs.declared.items.Item.TheVariants.{Issue, Touch, Entry, Tested, Refused, Ended}
+use Rattle.rma_record.specs.declared.items.Item.TheVariants.{Issue, Touch, Entry, Tested, Refused}
 use Rattle.rma_record.specs.declared.runs.Run.{Run}
 use Rattle.rma_model.specs.declared.modes.Mode.{Mode}
 use Rattle.rma_model.specs.declared.modes.Mode.TheVariants.{Step as StepMode, Run as RunMode, Work as WorkMode}
 use Rattle.rma_model.specs.Elements.{element_in}
+pub use Rattle.rma_model.specs.Items.{is_issue, is_touch, is_entry, is_refused, is_ended, has_ended}
 use Rattle.rma_model.specs.Entries.{is_testwin}
 use Rattle.rma_model.specs.Knowledge.{accepted_by}
 use Rattle.rma_model.specs.Layout.{layout as layout_of, calls_of}
@@ -35,30 +36,6 @@ abbrev pub call_name : ℕ → ℕ → List ℕ
 call_name rank call = number rank ++ 58 ∷ number call
 
 -- ---- items and logs
-
-abbrev pub is_issue : Item → Bool
-is_issue (Issue call access) = true
-is_issue item = false
-
-abbrev pub is_touch : Item → Bool
-is_touch (Touch issue element cell place bits) = true
-is_touch item = false
-
-abbrev pub is_entry : Item → Bool
-is_entry (Entry call place step) = true
-is_entry item = false
-
-abbrev pub is_refused : Item → Bool
-is_refused (Refused call class seen) = true
-is_refused item = false
-
-abbrev pub is_ended : Item → Bool
-is_ended Ended = true
-is_ended item = false
-
--- the rank has ended: its log ends with Ended
-abbrev pub has_ended : List Item → Bool
-has_ended log = option_map_or is_ended (slice_get log (length log - 1)) false
 
 -- the log of a rank
 abbrev pub log_at : Run → ℕ → List Item

@@ -1,9 +1,9 @@
 -- The calls that move data: MPI 3.1, section 11.3, and this project's loads and stores.
-use Rattle.std.specs.Prelude.{ℕ, Bool, true, false, not, ◌||◌, List, [], ◌∷◌, length, Option, Some, None, ℤ, pos, slice_index}
+use Rattle.std.specs.Prelude.{ℕ, Bool, true, false, not, List, [], ◌∷◌, length, Option, Some, None, ℤ, pos, slice_index}
 use Rattle.std.specs.Option.{option_map_or}
 use Rattle.rma_types.specs.declared.dtypes.Dtype.{Dtype}
 use Rattle.rma_types.specs.declared.ops.Op.{Op}
-use Rattle.rma_types.specs.declared.ops.Op.TheVariants.{Replace, NoOp, Max, Min, Sum, Prod, Land, Band, Lor, Bor, Lxor, Bxor}
+use Rattle.rma_types.specs.declared.ops.Op.TheVariants.{Replace, NoOp}
 use Rattle.rma_types.specs.declared.accesses.Kind.{Kind}
 use Rattle.rma_types.specs.declared.accesses.Kind.TheVariants.{Get as GetKind, Put as PutKind, Acc as AccKind, Cas as CasKind, Load as LoadKind, Store as StoreKind}
 use Rattle.rma_types.specs.declared.calls.Call.{Call}
@@ -38,29 +38,109 @@ pub record Transfer : Type 0 where
 -- the transfer that a call makes, if it is one that moves data
 abbrev pub transfer_of : Call → Option Transfer
 transfer_of (Put req win target disp dtype values) = Some (record {
-  request = req; win = win; target = target_of target; disp = disp; dtype = dtype; count = pos (length values);
-  kind = PutKind; fetches = false; op = Replace; operands = values; compare = None })
+  request = req;
+  win = win;
+  target = target_of target;
+  disp = disp;
+  dtype = dtype;
+  count = pos (length values);
+  kind = PutKind;
+  fetches = false;
+  op = Replace;
+  operands = values;
+  compare = None;
+})
 transfer_of (Get req win target disp dtype count) = Some (record {
-  request = req; win = win; target = target_of target; disp = disp; dtype = dtype; count = count;
-  kind = GetKind; fetches = true; op = NoOp; operands = []; compare = None })
+  request = req;
+  win = win;
+  target = target_of target;
+  disp = disp;
+  dtype = dtype;
+  count = count;
+  kind = GetKind;
+  fetches = true;
+  op = NoOp;
+  operands = [];
+  compare = None;
+})
 transfer_of (Acc req win target disp dtype op values) = Some (record {
-  request = req; win = win; target = target_of target; disp = disp; dtype = dtype; count = pos (length values);
-  kind = AccKind op dtype; fetches = false; op = op; operands = values; compare = None })
+  request = req;
+  win = win;
+  target = target_of target;
+  disp = disp;
+  dtype = dtype;
+  count = pos (length values);
+  kind = AccKind op dtype;
+  fetches = false;
+  op = op;
+  operands = values;
+  compare = None;
+})
 transfer_of (GetAcc req win target disp dtype op values) = Some (record {
-  request = req; win = win; target = target_of target; disp = disp; dtype = dtype; count = pos (length values);
-  kind = AccKind op dtype; fetches = true; op = op; operands = values; compare = None })
+  request = req;
+  win = win;
+  target = target_of target;
+  disp = disp;
+  dtype = dtype;
+  count = pos (length values);
+  kind = AccKind op dtype;
+  fetches = true;
+  op = op;
+  operands = values;
+  compare = None;
+})
 transfer_of (Fop win target disp dtype op value) = Some (record {
-  request = None; win = win; target = target_of target; disp = disp; dtype = dtype; count = pos 1;
-  kind = AccKind op dtype; fetches = true; op = op; operands = value ∷ []; compare = None })
+  request = None;
+  win = win;
+  target = target_of target;
+  disp = disp;
+  dtype = dtype;
+  count = pos 1;
+  kind = AccKind op dtype;
+  fetches = true;
+  op = op;
+  operands = value ∷ [];
+  compare = None;
+})
 transfer_of (Cas win target disp dtype compare new) = Some (record {
-  request = None; win = win; target = target_of target; disp = disp; dtype = dtype; count = pos 1;
-  kind = CasKind dtype; fetches = true; op = Replace; operands = new ∷ []; compare = Some compare })
+  request = None;
+  win = win;
+  target = target_of target;
+  disp = disp;
+  dtype = dtype;
+  count = pos 1;
+  kind = CasKind dtype;
+  fetches = true;
+  op = Replace;
+  operands = new ∷ [];
+  compare = Some compare;
+})
 transfer_of (Load win disp dtype count) = Some (record {
-  request = None; win = win; target = Own; disp = disp; dtype = dtype; count = count;
-  kind = LoadKind; fetches = true; op = NoOp; operands = []; compare = None })
+  request = None;
+  win = win;
+  target = Own;
+  disp = disp;
+  dtype = dtype;
+  count = count;
+  kind = LoadKind;
+  fetches = true;
+  op = NoOp;
+  operands = [];
+  compare = None;
+})
 transfer_of (Store win disp dtype values) = Some (record {
-  request = None; win = win; target = Own; disp = disp; dtype = dtype; count = pos (length values);
-  kind = StoreKind; fetches = false; op = Replace; operands = values; compare = None })
+  request = None;
+  win = win;
+  target = Own;
+  disp = disp;
+  dtype = dtype;
+  count = pos (length values);
+  kind = StoreKind;
+  fetches = false;
+  op = Replace;
+  operands = values;
+  compare = None;
+})
 transfer_of call = None
 
 abbrev pub is_no_op : Op → Bool
@@ -86,10 +166,15 @@ is_remote call = option_map_or (λ (t : Transfer). not (is_own t.target)) (trans
 abbrev pub change_of : Transfer → ℕ → ℕ → Option Change
 change_of t element first_byte = change_by (is_no_op t.op)
   where
-  change_by : Bool → Option Change
-  change_by true = None
-  change_by false = Some (record {
-    first_byte = first_byte; dtype = t.dtype; op = t.op; operand = slice_index t.operands element; compare = t.compare })
+    change_by : Bool → Option Change
+    change_by true = None
+    change_by false = Some (record {
+      first_byte = first_byte;
+      dtype = t.dtype;
+      op = t.op;
+      operand = slice_index t.operands element;
+      compare = t.compare;
+    })
 
 -- an accumulate or a cas, whose order on a shared cell is kept (MPI 3.1, section 11.7.2)
 abbrev pub is_ordered_kind : Kind → Bool

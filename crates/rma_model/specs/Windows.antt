@@ -1,15 +1,14 @@
 -- Windows and ranges of memory as a rank knows them: MPI 3.1, section 11.2.
-use Rattle.std.specs.Prelude.{ℕ, ◌+◌, ◌*◌, Bool, true, false, ◌&&◌, ◌||◌, ◌==◌, nat_lt, nat_le, List, [], ◌∷◌, map, Option, Some, None, ℤ, pos, negsuc, slice_get}
-use Rattle.std.specs.List.{find, list_any, list_all, filter}
-use Rattle.std.specs.Option.{option_map_or, option_map}
+use Rattle.std.specs.Prelude.{ℕ, ◌+◌, Bool, ◌&&◌, ◌==◌, nat_lt, nat_le, List, map, Option, ℤ, pos, negsuc, slice_get}
+use Rattle.std.specs.List.{find, list_any, list_all}
+use Rattle.std.specs.Option.{option_map_or}
 use Rattle.rma_types.specs.declared.scripts.Part.{Part}
-use Rattle.rma_types.specs.declared.scripts.Script.{Script}
 use Rattle.rma_types.specs.declared.scripts.Layout.{Layout}
 use Rattle.rma_types.specs.declared.scripts.CallBase.{CallBase}
 use Rattle.rma_types.specs.declared.calls.Flavor.{Flavor}
 use Rattle.rma_types.specs.declared.calls.Call.{Call}
 use Rattle.rma_types.specs.declared.calls.Call.TheVariants.{Allocate, Create}
-use Rattle.rma_model.specs.Entries.{Row, Act, is_arrive, is_creation}
+use Rattle.rma_model.specs.Entries.{Act, is_arrive, is_creation}
 use Rattle.rma_model.specs.Epochs.{AccessState, ExposureState}
 use Rattle.rma_model.specs.Pieces.{numbers_from}
 
@@ -41,8 +40,8 @@ natural (negsuc n) = 0
 abbrev pub base_of : Layout → ℕ → ℕ → ℕ
 base_of layout rank number = option_map_or among (slice_get layout.bases rank) 0
   where
-  among : List CallBase → ℕ
-  among bases = option_map_or (λ (one : CallBase). one.base) (find (λ (one : CallBase). one.call == number) bases) 0
+    among : List CallBase → ℕ
+    among bases = option_map_or (λ (one : CallBase). one.base) (find (λ (one : CallBase). one.call == number) bases) 0
 
 -- the part of a window that a rank brings by its creation; in a dynamic window an address is a displacement
 abbrev pub part_made : Layout → ℕ → ℕ → Call → Part
@@ -59,8 +58,8 @@ no_part = record { base = 0; bytes = 0; unit = 1 }
 abbrev pub part_in : Layout → List Act → ℕ → ℕ → Part
 part_in layout entries window rank =
     option_map_or (λ (act : Act). part_made layout rank act.row.number act.row.call)
-      (find (λ (act : Act). act.row.rank == rank && act.window == window && is_arrive act.row.step && is_creation act.row.call) entries)
-      no_part
+    (find (λ (act : Act). act.row.rank == rank && act.window == window && is_arrive act.row.step && is_creation act.row.call) entries)
+    no_part
 
 -- the parts of a window, one for each rank
 abbrev pub shape_of : Layout → ℕ → List Act → ℕ → List Part

@@ -4,8 +4,10 @@
 //! the plain structs that they speak of.
 #![tactic(auto)]
 
+mod cells;
 mod elements;
 mod modes;
 
+pub use cells::Cell;
 pub use elements::{Change, Piece};
 pub use modes::Mode;

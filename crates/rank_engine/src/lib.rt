@@ -1,0 +1,5 @@
+//! Runs a script on one thread, rank by rank.
+#![tactic(auto)]
+
+mod epochs;
+mod parts;
