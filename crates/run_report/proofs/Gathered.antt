@@ -1,5 +1,5 @@
 -- Answers that stand in the order of their calls are gathered call by call as they stand.
-use Rattle.std.proofs.Common.{◌≡◌, ℕ, zero, suc, ◌+◌, ◌<◌, ◌≤◌, ◌⊎◌, inl, inr, List, [], ◌∷◌, ◌++◌, refl, ap, sym, ◌∙◌, subst, Bool, true, false, cond, arith}
+use Rattle.std.proofs.Common.{◌≡◌, ℕ, zero, suc, ◌+◌, ◌<◌, ◌≤◌, inl, inr, List, [], ◌∷◌, ◌++◌, refl, ap, ◌∙◌, Bool, true, false, cond, arith}
 use Rattle.std.specs.Prelude.{◌==◌}
 use Rattle.std.specs.List.{flat_map, filter}
 use Rattle.std.proofs.lemmas.Bool.{ne_eqb, eqb-true, eqb-false, cases_lt}
@@ -40,25 +40,25 @@ lt_of : (a b : ℕ) → a ≤ b → (b ≡ a → ⊥) → a < b
 lt_of a b h n = elim (cases_lt a b) [ inl l ↦ l | inr g ↦ absurd (n (omega arith)) ]
 
 first_call : (f : Answer → List ℕ) (lo hi n : ℕ) (rest : List Answer)
-  → ((rest : List Answer) → Rises (lo + 1) hi rest → gathered f (lo + 1) n rest ≡ flat_map f rest)
-  → Rises lo hi rest → flat_map f (of_call lo rest) ++ gathered f (lo + 1) n rest ≡ flat_map f rest
+    → ((rest : List Answer) → Rises (lo + 1) hi rest → gathered f (lo + 1) n rest ≡ flat_map f rest)
+    → Rises lo hi rest → flat_map f (of_call lo rest) ++ gathered f (lo + 1) n rest ≡ flat_map f rest
 first_call f lo hi n [] ih r = ih [] tt
 first_call f lo hi n (a ∷ rest) ih r = by (first_call f lo hi n rest ih) (a.call == lo) refl
   where
-  by : (Rises lo hi rest → flat_map f (of_call lo rest) ++ gathered f (lo + 1) n rest ≡ flat_map f rest)
-    → (b : Bool) → (a.call == lo) ≡ b
-    → flat_map f (cond b (a ∷ of_call lo rest) (of_call lo rest)) ++ gathered f (lo + 1) n (a ∷ rest) ≡ flat_map f (a ∷ rest)
-  by later true e =
-      let same : a.call ≡ lo = eqb-true a.call lo e in
-      ap (λ t. (f a ++ flat_map f (of_call lo rest)) ++ t) (skip f (lo + 1) n a rest (omega arith))
-      ∙ append_assoc (f a) (flat_map f (of_call lo rest)) (gathered f (lo + 1) n rest)
-      ∙ ap (λ t. f a ++ t) (later (rises_lower a.call lo hi rest r.0 r.2))
-  by later false e =
-      let other = eqb-false a.call lo e in
-      let l = r.0 in
-      let above : lo < a.call = lt_of lo a.call l other in
-      ap (λ t. flat_map f t ++ gathered f (lo + 1) n (a ∷ rest)) (none_below lo a.call hi rest above r.2)
-      ∙ ih (a ∷ rest) (omega arith, r.1, r.2)
+    by : (Rises lo hi rest → flat_map f (of_call lo rest) ++ gathered f (lo + 1) n rest ≡ flat_map f rest)
+        → (b : Bool) → (a.call == lo) ≡ b
+        → flat_map f (cond b (a ∷ of_call lo rest) (of_call lo rest)) ++ gathered f (lo + 1) n (a ∷ rest) ≡ flat_map f (a ∷ rest)
+    by later true e =
+        let same : a.call ≡ lo = eqb-true a.call lo e in
+        ap (λ t. (f a ++ flat_map f (of_call lo rest)) ++ t) (skip f (lo + 1) n a rest (omega arith))
+        ∙ append_assoc (f a) (flat_map f (of_call lo rest)) (gathered f (lo + 1) n rest)
+        ∙ ap (λ t. f a ++ t) (later (rises_lower a.call lo hi rest r.0 r.2))
+    by later false e =
+        let other = eqb-false a.call lo e in
+        let l = r.0 in
+        let above : lo < a.call = lt_of lo a.call l other in
+        ap (λ t. flat_map f t ++ gathered f (lo + 1) n (a ∷ rest)) (none_below lo a.call hi rest above r.2)
+        ∙ ih (a ∷ rest) (omega arith, r.1, r.2)
 
 pub by_call : (f : Answer → List ℕ) (lo hi n : ℕ) (rest : List Answer) → hi ≤ lo + n → Rises lo hi rest → gathered f lo n rest ≡ flat_map f rest
 by_call f lo hi zero [] h r = refl

@@ -6,7 +6,6 @@ use Rattle.rma_types.specs.declared.scripts.Script.{Script}
 use Rattle.rma_record.specs.declared.items.Item.{Item}
 use Rattle.rma_record.specs.declared.items.Item.TheVariants.{Issue, Null, Touch, Flush, Request, Entry, Tested, Refused, Ended}
 use Rattle.rma_record.specs.declared.runs.Run.{Run}
-use Rattle.rma_model.specs.Layout.{calls_of}
 use Rattle.rma_model.specs.Report.{is_touch_of, ended_by, calls_at, log_at}
 
 -- the number of the call that an item names; a touch names its access instead
@@ -48,12 +47,8 @@ pub record IsOrderly (calls : List Call) (log : List Item) : Type 0 where
   pub in_order : IsInOrder calls 0 log
   pub touches_follow : TouchesFollow log
 
--- a run of the script by the program: one list of calls and one log for each rank, orderly logs, and numbers that are
--- counted in 64 bits
+-- a run of the script by the program: the ranks' logs are orderly, and all numbers that the report counts are below 2 ^ 32
 pub record IsReportable (script : Script) (run : Run) : Type 0 where
-  pub lists : length script.calls ≡ script.ranks
-  pub logs : length run.logs ≡ script.ranks
   pub orderly : (rank : ℕ) → rank < script.ranks → IsOrderly (calls_at script rank) (log_at run rank)
-  pub calls : calls_of script < 2 ^ 32
   pub items : sum_by length run.logs < 2 ^ 32
   pub cells : length run.memory < 2 ^ 32

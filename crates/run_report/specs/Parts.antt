@@ -1,12 +1,12 @@
 -- The parts of a report's text, as they are written.
-use Rattle.std.specs.Prelude.{ℕ, ◌+◌, Bool, ◌==◌, if◌then◌else◌, ℤ, List, [], ◌∷◌, ◌++◌, length, Option, Some, None, slice_get, is_some, sum_by}
+use Rattle.std.specs.Prelude.{ℕ, ◌+◌, ◌==◌, if◌then◌else◌, ℤ, List, [], ◌∷◌, ◌++◌, Option, Some, None, is_some}
 use Rattle.std.specs.List.{flat_map}
-use Rattle.std.specs.Option.{option_map_or, option_and_then}
+use Rattle.std.specs.Option.{option_and_then}
 use Rattle.rma_types.specs.declared.accesses.Access.{Access}
 use Rattle.rma_types.specs.declared.calls.Call.{Call}
 use Rattle.rma_types.specs.declared.dtypes.Dtype.{Dtype}
 use Rattle.rma_record.specs.declared.items.Item.{Item}
-use Rattle.rma_record.specs.declared.items.Item.TheVariants.{Issue, Touch, Ended}
+use Rattle.rma_record.specs.declared.items.Item.TheVariants.{Touch}
 use Rattle.rma_model.specs.Report.{said, answer_line, waiting, standing, fetched, ended_by}
 use Rattle.rma_model.specs.Text.{integer}
 use Rattle.rma_model.specs.Transfers.{Transfer, transfer_of}

@@ -13,12 +13,16 @@ use rma_types::{Access, Call, Dtype, Step};
 use std::alloc::AllocError;
 
 /// Writes a line of two words about a call.
-fn write_words(text: &mut String, rank: u8, call: usize, first: &str, second: &str) -> Result<(), AllocError>
-    ensures {
-        OnOk result
-            (string_bytes text.new
-                ≡ string_bytes text.old ++ answer_line rank (record { call = call; words = first.now ∷ second.now ∷ [] }))
-    }
+fn write_words(
+    text: &mut String,
+    rank: u8,
+    call: usize,
+    first: &str,
+    second: &str,
+) -> Result<(), AllocError>
+    ensures { OnOk result
+        (string_bytes text.new
+        ≡ string_bytes text.old ++ answer_line rank (record { call = call; words = first.now ∷ second.now ∷ [] })) }
 {
     write!(text, "{rank}:{call}")?;
     write!(text, " {first} {second}\n")
@@ -36,12 +40,10 @@ fn write_value(
 ) -> Result<(), AllocError>
     requires index { index < length items.now }
     requires follow { leading (is_touch_of index) (drop (index + 1) items.now) ≡ filter (is_touch_of index) items.now }
-    ensures {
-        OnOk result
-            (string_bytes text.new
-                ≡ string_bytes text.old
-                    ++ answer_line rank (record { call = call; words = codes "value" ∷ fetched_words items.now index access.now dtype }))
-    }
+    ensures { OnOk result
+        (string_bytes text.new
+        ≡ string_bytes text.old
+        ++ answer_line rank (record { call = call; words = codes "value" ∷ fetched_words items.now index access.now dtype })) }
 {
     write!(text, "{rank}:{call} value")?;
     write_numbers(text, access, dtype, items, index)?;
@@ -61,11 +63,9 @@ fn write_issue(
 ) -> Result<(), AllocError>
     requires index { index < length items.now }
     requires follow { leading (is_touch_of index) (drop (index + 1) items.now) ≡ filter (is_touch_of index) items.now }
-    ensures {
-        OnOk result
-            (string_bytes text.new
-                ≡ string_bytes text.old ++ item_lines rank calls.now items.now index (Item.Issue call access.now))
-    }
+    ensures { OnOk result
+        (string_bytes text.new
+        ≡ string_bytes text.old ++ item_lines rank calls.now items.now index (Item.Issue call access.now)) }
 {
     match call_at(calls, call as usize) {
         None => Ok(()),
@@ -87,11 +87,9 @@ fn write_entry(
     place: u32,
     step: Step,
 ) -> Result<(), AllocError>
-    ensures {
-        OnOk result
-            (string_bytes text.new
-                ≡ string_bytes text.old ++ item_lines rank calls.now items.now index (Item.Entry call place step))
-    }
+    ensures { OnOk result
+        (string_bytes text.new
+        ≡ string_bytes text.old ++ item_lines rank calls.now items.now index (Item.Entry call place step)) }
 {
     match call_at(calls, call as usize) {
         Some(Call::TestWin { .. }) => write_words(text, rank, call as usize, "test", "true"),
@@ -100,28 +98,44 @@ fn write_entry(
 }
 
 /// Writes what an item of a log says of its call.
-fn write_item(text: &mut String, rank: u8, calls: &[Call], items: &[Item], index: usize, item: &Item) -> Result<(), AllocError>
+fn write_item(
+    text: &mut String,
+    rank: u8,
+    calls: &[Call],
+    items: &[Item],
+    index: usize,
+    item: &Item,
+) -> Result<(), AllocError>
     requires index { index < length items.now }
     requires follow { leading (is_touch_of index) (drop (index + 1) items.now) ≡ filter (is_touch_of index) items.now }
-    ensures {
-        OnOk result (string_bytes text.new ≡ string_bytes text.old ++ item_lines rank calls.now items.now index item.now)
-    }
+    ensures { OnOk result (string_bytes text.new ≡ string_bytes text.old ++ item_lines rank calls.now items.now index item.now) }
 {
     match item {
         Item::Issue { call, access } => write_issue(text, rank, calls, items, index, *call, access),
-        Item::Refused { call, class, .. } => write_words(text, rank, *call as usize, "refused", class.text()),
+        Item::Refused { call, class, .. } => write_words(
+            text,
+            rank,
+            *call as usize,
+            "refused",
+            class.text(),
+        ),
         Item::Tested { call, .. } => write_words(text, rank, *call as usize, "test", "false"),
-        Item::Entry { call, place, step } => write_entry(text, rank, calls, items, index, *call, *place, *step),
+        Item::Entry { call, place, step } => write_entry(
+            text, rank, calls, items, index, *call, *place, *step,
+        ),
         _ => Ok(()),
     }
 }
 
 /// Writes what the items of a log say of its calls.
-fn write_items(text: &mut String, rank: u8, calls: &[Call], items: &[Item]) -> Result<(), AllocError>
+fn write_items(
+    text: &mut String,
+    rank: u8,
+    calls: &[Call],
+    items: &[Item],
+) -> Result<(), AllocError>
     requires { TouchesFollow items.now }
-    ensures {
-        OnOk result (string_bytes text.new ≡ string_bytes text.old ++ items_lines rank calls.now items.now 0 items.now)
-    }
+    ensures { OnOk result (string_bytes text.new ≡ string_bytes text.old ++ items_lines rank calls.now items.now 0 items.now) }
 {
     for (index, item) in items.iter().enumerate() {
         write_item(text, rank, calls, items, index, item)?;
@@ -130,11 +144,14 @@ fn write_items(text: &mut String, rank: u8, calls: &[Call], items: &[Item]) -> R
 }
 
 /// Writes that a rank waits, where it stands.
-fn write_waiting(text: &mut String, rank: u8, calls: &[Call], items: &[Item]) -> Result<(), AllocError>
+fn write_waiting(
+    text: &mut String,
+    rank: u8,
+    calls: &[Call],
+    items: &[Item],
+) -> Result<(), AllocError>
     requires { IsInOrder calls.now 0 items.now }
-    ensures {
-        OnOk result (string_bytes text.new ≡ string_bytes text.old ++ waiting_lines rank calls.now items.now)
-    }
+    ensures { OnOk result (string_bytes text.new ≡ string_bytes text.old ++ waiting_lines rank calls.now items.now) }
 {
     match stands_at(calls, items) {
         None => Ok(()),
@@ -146,11 +163,14 @@ fn write_waiting(text: &mut String, rank: u8, calls: &[Call], items: &[Item]) ->
 }
 
 /// Writes the lines about a rank's calls.
-pub(crate) fn write_calls(text: &mut String, rank: u8, calls: &[Call], items: &[Item]) -> Result<(), AllocError>
+pub(crate) fn write_calls(
+    text: &mut String,
+    rank: u8,
+    calls: &[Call],
+    items: &[Item],
+) -> Result<(), AllocError>
     requires { IsOrderly calls.now items.now }
-    ensures {
-        OnOk result (string_bytes text.new ≡ string_bytes text.old ++ call_lines rank calls.now items.now)
-    }
+    ensures { OnOk result (string_bytes text.new ≡ string_bytes text.old ++ call_lines rank calls.now items.now) }
 {
     write_items(text, rank, calls, items)?;
     write_waiting(text, rank, calls, items)

@@ -22,10 +22,22 @@ fn count_in(items: &[Item], counted: Counted) -> usize
     ensures { result ≡ count_by (test_of counted) items.now }
 {
     match counted {
-        Counted::Accesses => items.iter().filter(|item| matches!(item, Item::Issue { .. })).count(),
-        Counted::Touches => items.iter().filter(|item| matches!(item, Item::Touch { .. })).count(),
-        Counted::Entries => items.iter().filter(|item| matches!(item, Item::Entry { .. })).count(),
-        Counted::Refusals => items.iter().filter(|item| matches!(item, Item::Refused { .. })).count(),
+        Counted::Accesses => items
+            .iter()
+            .filter(|item| matches!(item, Item::Issue { .. }))
+            .count(),
+        Counted::Touches => items
+            .iter()
+            .filter(|item| matches!(item, Item::Touch { .. }))
+            .count(),
+        Counted::Entries => items
+            .iter()
+            .filter(|item| matches!(item, Item::Entry { .. }))
+            .count(),
+        Counted::Refusals => items
+            .iter()
+            .filter(|item| matches!(item, Item::Refused { .. }))
+            .count(),
     }
 }
 

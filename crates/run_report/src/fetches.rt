@@ -28,7 +28,10 @@ fn found(access: &Access, dtype: Dtype, index: usize, item: &Item) -> Option<i64
 {
     match item {
         Item::Touch {
-            issue, element, bits, ..
+            issue,
+            element,
+            bits,
+            ..
         } => {
             if *issue as usize == index {
                 Some(fetched_number(access, dtype, *element, *bits))
@@ -49,10 +52,8 @@ pub(crate) fn write_numbers(
     index: usize,
 ) -> Result<(), AllocError>
     requires { index < length items.now }
-    ensures {
-        OnOk result
-            (string_bytes text.new ≡ string_bytes text.old ++ numbers_found access.now dtype index (drop (index + 1) items.now))
-    }
+    ensures { OnOk result
+        (string_bytes text.new ≡ string_bytes text.old ++ numbers_found access.now dtype index (drop (index + 1) items.now)) }
 {
     for at in index + 1..items.len() {
         match found(access, dtype, index, &items[at]) {

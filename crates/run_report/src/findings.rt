@@ -53,10 +53,12 @@ fn write_finding(text: &mut String, run: &Run, finding: &Finding) -> Result<(), 
 }
 
 /// Writes the lines of the findings.
-pub(crate) fn write_findings(text: &mut String, run: &Run, found: &[Finding]) -> Result<(), AllocError>
-    ensures {
-        OnOk result (string_bytes text.new ≡ string_bytes text.old ++ flat_map (finding_line run.now) found.now)
-    }
+pub(crate) fn write_findings(
+    text: &mut String,
+    run: &Run,
+    found: &[Finding],
+) -> Result<(), AllocError>
+    ensures { OnOk result (string_bytes text.new ≡ string_bytes text.old ++ flat_map (finding_line run.now) found.now) }
 {
     for finding in found {
         write_finding(text, run, finding)?;

@@ -10,7 +10,9 @@ mod fetches;
 mod findings;
 mod memory;
 mod numbers;
+mod reports;
 mod runs;
 mod standings;
 
+pub use reports::report_text;
 pub use runs::status_of;

@@ -45,9 +45,7 @@ fn is_blank(cells: &[u32]) -> bool
 
 /// Writes the line of some cells from an address on, where one of them is not 0.
 fn write_line(text: &mut String, rank: u8, address: usize, cells: &[u32]) -> Result<(), AllocError>
-    ensures {
-        OnOk result (string_bytes text.new ≡ string_bytes text.old ++ memory_line rank address cells.now)
-    }
+    ensures { OnOk result (string_bytes text.new ≡ string_bytes text.old ++ memory_line rank address cells.now) }
 {
     if is_blank(cells) {
         return Ok(());
@@ -82,10 +80,8 @@ pub(crate) fn cells_of<'a>(layout: &Layout, memory: &'a [u32], rank: usize) -> &
 fn write_piece(text: &mut String, rank: u8, cells: &[u32], piece: usize) -> Result<(), AllocError>
     requires piece { 8 * piece < length cells.now }
     requires short { length cells.now < 2 ^ 32 }
-    ensures {
-        OnOk result
-            (string_bytes text.new ≡ string_bytes text.old ++ memory_line rank (32 * piece) (take 8 (drop (8 * piece) cells.now)))
-    }
+    ensures { OnOk result
+        (string_bytes text.new ≡ string_bytes text.old ++ memory_line rank (32 * piece) (take 8 (drop (8 * piece) cells.now))) }
 {
     let rest = &cells[8 * piece..];
     let count = rest.len().min(8);

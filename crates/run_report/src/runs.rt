@@ -43,7 +43,9 @@ pub(crate) fn every_rank_ended(run: &Run) -> bool
 fn refuses(items: &[Item]) -> bool
     ensures { result ≡ list_any is_refused items.now }
 {
-    items.iter().any(|item| matches!(item, Item::Refused { .. }))
+    items
+        .iter()
+        .any(|item| matches!(item, Item::Refused { .. }))
 }
 
 /// Whether a call of the run was refused.

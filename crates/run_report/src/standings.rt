@@ -82,5 +82,9 @@ pub(crate) fn stands_at(calls: &[Call], items: &[Item]) -> Option<usize>
         return None;
     }
     let count = count_ended(calls, items);
-    if count < calls.len() { Some(count) } else { None }
+    if count < calls.len() {
+        Some(count)
+    } else {
+        None
+    }
 }

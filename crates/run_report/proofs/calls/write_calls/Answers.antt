@@ -11,6 +11,6 @@ returns c =
     let waits = waiting_lines c.args.rank c.args.calls.now c.args.items.now in
     let P : List ℕ → Type 0 = λ text. OnOk c.write_waiting.result (string_bytes c.write_waiting.new.text ≡ text) in
     subst P
-      (ap (λ t. t ++ waits) c.in_ok-write_items.ensures ∙ append_assoc (string_bytes c.args.text.now) said waits
-        ∙ ap (λ t. string_bytes c.args.text.now ++ t) (sym (call_lines_are c.args.rank c.args.calls.now c.args.items.now c.requires.in_order)))
-      c.write_waiting.ensures
+    (ap (λ t. t ++ waits) c.in_ok-write_items.ensures ∙ append_assoc (string_bytes c.args.text.now) said waits
+    ∙ ap (λ t. string_bytes c.args.text.now ++ t) (sym (call_lines_are c.args.rank c.args.calls.now c.args.items.now c.requires.in_order)))
+    c.write_waiting.ensures

@@ -9,6 +9,6 @@ use Rattle.run_report.proofs.memory.write_memory.Given as goal
 abbrev pub invariant-loop-piece : goal.invariant-loop-piece
 invariant-loop-piece l =
     string_bytes l.text
-      ++ flat_map (λ piece. memory_line l.rank (32 * piece) (take 8 (drop (8 * piece) l.cells))) (numbers_from l.piece (l.count - l.piece))
+    ++ flat_map (λ piece. memory_line l.rank (32 * piece) (take 8 (drop (8 * piece) l.cells))) (numbers_from l.piece (l.count - l.piece))
     ≡ string_bytes l.initial.text
-      ++ flat_map (λ piece. memory_line l.rank (32 * piece) (take 8 (drop (8 * piece) l.cells))) (numbers_from 0 l.count)
+    ++ flat_map (λ piece. memory_line l.rank (32 * piece) (take 8 (drop (8 * piece) l.cells))) (numbers_from 0 l.count)

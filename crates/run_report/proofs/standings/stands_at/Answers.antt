@@ -1,7 +1,7 @@
-use Rattle.std.proofs.Common.{◌≡◌, ◌<◌, ◌≤◌, ◌∙◌, sym, ap, length, arith}
+use Rattle.std.proofs.Common.{◌<◌, ◌≤◌, ◌∙◌, sym, ap, length, arith}
 use Rattle.std.specs.Prelude.{Some}
 use Rattle.run_report.specs.Parts.{ended_calls}
-use Rattle.run_report.proofs.Order.{stands_some, stands_none, stands_ended}
+use Rattle.run_report.proofs.Order.{stands_some, stands_none}
 use Rattle.run_report.proofs.standings.stands_at.Goals as goal
 
 pub returns-then-count-calls-clause-value : goal.returns-then-count-calls-clause-value
