@@ -1,12 +1,12 @@
 -- Lemmas on lists alone.
-use Rattle.std.proofs.Common.{◌≡◌, ℕ, zero, suc, ◌+◌, ◌-◌, ◌<◌, ◌≤◌, List, [], ◌∷◌, ◌++◌, length, get_or, take, drop, refl, ap, sym, ◌∙◌, arith, Bool, true, false, min, inl, inr}
+use Rattle.std.proofs.Common.{◌≡◌, ℕ, zero, suc, ◌+◌, ◌-◌, ◌<◌, List, [], ◌∷◌, ◌++◌, length, get_or, take, drop, refl, ap, sym, ◌∙◌, arith, Bool, true, false, min, inl, inr}
 use Rattle.std.specs.Prelude.{Some, slice_get, ◌&&◌, ◌||◌}
 use Rattle.std.specs.Option.{option_map_or}
 use Rattle.std.specs.List.{flat_map, join_with_byte, list_all, list_any, sum_by, count_by}
 use Rattle.std.proofs.lemmas.List.{append_assoc, append-nil, at_drop_more, at_drop_all, take_all}
 use Rattle.std.proofs.lemmas.Bool.{cases_lt}
 use Rattle.std.proofs.lemmas.List.Concat.{flat_map-append}
-use Rattle.std.proofs.lemmas.List.Sums.{count_by-le-length, sum_by_more, sum_by_more_le_part}
+use Rattle.std.proofs.lemmas.List.Sums.{sum_by_more}
 use Rattle.rma_model.specs.Pieces.{numbers_from}
 
 pub option_is_get_or : {X : Type 0} (xs : List X) (k : ℕ) (d : X) → option_map_or (λ (x : X). x) (slice_get xs k) d ≡ get_or xs k d
@@ -72,16 +72,12 @@ written_step f k n text next whole h i e =
 -- one log more is counted
 pub count_more : {X : Type 0} (test : X → Bool) (logs : List (List X)) (k total count : ℕ) (log : List X) → k < length logs
     → log ≡ option_map_or (λ (x : List X). x) (slice_get logs k) [] → count ≡ count_by test log → total ≡ sum_by (count_by test) (take k logs)
-    → (total + count ≡ sum_by (count_by test) (take (k + 1) logs)) × (total + count ≤ sum_by length logs)
+    → total + count ≡ sum_by (count_by test) (take (k + 1) logs)
 count_more test logs k total count log h l e t =
-    let log_is : log ≡ get_or logs k [] = l ∙ option_is_get_or logs k [] in
-    let here : count ≡ count_by test (get_or logs k []) = e ∙ ap (count_by test) log_is in
-    let few : count_by test (get_or logs k []) ≤ length (get_or logs k []) = count_by-le-length test (get_or logs k []) in
+    let here : count ≡ count_by test (get_or logs k []) = e ∙ ap (count_by test) (l ∙ option_is_get_or logs k []) in
     let more : sum_by (count_by test) (take (k + 1) logs) ≡ sum_by (count_by test) (take k logs) + count_by test (get_or logs k []) =
     sum_by_more (count_by test) logs k [] h in
-    let within : sum_by (count_by test) (take k logs) + length (get_or logs k []) ≤ sum_by length logs =
-    sum_by_more_le_part (count_by test) length logs k [] h (count_by-le-length test) in
-    (omega arith, omega arith)
+    omega arith
 
 -- five parts are written one after the other
 pub five_written : (text a b c d e first second third fourth fifth : List ℕ) → a ≡ text ++ first → b ≡ a ++ second → c ≡ b ++ third → d ≡ c ++ fourth → e ≡ d ++ fifth

@@ -1,5 +1,5 @@
 -- What a caller knows of a run of the program: the order in which the items of a log stand.
-use Rattle.std.specs.Prelude.{ℕ, ◌≡◌, ◌+◌, ◌<◌, ◌^◌, Bool, if◌then◌else◌, List, [], ◌∷◌, length, drop, sum_by, is_some, Option, Some, None}
+use Rattle.std.specs.Prelude.{ℕ, ◌≡◌, ◌+◌, ◌<◌, Bool, if◌then◌else◌, List, [], ◌∷◌, length, drop, is_some, Option, Some, None}
 use Rattle.std.specs.List.{filter}
 use Rattle.rma_types.specs.declared.calls.Call.{Call}
 use Rattle.rma_types.specs.declared.scripts.Script.{Script}
@@ -47,8 +47,6 @@ pub record IsOrderly (calls : List Call) (log : List Item) : Type 0 where
   pub in_order : IsInOrder calls 0 log
   pub touches_follow : TouchesFollow log
 
--- a run of the script by the program: the ranks' logs are orderly, and all numbers that the report counts are below 2 ^ 32
-pub record IsReportable (script : Script) (run : Run) : Type 0 where
-  pub orderly : (rank : ℕ) → rank < script.ranks → IsOrderly (calls_at script rank) (log_at run rank)
-  pub items : sum_by length run.logs < 2 ^ 32
-  pub cells : length run.memory < 2 ^ 32
+-- the log of each rank is orderly
+abbrev pub HasOrderlyLogs : Script → Run → Type 0
+HasOrderlyLogs script run = (rank : ℕ) → rank < script.ranks → IsOrderly (calls_at script rank) (log_at run rank)

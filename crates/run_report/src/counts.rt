@@ -42,13 +42,12 @@ fn count_in(items: &[Item], counted: Counted) -> usize
 }
 
 /// How many items of a run are counted.
-pub(crate) fn count_items(run: &Run, counted: Counted) -> usize
-    requires { sum_by length run.now.logs < 2 ^ 32 }
+pub(crate) fn count_items(run: &Run, counted: Counted) -> u128
     ensures { result ≡ items_where (test_of counted) run.now }
 {
-    let mut total = 0;
+    let mut total: u128 = 0;
     for rank in 0..run.logs.len() {
-        total += count_in(items_of(run, rank), counted);
+        total += count_in(items_of(run, rank), counted) as u128;
     }
     total
 }
@@ -66,13 +65,12 @@ pub(crate) fn count_calls(script: &Script) -> usize
 }
 
 /// The sum of the cells.
-pub(crate) fn total_of(cells: &[u32]) -> u64
-    requires { length cells.now < 2 ^ 32 }
+pub(crate) fn total_of(cells: &[u32]) -> u128
     ensures { result ≡ sum cells.now }
 {
-    let mut total: u64 = 0;
+    let mut total: u128 = 0;
     for cell in cells {
-        total += *cell as u64;
+        total += *cell as u128;
     }
     total
 }

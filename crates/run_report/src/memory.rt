@@ -58,7 +58,8 @@ fn write_line(text: &mut String, rank: u8, address: usize, cells: &[u32]) -> Res
 
 /// The cells of a part of the memory.
 fn cells_of_part<'a>(memory: &'a [u32], part: &MemoryPart) -> &'a [u32]
-    ensures { result.now ≡ cells_in memory.now part.now }
+    ensures value { result.now ≡ cells_in memory.now part.now }
+    ensures short { length result.now < 2 ^ 32 }
 {
     let first = (part.first_cell as usize).min(memory.len());
     let rest = &memory[first..];
@@ -68,7 +69,8 @@ fn cells_of_part<'a>(memory: &'a [u32], part: &MemoryPart) -> &'a [u32]
 
 /// The cells of a rank's memory.
 pub(crate) fn cells_of<'a>(layout: &Layout, memory: &'a [u32], rank: usize) -> &'a [u32]
-    ensures { result.now ≡ cells_at layout.now memory.now rank }
+    ensures value { result.now ≡ cells_at layout.now memory.now rank }
+    ensures short { length result.now < 2 ^ 32 }
 {
     match layout.parts.get(rank) {
         None => &[],

@@ -5,7 +5,7 @@ ghost use Rattle.std.specs.String.{string_bytes};
 ghost use Rattle.rma_model.specs.Layout.{IsWithinLimits, layout as layout_of_script};
 ghost use Rattle.rma_model.specs.Pieces.{numbers_from};
 ghost use Rattle.rma_model.specs.Report.{call_lines, calls_at, cells_at, first_line, full_report, log_at, memory_lines, report, summary_line, work_report};
-ghost use Rattle.run_report.specs.Orderly.{IsOrderly, IsReportable};
+ghost use Rattle.run_report.specs.Orderly.{HasOrderlyLogs};
 
 use crate::calls::write_calls;
 use crate::counts::{Counted, count_calls, count_items, total_of};
@@ -41,7 +41,7 @@ fn write_first(text: &mut String, run: &Run) -> Result<(), AllocError>
 
 /// Writes the lines about the calls of all ranks.
 fn write_all_calls(text: &mut String, script: &Script, run: &Run) -> Result<(), AllocError>
-    requires { (rank : ℕ) → rank < script.now.ranks → IsOrderly (calls_at script.now rank) (log_at run.now rank) }
+    requires { HasOrderlyLogs script.now run.now }
     ensures { OnOk result
         (string_bytes text.new
         ≡ string_bytes text.old
@@ -66,7 +66,6 @@ fn write_all_memory(
     memory: &[u32],
     ranks: u8,
 ) -> Result<(), AllocError>
-    requires { length memory.now < 2 ^ 32 }
     ensures { OnOk result
         (string_bytes text.new
         ≡ string_bytes text.old
@@ -80,7 +79,6 @@ fn write_all_memory(
 
 /// Writes the counts of a run.
 fn write_summary(text: &mut String, run: &Run, found: &[Finding]) -> Result<(), AllocError>
-    requires { sum_by length run.now.logs < 2 ^ 32 }
     ensures { OnOk result (string_bytes text.new ≡ string_bytes text.old ++ summary_line run.now found.now) }
 {
     let accesses = count_items(run, Counted::Accesses);
@@ -101,8 +99,7 @@ fn write_work(
     run: &Run,
     found: &[Finding],
 ) -> Result<(), AllocError>
-    requires limits { IsWithinLimits script.now }
-    requires reportable { IsReportable script.now run.now }
+    requires { IsWithinLimits script.now }
     ensures { OnOk result (string_bytes text.new ≡ string_bytes text.old ++ work_report script.now run.now found.now) }
 {
     let calls = count_calls(script);
@@ -125,7 +122,7 @@ fn write_full(
     found: &[Finding],
 ) -> Result<(), AllocError>
     requires layout { layout.now ≡ layout_of_script script.now }
-    requires reportable { IsReportable script.now run.now }
+    requires orderly { HasOrderlyLogs script.now run.now }
     ensures { OnOk result (string_bytes text.new ≡ string_bytes text.old ++ full_report script.now run.now found.now) }
 {
     write_first(text, run)?;
@@ -148,7 +145,7 @@ fn write_report(
 ) -> Result<(), AllocError>
     requires layout { layout.now ≡ layout_of_script script.now }
     requires limits { IsWithinLimits script.now }
-    requires reportable { IsReportable script.now run.now }
+    requires orderly { HasOrderlyLogs script.now run.now }
     ensures { OnOk result (string_bytes text.new ≡ string_bytes text.old ++ report script.now run.now found.now mode) }
 {
     match mode {
@@ -170,7 +167,7 @@ pub fn report_text(
     mode: Mode,
 ) -> Result<Vec<u8>, NoMemory>
     requires limits { IsWithinLimits script.now }
-    requires reportable { IsReportable script.now run.now }
+    requires orderly { HasOrderlyLogs script.now run.now }
     ensures { IfOk result (λ text. text.items ≡ report script.now run.now found.now mode) }
 {
     let layout = layout_of(alloc, script)?;

@@ -3,14 +3,9 @@ use Rattle.run_report.specs.Counts.{test_of}
 use Rattle.run_report.proofs.Lists.{count_more}
 use Rattle.run_report.proofs.counts.count_items.Goals as goal
 
-pub overflow_add-total : goal.overflow_add-total
-overflow_add-total c =
-    let more = count_more (test_of c.args.counted) c.args.run.now.logs c.loop-rank.rank c.loop-rank.total c.count_in-total.result c.items_of.result.now
-    (omega arith) c.items_of.ensures c.count_in-total.ensures c.loop-rank.invariant in
-    let few = more.1 in omega arith
-
 pub loop-rank-preserved : goal.loop-rank-preserved
-loop-rank-preserved c =
-    let more = count_more (test_of c.args.counted) c.args.run.now.logs c.loop-rank.rank c.loop-rank.total c.count_in-total.result c.items_of.result.now
-    (omega arith) c.items_of.ensures c.count_in-total.ensures c.loop-rank.invariant in
-    more.0
+loop-rank-preserved c = record {
+  so_far = count_more (test_of c.args.counted) c.args.run.now.logs c.loop-rank.rank c.loop-rank.total c.count_in.result c.items_of.result.now
+      (omega arith) c.items_of.ensures c.count_in.ensures c.loop-rank.invariant.so_far;
+  bound = omega arith;
+}
