@@ -17,7 +17,7 @@ pub record IsLawfulBy (script : Script) (delay : Delay) (run : Run) (rows : List
   pub logs : (rank : ℕ) → rank < script.ranks →
       IsLawfulLog (record { stage = stage_of script delay; rank = rank; rows = rows }) (slice_index_or run.logs rank [])
 
--- a run that the standard allows for the script, where accesses are delayed so
+-- a run that this project's profile of the standard allows for the script, where accesses are delayed so
 pub record IsLawful (script : Script) (delay : Delay) (run : Run) : Type 0 where
   pub ranks : length run.logs ≡ script.ranks
   pub cells : HasLawfulCells script run

@@ -15,6 +15,7 @@ pub mod Knowledge
 pub mod LawfulRun
 pub mod Layout
 pub mod Numbers
+pub mod Orderly
 pub mod OwnTests
 pub mod Pieces
 pub mod RankLaw

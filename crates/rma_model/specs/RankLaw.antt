@@ -227,6 +227,17 @@ abbrev pub IsAwaitedWhole : Post → List Item → ℕ → Type 0
 IsAwaitedWhole post log index = AllByRecursion
     (λ (one : Issued). IsTrue (waits_at post log index one) → IsTouchedWhole (take index log) one) (issued_in post (take index log))
 
+-- the look-up of an RMA call on a dynamic window is directly followed by its Issue, with no touch between
+abbrev pub IsLookUpFollowed : Post → List Item → ℕ → Type 0
+IsLookUpFollowed post log index = by_item (slice_get log index)
+  where
+    follows : ℕ → Call → Type 0
+    follows number call = IsSome (transfer_of call) → IsSomeAnd (slice_get log (index + 1)) (λ next. IsTrue (belongs_to number next))
+
+    by_item : Option Item → Type 0
+    by_item (Some (Entry number place step)) = IfSome (slice_get (calls_here post) number) (follows number)
+    by_item other = Unit {0}
+
 -- ---- when the touches of an access stand, by the delay
 
 -- the accesses that are pending before the item at the index: issued, and not yet touched whole
@@ -275,6 +286,7 @@ KeepsDelay SeededDelay post log = Unit {0}
 -- the log of a rank
 pub record IsLawfulLog (post : Post) (log : List Item) : Type 0 where
   pub calls : HasItemsOfCalls post (untouched log)
+  pub look_ups : AllByRecursion (IsLookUpFollowed post log) (numbers_from 0 (length log))
   pub touches : AllByRecursion (IsTouchedWhole log) (issued_in post log)
   pub issues : AllByRecursion (HasItsIssue post log) (numbers_from 0 (length log))
   pub own_direct : AllByRecursion (IsOwnDirect log) (issued_in post log)

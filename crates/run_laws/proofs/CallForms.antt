@@ -299,6 +299,76 @@ entry_has_one_step seat (Store win disp dtype values) e = absurd (transfer_form_
 entry_has_one_step seat (WaitReq req) e = absurd (cc e)
 entry_has_one_step seat (TestReq req) e = absurd (cc e)
 
+-- a testwin moves no data
+pub test_moves_nothing : (seat : Seat) (call : Call) → form_of seat call ≡ TestForm → transfer_of call ≡ None
+test_moves_nothing seat (Allocate win bytes unit) e = absurd (cc e)
+test_moves_nothing seat (Create win base bytes unit) e = absurd (cc e)
+test_moves_nothing seat (Dynamic win) e = absurd (cc e)
+test_moves_nothing seat (Free win) e = absurd (cc e)
+test_moves_nothing seat (Attach win base bytes) e = absurd (cc e)
+test_moves_nothing seat (Detach win base) e = absurd (cc e)
+test_moves_nothing seat (Fence win asserts) e = absurd (cc e)
+test_moves_nothing seat (Post win group asserts) e = absurd (cc e)
+test_moves_nothing seat (Start win group asserts) e = absurd (cc e)
+test_moves_nothing seat (Complete win) e = absurd (cc e)
+test_moves_nothing seat (WaitWin win) e = absurd (cc e)
+test_moves_nothing seat (TestWin win) e = refl
+test_moves_nothing seat (LockOne win kind target asserts) e = absurd (cc e)
+test_moves_nothing seat (Unlock win target) e = absurd (cc e)
+test_moves_nothing seat (LockAll win asserts) e = absurd (cc e)
+test_moves_nothing seat (UnlockAll win) e = absurd (cc e)
+test_moves_nothing seat (Flush win target) e = absurd (cc e)
+test_moves_nothing seat (FlushAll win) e = absurd (cc e)
+test_moves_nothing seat (FlushLocal win target) e = absurd (cc e)
+test_moves_nothing seat (FlushLocalAll win) e = absurd (cc e)
+test_moves_nothing seat (Sync win) e = absurd (cc e)
+test_moves_nothing seat Barrier e = absurd (cc e)
+test_moves_nothing seat (Put req win target disp dtype values) e = absurd (transfer_form_is (λ f. f ≡ TestForm → ⊥) (λ w. cc w) (λ w. cc w) (λ w. cc w) (window_at seat (Put req win target disp dtype values)) (target_of target) e)
+test_moves_nothing seat (Get req win target disp dtype count) e = absurd (transfer_form_is (λ f. f ≡ TestForm → ⊥) (λ w. cc w) (λ w. cc w) (λ w. cc w) (window_at seat (Get req win target disp dtype count)) (target_of target) e)
+test_moves_nothing seat (Acc req win target disp dtype op values) e = absurd (transfer_form_is (λ f. f ≡ TestForm → ⊥) (λ w. cc w) (λ w. cc w) (λ w. cc w) (window_at seat (Acc req win target disp dtype op values)) (target_of target) e)
+test_moves_nothing seat (GetAcc req win target disp dtype op values) e = absurd (transfer_form_is (λ f. f ≡ TestForm → ⊥) (λ w. cc w) (λ w. cc w) (λ w. cc w) (window_at seat (GetAcc req win target disp dtype op values)) (target_of target) e)
+test_moves_nothing seat (Fop win target disp dtype op value) e = absurd (transfer_form_is (λ f. f ≡ TestForm → ⊥) (λ w. cc w) (λ w. cc w) (λ w. cc w) (window_at seat (Fop win target disp dtype op value)) (target_of target) e)
+test_moves_nothing seat (Cas win target disp dtype compare new) e = absurd (transfer_form_is (λ f. f ≡ TestForm → ⊥) (λ w. cc w) (λ w. cc w) (λ w. cc w) (window_at seat (Cas win target disp dtype compare new)) (target_of target) e)
+test_moves_nothing seat (Load win disp dtype count) e = absurd (transfer_form_is (λ f. f ≡ TestForm → ⊥) (λ w. cc w) (λ w. cc w) (λ w. cc w) (window_at seat (Load win disp dtype count)) Own e)
+test_moves_nothing seat (Store win disp dtype values) e = absurd (transfer_form_is (λ f. f ≡ TestForm → ⊥) (λ w. cc w) (λ w. cc w) (λ w. cc w) (window_at seat (Store win disp dtype values)) Own e)
+test_moves_nothing seat (WaitReq req) e = absurd (cc e)
+test_moves_nothing seat (TestReq req) e = absurd (cc e)
+
+-- a call with one entry moves no data
+pub entry_moves_nothing : (seat : Seat) (call : Call) → form_of seat call ≡ EntryForm → transfer_of call ≡ None
+entry_moves_nothing seat (Allocate win bytes unit) e = absurd (cc e)
+entry_moves_nothing seat (Create win base bytes unit) e = absurd (cc e)
+entry_moves_nothing seat (Dynamic win) e = absurd (cc e)
+entry_moves_nothing seat (Free win) e = absurd (cc e)
+entry_moves_nothing seat (Attach win base bytes) e = refl
+entry_moves_nothing seat (Detach win base) e = refl
+entry_moves_nothing seat (Fence win asserts) e = absurd (cc e)
+entry_moves_nothing seat (Post win group asserts) e = refl
+entry_moves_nothing seat (Start win group asserts) e = refl
+entry_moves_nothing seat (Complete win) e = refl
+entry_moves_nothing seat (WaitWin win) e = refl
+entry_moves_nothing seat (TestWin win) e = absurd (cc e)
+entry_moves_nothing seat (LockOne win kind target asserts) e = refl
+entry_moves_nothing seat (Unlock win target) e = refl
+entry_moves_nothing seat (LockAll win asserts) e = refl
+entry_moves_nothing seat (UnlockAll win) e = refl
+entry_moves_nothing seat (Flush win target) e = absurd (cc e)
+entry_moves_nothing seat (FlushAll win) e = absurd (cc e)
+entry_moves_nothing seat (FlushLocal win target) e = absurd (cc e)
+entry_moves_nothing seat (FlushLocalAll win) e = absurd (cc e)
+entry_moves_nothing seat (Sync win) e = absurd (cc e)
+entry_moves_nothing seat Barrier e = absurd (cc e)
+entry_moves_nothing seat (Put req win target disp dtype values) e = absurd (transfer_form_is (λ f. f ≡ EntryForm → ⊥) (λ w. cc w) (λ w. cc w) (λ w. cc w) (window_at seat (Put req win target disp dtype values)) (target_of target) e)
+entry_moves_nothing seat (Get req win target disp dtype count) e = absurd (transfer_form_is (λ f. f ≡ EntryForm → ⊥) (λ w. cc w) (λ w. cc w) (λ w. cc w) (window_at seat (Get req win target disp dtype count)) (target_of target) e)
+entry_moves_nothing seat (Acc req win target disp dtype op values) e = absurd (transfer_form_is (λ f. f ≡ EntryForm → ⊥) (λ w. cc w) (λ w. cc w) (λ w. cc w) (window_at seat (Acc req win target disp dtype op values)) (target_of target) e)
+entry_moves_nothing seat (GetAcc req win target disp dtype op values) e = absurd (transfer_form_is (λ f. f ≡ EntryForm → ⊥) (λ w. cc w) (λ w. cc w) (λ w. cc w) (window_at seat (GetAcc req win target disp dtype op values)) (target_of target) e)
+entry_moves_nothing seat (Fop win target disp dtype op value) e = absurd (transfer_form_is (λ f. f ≡ EntryForm → ⊥) (λ w. cc w) (λ w. cc w) (λ w. cc w) (window_at seat (Fop win target disp dtype op value)) (target_of target) e)
+entry_moves_nothing seat (Cas win target disp dtype compare new) e = absurd (transfer_form_is (λ f. f ≡ EntryForm → ⊥) (λ w. cc w) (λ w. cc w) (λ w. cc w) (window_at seat (Cas win target disp dtype compare new)) (target_of target) e)
+entry_moves_nothing seat (Load win disp dtype count) e = absurd (transfer_form_is (λ f. f ≡ EntryForm → ⊥) (λ w. cc w) (λ w. cc w) (λ w. cc w) (window_at seat (Load win disp dtype count)) Own e)
+entry_moves_nothing seat (Store win disp dtype values) e = absurd (transfer_form_is (λ f. f ≡ EntryForm → ⊥) (λ w. cc w) (λ w. cc w) (λ w. cc w) (window_at seat (Store win disp dtype values)) Own e)
+entry_moves_nothing seat (WaitReq req) e = absurd (cc e)
+entry_moves_nothing seat (TestReq req) e = absurd (cc e)
+
 -- a call whose form is that of a transfer moves data
 pub issue_moves : (seat : Seat) (call : Call) → form_of seat call ≡ IssueForm → (t : Transfer) × (transfer_of call ≡ Some t)
 issue_moves seat (Allocate win bytes unit) e = absurd (cc e)

@@ -1,39 +1,35 @@
 -- A calm state stays calm, and keeps its number of ranks, over every move.
-use Rattle.std.proofs.Common.{◌≡◌, ℕ, ◌+◌, ◌<◌, ◌⊎◌, inl, inr, Bool, true, false, cond, List, [], ◌∷◌, ◌++◌, length, get_or, Option, Some, None, refl, sym, ◌∙◌, ap, subst, length-set}
+use Rattle.std.proofs.Common.{◌≡◌, ℕ, ◌⊎◌, inl, inr, true, false, List, [], ◌∷◌, ◌++◌, length, get_or, Some, refl, sym, ◌∙◌, ap, subst, length-set}
 use Rattle.std.specs.Prelude.{slice_get, slice_set, map}
 use Rattle.std.proofs.lemmas.List.{length-map}
 use Rattle.rma_types.specs.declared.accesses.Step.{Step}
 use Rattle.rma_types.specs.declared.accesses.Step.TheVariants.{Arrive, Leave, One}
-use Rattle.rma_types.specs.declared.classes.Class.{Class}
 use Rattle.rma_types.specs.declared.calls.Call.{Call}
 use Rattle.rma_types.specs.declared.scripts.Part.{Part}
-use Rattle.rma_types.specs.declared.schedules.Delay.{Delay}
 use Rattle.rma_types.specs.declared.schedules.Delay.TheVariants.{None as NoDelay}
 use Rattle.rma_record.specs.declared.items.Item.{Item}
-use Rattle.rma_record.specs.declared.items.Item.TheVariants.{Ended, Entry, Issue, Refused, Tested}
-use Rattle.rma_model.specs.Board.{Allow}
+use Rattle.rma_record.specs.declared.items.Item.TheVariants.{Ended, Entry, Issue}
 use Rattle.rma_model.specs.Entries.{Row}
 use Rattle.rma_model.specs.Forms.{Form, NullForm, IssueForm, LookUpForm, FlushForm, RequestForm, CollectiveForm, TestForm, EntryForm, form_of, access_of}
-use Rattle.rma_model.specs.Knowledge.{Knowledge, learn, ends_call, accepted_by}
+use Rattle.rma_model.specs.Knowledge.{Knowledge, learn}
 use Rattle.rma_model.specs.OwnTests.{Seat, window_at}
 use Rattle.rma_model.specs.Pieces.{pieces}
-use Rattle.rma_model.specs.StepRun.{is_ready}
 use Rattle.rma_model.specs.Transfers.{Transfer, transfer_of}
-use Rattle.rma_model.specs.Turns.{row_of, with_item, with_mark, opened, with_issue, touches_at_once}
+use Rattle.rma_model.specs.Turns.{row_of, with_item, with_mark, opened, with_issue}
 use Rattle.rma_model.specs.Windows.{Window}
-use Rattle.rma_model.specs.World.{Stage, Agent, World, agent_at, new_agent, with_agent, calls_at, seat_of, kept, finished, unmarked, with_entry, with_touches, shapes_after}
+use Rattle.rma_model.specs.World.{Stage, Agent, World, agent_at, new_agent, calls_at, seat_of, kept, finished, unmarked, with_touches, shapes_after}
 use Rattle.run_laws.proofs.Agents.{each_set, each_unmarked}
 use Rattle.run_laws.proofs.CallForms.{collective_anywhere, look_up_moves}
 use Rattle.run_laws.proofs.Turns.{live_window}
-use Rattle.run_laws.proofs.Moves.{Move, Moves, OneMove, TwoMoves, Ends, RefusesAlone, IsRefused, Tests, Waits, WaitsInside, Passes, Issues, IssuesInside, Enters, Arrives, Leaves, Begins, IsAt, IsInside, IsCalm, IsPlainItem, GoesOn, form_at, entered_by}
+use Rattle.run_laws.proofs.Moves.{Move, Ends, RefusesAlone, IsRefused, Tests, Waits, WaitsInside, Passes, Issues, IssuesInside, Enters, Arrives, Leaves, Begins, IsAt, IsCalm, GoesOn, form_at, entered_by}
 
 -- what calm asks of a rank's agent
 abbrev pub IsInsideCall : Stage → ℕ → Agent → Call → Type 0
 IsInsideCall stage rank agent call =
     (slice_get (calls_at stage rank) agent.at ≡ Some call)
     × ((form_of (seat_of stage rank agent) call ≡ CollectiveForm)
-      ⊎ ((form_of (seat_of stage rank agent) call ≡ LookUpForm)
-        × (t : Transfer) × (window : Window) × (transfer_of call ≡ Some t) × (window_at (seat_of stage rank agent) call ≡ Some window)))
+    ⊎ ((form_of (seat_of stage rank agent) call ≡ LookUpForm)
+    × (t : Transfer) × (window : Window) × (transfer_of call ≡ Some t) × (window_at (seat_of stage rank agent) call ≡ Some window)))
 
 pub record IsCalmAgent (stage : Stage) (rank : ℕ) (agent : Agent) : Type 0 where
   pub pending : agent.pending ≡ []
@@ -66,7 +62,7 @@ entry_keeps : (stage : Stage) (world : World) (rank : ℕ) (agent : Agent) → I
     AllCalm stage (slice_set (map unmarked world.agents) rank agent)
 entry_keeps stage world rank agent calm is =
     each_set (IsCalmAgent stage) (map unmarked world.agents) (new_agent 0 0) rank agent is
-      (each_unmarked (IsCalmAgent stage) world.agents (calm_unmarked stage) (all_calm stage world calm))
+    (each_unmarked (IsCalmAgent stage) world.agents (calm_unmarked stage) (all_calm stage world calm))
 
 no_entry : {X : Type 0} → false ≡ true → X
 no_entry e = absurd (cc e)
@@ -85,8 +81,8 @@ look_up_inside stage world rank call t window here form moves live place rows =
     let agent = agent_at world rank in
     let same = look_up_teaches_nothing (shapes_after stage rows) (calls_at stage rank) agent.known agent.at place call t here moves in
     let P : Knowledge → Type 0 = λ known.
-      (form_of (record { ranks = stage.script.ranks; rank = rank; space = (seat_of stage rank agent).space; known = known }) call ≡ LookUpForm)
-      × (window_at (record { ranks = stage.script.ranks; rank = rank; space = (seat_of stage rank agent).space; known = known }) call ≡ Some window) in
+    (form_of (record { ranks = stage.script.ranks; rank = rank; space = (seat_of stage rank agent).space; known = known }) call ≡ LookUpForm)
+    × (window_at (record { ranks = stage.script.ranks; rank = rank; space = (seat_of stage rank agent).space; known = known }) call ≡ Some window) in
     let both = subst P (sym same) (form, live) in
     (here, inr (both.0, t, window, moves, both.1))
 
@@ -113,7 +109,7 @@ item_keeps : (stage : Stage) (world : World) (rank : ℕ) (item : Item) → IsCa
 item_keeps stage world rank item calm =
     let agent = finished (kept stage world.rows rank (agent_at world rank) item) in
     calm_world stage (with_item stage world rank item) calm.delay
-      (one_changes stage world rank agent calm (finished_agent stage rank agent (calm.pending rank) refl))
+    (one_changes stage world rank agent calm (finished_agent stage rank agent (calm.pending rank) refl))
 
 mark_keeps : (stage : Stage) (world : World) (rank : ℕ) → IsCalm stage world → IsCalm stage (with_mark world rank)
 mark_keeps stage world rank calm =
@@ -122,8 +118,8 @@ mark_keeps stage world rank calm =
 issue_keeps : (stage : Stage) (world : World) (rank : ℕ) (t : Transfer) (window : Window) → IsCalm stage world → IsCalm stage (with_issue stage world rank t window)
 issue_keeps stage world rank t window calm =
     subst (IsCalm stage) (sym (issue_is_touched stage world rank t window calm.delay))
-      (calm_world stage _ calm.delay
-        (one_changes stage world rank _ calm (finished_agent stage rank _ (calm.pending rank) refl)))
+    (calm_world stage _ calm.delay
+    (one_changes stage world rank _ calm (finished_agent stage rank _ (calm.pending rank) refl)))
 
 entered_keeps : (stage : Stage) (world : World) (rank : ℕ) (call : Call) (step : Step) (after : Agent → Agent) → IsCalm stage world →
     IsCalmAgent stage rank (unmarked (after (kept stage (world.rows ++ row_of rank (agent_at world rank) call step ∷ []) rank (agent_at world rank) (Entry (agent_at world rank).at (length world.rows) step)))) →
@@ -142,17 +138,17 @@ one_entry stage world rank call after calm begins LookUpForm e goes =
     let rows = world.rows ++ row_of rank (agent_at world rank) call One ∷ [] in
     let next = kept stage rows rank (agent_at world rank) (Entry (agent_at world rank).at (length world.rows) One) in
     entered_keeps stage world rank call One after calm
-      (subst (λ agent. IsCalmAgent stage rank (unmarked agent)) (sym (goes next))
-        (record { pending = calm.pending rank; inside = λ h. (call, look_up_inside stage world rank call moves.0 live.0 begins.here e moves.1 live.1 (length world.rows) rows) }))
+    (subst (λ agent. IsCalmAgent stage rank (unmarked agent)) (sym (goes next))
+    (record { pending = calm.pending rank; inside = λ h. (call, look_up_inside stage world rank call moves.0 live.0 begins.here e moves.1 live.1 (length world.rows) rows) }))
 one_entry stage world rank call after calm begins FlushForm e goes = absurd goes
 one_entry stage world rank call after calm begins RequestForm e goes = absurd goes
 one_entry stage world rank call after calm begins CollectiveForm e goes = absurd goes
 one_entry stage world rank call after calm begins TestForm e goes =
     entered_keeps stage world rank call One after calm
-      (subst (λ agent. IsCalmAgent stage rank (unmarked agent)) (sym (goes _)) (finished_agent stage rank _ (calm.pending rank) refl))
+    (subst (λ agent. IsCalmAgent stage rank (unmarked agent)) (sym (goes _)) (finished_agent stage rank _ (calm.pending rank) refl))
 one_entry stage world rank call after calm begins EntryForm e goes =
     entered_keeps stage world rank call One after calm
-      (subst (λ agent. IsCalmAgent stage rank (unmarked agent)) (sym (goes _)) (finished_agent stage rank _ (calm.pending rank) refl))
+    (subst (λ agent. IsCalmAgent stage rank (unmarked agent)) (sym (goes _)) (finished_agent stage rank _ (calm.pending rank) refl))
 
 -- an agent at a collective is inside it once its Arrive is put
 collective_agent : (stage : Stage) (rank : ℕ) (agent : Agent) (call : Call) (seat : Seat) → form_of seat call ≡ CollectiveForm →
@@ -176,7 +172,7 @@ move_keeps_calm stage world next rank calm (Enters call after begins goes e) =
     one_entry stage world rank call after calm begins (form_at stage world rank call) refl goes
 move_keeps_calm stage world next rank calm (Arrives call begins form e) =
     entered_keeps stage world rank call Arrive opened calm
-      (collective_agent stage rank _ call (seat_of stage rank (agent_at world rank)) form begins.here (calm.pending rank))
+    (collective_agent stage rank _ call (seat_of stage rank (agent_at world rank)) form begins.here (calm.pending rank))
 move_keeps_calm stage world next rank calm (Leaves call here inside form e) =
     entered_keeps stage world rank call Leave finished calm (finished_agent stage rank _ (calm.pending rank) refl)
 

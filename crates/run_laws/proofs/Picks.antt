@@ -1,13 +1,11 @@
 -- The rank that is picked may have a turn; where none is picked, none may.
-use Rattle.std.proofs.Common.{◌≡◌, ℕ, zero, suc, ◌+◌, ◌-◌, ◌<◌, ◌≤◌, ◌⊎◌, inl, inr, Bool, true, false, cond, not, List, [], ◌∷◌, ◌++◌, length, get_or, take, drop, Option, Some, None, refl, sym, ◌∙◌, ap, subst, arith}
-use Rattle.std.specs.Prelude.{slice_get, nat_eq}
+use Rattle.std.proofs.Common.{◌≡◌, ℕ, zero, suc, ◌+◌, ◌<◌, ◌≤◌, inl, inr, Bool, true, false, cond, List, [], ◌∷◌, ◌++◌, length, take, drop, Some, None, refl, sym, subst, arith}
 use Rattle.std.specs.List.{filter, AllByRecursion}
 use Rattle.std.proofs.lemmas.Bool.Decides.{eqb_tells}
-use Rattle.rma_types.specs.declared.schedules.Order.{Order}
 use Rattle.rma_types.specs.declared.schedules.Order.TheVariants.{Robin}
 use Rattle.rma_model.specs.Pieces.{numbers_from}
 use Rattle.rma_model.specs.StepRun.{is_ready, all_ranks, in_order, ready_ranks, picked, pick, pick_from}
-use Rattle.rma_model.specs.World.{Agent, World, agent_at}
+use Rattle.rma_model.specs.World.{World, agent_at}
 
 -- ---- lists
 
@@ -46,7 +44,7 @@ each_filter {X} P test (x ∷ xs) h =
     let rest = each_filter P test xs h.1 in
     let Q : X → Type 0 = λ y. P y × (test y ≡ true) in
     elim (test x) as (λ b. test x ≡ b → AllByRecursion Q (cond b (x ∷ filter test xs) (filter test xs)))
-      [ true ↦ λ e. ((h.0, e), rest) | false ↦ λ e. rest ] refl
+    [ true ↦ λ e. ((h.0, e), rest) | false ↦ λ e. rest ] refl
 
 -- nothing passes where the filtered list is empty
 pub none_filter : {X : Type 0} (test : X → Bool) (xs : List X) → filter test xs ≡ [] → AllByRecursion (λ x. test x ≡ false) xs
@@ -55,7 +53,7 @@ none_filter {X} test (x ∷ xs) e =
     let Q : X → Type 0 = λ y. test y ≡ false in
     let rest : filter test xs ≡ [] → AllByRecursion Q xs = none_filter test xs in
     elim (test x) as (λ b. test x ≡ b → cond b (x ∷ filter test xs) (filter test xs) ≡ [] → (test x ≡ false) × AllByRecursion Q xs)
-      [ true ↦ λ t empty. absurd (cc empty) | false ↦ λ t empty. (t, rest empty) ] refl e
+    [ true ↦ λ t empty. absurd (cc empty) | false ↦ λ t empty. (t, rest empty) ] refl e
 
 -- the numbers from one on are below their end
 pub numbers_below : (first count : ℕ) → AllByRecursion (λ n. n < first + count) (numbers_from first count)
@@ -67,8 +65,10 @@ numbers_below first (suc count) =
 pub number_among : (P : ℕ → Type 0) (first count n : ℕ) → AllByRecursion P (numbers_from first count) → first ≤ n → n < first + count → P n
 number_among P first zero n h low high = absurd (omega arith)
 number_among P first (suc count) n h low high =
-    elim (eqb_tells n first) [ inl same ↦ subst P (sym same.1) h.0
-      | inr other ↦ let ne = other.1 in number_among P (first + 1) count n h.1 (omega arith) (omega arith) ]
+    elim (eqb_tells n first) [
+      | inl same ↦ subst P (sym same.1) h.0
+      | inr other ↦ let ne = other.1 in number_among P (first + 1) count n h.1 (omega arith) (omega arith)
+    ]
 
 -- ---- the next rank
 
@@ -79,11 +79,11 @@ MayGo world rank = (rank < length world.agents) × (is_ready (agent_at world ran
 pub ranks_may_go : (world : World) → AllByRecursion (MayGo world) (ready_ranks Robin world)
 ranks_may_go world =
     each_filter (λ rank. rank < length world.agents) (λ rank. is_ready (agent_at world rank)) (in_order Robin world)
-      (each_append _ (drop (world.last + 1) (all_ranks world)) (take (world.last + 1) (all_ranks world))
-        (each_drop _ (world.last + 1) (all_ranks world) below) (each_take _ (world.last + 1) (all_ranks world) below))
+    (each_append _ (drop (world.last + 1) (all_ranks world)) (take (world.last + 1) (all_ranks world))
+    (each_drop _ (world.last + 1) (all_ranks world) below) (each_take _ (world.last + 1) (all_ranks world) below))
   where
-  below : AllByRecursion (λ rank. rank < length world.agents) (all_ranks world)
-  below = subst (λ m. AllByRecursion (λ n. n < m) (all_ranks world)) (omega arith) (numbers_below 0 (length world.agents))
+    below : AllByRecursion (λ rank. rank < length world.agents) (all_ranks world)
+    below = subst (λ m. AllByRecursion (λ n. n < m) (all_ranks world)) (omega arith) (numbers_below 0 (length world.agents))
 
 -- a pick is of a rank that may have a turn, and remembers it
 pub pick_of : (world : World) (ranks : List ℕ) (next : ℕ × World) → AllByRecursion (MayGo world) ranks → pick_from Robin world ranks ≡ Some next →
@@ -106,6 +106,6 @@ none_may_go world e rank inside =
     let Q : ℕ → Type 0 = λ n. is_ready (agent_at world n) ≡ false in
     let none = none_filter (λ n. is_ready (agent_at world n)) (in_order Robin world) (no_pick_of world (ready_ranks Robin world) e) in
     let all = each_of_parts Q (world.last + 1) (all_ranks world)
-      (each_back Q (drop (world.last + 1) (all_ranks world)) (take (world.last + 1) (all_ranks world)) none)
-      (each_front Q (drop (world.last + 1) (all_ranks world)) (take (world.last + 1) (all_ranks world)) none) in
+    (each_back Q (drop (world.last + 1) (all_ranks world)) (take (world.last + 1) (all_ranks world)) none)
+    (each_front Q (drop (world.last + 1) (all_ranks world)) (take (world.last + 1) (all_ranks world)) none) in
     number_among Q 0 (length world.agents) rank all (omega arith) (omega arith)
