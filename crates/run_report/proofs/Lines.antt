@@ -12,7 +12,7 @@ use Rattle.rma_record.specs.declared.items.Item.TheVariants.{Issue, Null, Touch,
 use Rattle.rma_model.specs.Report.{Answer, answer, answer_line, call_name, fetched, fetched_word, fetched_words, is_touch_of}
 use Rattle.rma_model.specs.Text.{integer, number}
 use Rattle.rma_model.specs.Transfers.{Transfer, transfer_of}
-use Rattle.run_report.specs.Orderly.{leading}
+use Rattle.rma_model.specs.Orderly.{leading}
 use Rattle.run_report.specs.Parts.{fetches_as, item_lines, number_then, numbers_found}
 use Rattle.run_report.proofs.Lists.{join_is}
 

@@ -16,7 +16,7 @@ use Rattle.rma_model.specs.Report.{Answer, answer, answers, answer_line, call_li
 use Rattle.rma_model.specs.Entries.{is_testwin}
 use Rattle.rma_types.specs.Classes.{class_text}
 use Rattle.rma_types.specs.CallWords.{word_of}
-use Rattle.run_report.specs.Orderly.{IsInOrder, IsNext, named_by}
+use Rattle.rma_model.specs.Orderly.{IsInOrder, IsNext, named_by}
 use Rattle.run_report.specs.Parts.{ended_calls, items_lines, waiting_lines}
 use Rattle.run_report.proofs.Gathered.{Rises, rises_lower, by_call}
 

@@ -1,4 +1,3 @@
--- What a run must be for its report to be written in one pass, and the parts of the text that the code writes.
+-- The parts of the text that the code writes, and what it counts.
 pub mod Counts
-pub mod Orderly
 pub mod Parts

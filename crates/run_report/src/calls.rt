@@ -3,7 +3,7 @@ ghost use Rattle.std.specs.Prelude.{◌≡◌, ◌+◌, ◌++◌, ◌<◌, [], �
 ghost use Rattle.std.specs.List.{filter};
 ghost use Rattle.std.specs.String.{string_bytes};
 ghost use Rattle.rma_model.specs.Report.{answer_line, call_lines, call_name, fetched_words, is_touch_of, said, standing};
-ghost use Rattle.run_report.specs.Orderly.{IsOrderly, IsInOrder, TouchesFollow, leading};
+ghost use Rattle.rma_model.specs.Orderly.{IsOrderly, IsInOrder, TouchesFollow, leading};
 ghost use Rattle.run_report.specs.Parts.{item_lines, items_lines, waiting_lines};
 
 use crate::fetches::{fetched_type, write_numbers};

@@ -5,7 +5,7 @@ ghost use Rattle.std.specs.String.{string_bytes};
 ghost use Rattle.rma_model.specs.Layout.{IsWithinLimits, layout as layout_of_script};
 ghost use Rattle.rma_model.specs.Pieces.{numbers_from};
 ghost use Rattle.rma_model.specs.Report.{call_lines, calls_at, cells_at, first_line, full_report, log_at, memory_lines, report, summary_line, work_report};
-ghost use Rattle.run_report.specs.Orderly.{HasOrderlyLogs};
+ghost use Rattle.rma_model.specs.Orderly.{HasOrderlyLogs};
 
 use crate::calls::write_calls;
 use crate::counts::{Counted, count_calls, count_items, total_of};

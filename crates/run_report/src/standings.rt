@@ -3,7 +3,7 @@ ghost use Rattle.std.specs.Prelude.{◌≡◌, ◌<◌, length, is_some, slice_g
 ghost use Rattle.std.specs.Option.{option_copied};
 ghost use Rattle.rma_model.specs.Report.{ended_by, standing};
 ghost use Rattle.rma_model.specs.Transfers.{transfer_of};
-ghost use Rattle.run_report.specs.Orderly.{IsInOrder};
+ghost use Rattle.rma_model.specs.Orderly.{IsInOrder};
 ghost use Rattle.run_report.specs.Parts.{ended_calls};
 
 use crate::runs::ends;
