@@ -37,6 +37,10 @@ call_name rank call = number rank ++ 58 ∷ number call
 
 -- ---- items and logs
 
+-- the log of a rank
+abbrev pub log_at : Run → ℕ → List Item
+log_at run rank = option_map_or (λ log. log) (slice_get run.logs rank) []
+
 -- every rank has ended
 abbrev pub all_ended : Run → Bool
 all_ended run = list_all has_ended run.logs
@@ -163,7 +167,7 @@ issued_call item = 0
 -- an access as it is named: by its rank and its call
 abbrev pub access_name : Run → Id → List ℕ
 access_name run id =
-    call_name id.rank (option_map_or issued_call (option_and_then (λ log. slice_get log id.index) (slice_get run.logs id.rank)) 0)
+    call_name id.rank (option_map_or issued_call (slice_get (log_at run id.rank) id.index) 0)
 
 abbrev pub finding_line : Run → Finding → List ℕ
 finding_line run finding =
@@ -173,9 +177,6 @@ finding_line run finding =
 
 abbrev pub calls_at : Script → ℕ → List Call
 calls_at script rank = option_map_or (λ calls. calls) (slice_get script.calls rank) []
-
-abbrev pub log_at : Run → ℕ → List Item
-log_at run rank = option_map_or (λ log. log) (slice_get run.logs rank) []
 
 abbrev pub cells_at : Layout → List ℕ → ℕ → List ℕ
 cells_at layout memory rank = option_map_or (cells_in memory) (slice_get layout.parts rank) []

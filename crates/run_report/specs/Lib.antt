@@ -1,0 +1,3 @@
+-- The parts of the text that the code writes, and what it counts.
+pub mod Counts
+pub mod Parts
