@@ -1,2 +1,4 @@
 -- The engine's own state, and what it does with it.
 pub mod Engine
+pub mod Room
+pub mod Seats

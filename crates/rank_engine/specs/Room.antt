@@ -1,0 +1,43 @@
+-- What the engine needs so that no number of its state grows past 32 bits, and no index lies past its list.
+use Rattle.std.specs.Prelude.{ℕ, ◌≡◌, ◌+◌, ◌*◌, ◌/◌, ◌<◌, ◌≤◌, ◌^◌, List, length, All, Option, ℤ}
+use Rattle.rma_types.specs.declared.calls.Call.{Call}
+use Rattle.rma_types.specs.declared.calls.Call.TheVariants.{Put, Load}
+use Rattle.rma_types.specs.declared.scripts.Script.{Script}
+use Rattle.rma_model.specs.declared.cells.Cell.{Cell}
+use Rattle.rank_engine.specs.declared.parts.WindowPart.{WindowPart}
+use Rattle.rank_engine.specs.Engine.{Seat, State, amount, target_rank}
+
+-- each number of a rank can grow by what a turn adds
+pub record CanGrow (seat : Seat) : Type 0 where
+  pub calls : seat.at + 1 < 2 ^ 32
+  pub fences : seat.fences + 1 < 2 ^ 32
+  pub log : length seat.log < 2 ^ 32
+
+-- each number of the state can grow by what a turn adds
+pub record HasRoom (state : State) : Type 0 where
+  pub seats : All CanGrow state.seats
+  pub entries : state.entries + 2 < 2 ^ 32
+  pub cells : length state.cells < 2 ^ 31
+  pub places : All (λ (cell : Cell). cell.place < 2 ^ 31) state.cells
+
+-- a part lies within so many cells
+abbrev pub LiesWithin : ℕ → WindowPart → Type 0
+LiesWithin cells part = part.first_cell + part.bytes / 4 ≤ cells
+
+-- a part for each of at most 16 ranks, within so many cells
+pub record AreParts (ranks cells : ℕ) (parts : List WindowPart) : Type 0 where
+  pub few : ranks ≤ 16
+  pub each : length parts ≡ ranks
+  pub within : All (LiesWithin cells) parts
+
+-- what the engine needs of a put's values, and of its target
+pub record IsFitPut (ranks : ℕ) (target : Option ℤ) (values : List ℕ) : Type 0 where
+  pub rank : target_rank target < ranks
+  pub count : length values ≤ 256
+  pub patterns : All (λ value. value < 2 ^ 32) values
+
+-- what the engine needs of a call
+abbrev pub IsFit : ℕ → Call → Type 0
+IsFit ranks (Put req win target disp dtype values) = IsFitPut ranks target values
+IsFit ranks (Load win disp dtype count) = amount count ≤ 256
+IsFit ranks call = Unit {0}
