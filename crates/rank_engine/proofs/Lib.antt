@@ -1,2 +1,4 @@
 pub mod EntrySteps
+pub mod FitCalls
+pub mod NextRank
 pub mod TouchSteps

@@ -17,7 +17,7 @@ pub record CanGrow (seat : Seat) : Type 0 where
 pub record HasRoom (state : State) : Type 0 where
   pub seats : All CanGrow state.seats
   pub entries : state.entries + 2 < 2 ^ 32
-  pub cells : length state.cells < 2 ^ 31
+  pub cells : length state.cells < 2 ^ 28
   pub places : All (λ (cell : Cell). cell.place < 2 ^ 31) state.cells
 
 -- a part lies within so many cells

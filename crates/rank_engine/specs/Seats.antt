@@ -1,12 +1,13 @@
 -- What a turn leaves of one rank, and of the list of the ranks, as parts of the engine's turn.
-use Rattle.std.specs.Prelude.{ℕ, List, ◌++◌, length, map, slice_index_or, slice_set, Bool, nat_le}
-use Rattle.std.specs.List.{list_all}
+use Rattle.std.specs.Prelude.{ℕ, ◌+◌, List, ◌++◌, length, map, take, drop, slice_index_or, slice_set, Bool, nat_le, Option}
+use Rattle.std.specs.List.{list_all, find}
 use Rattle.rma_types.specs.declared.accesses.Access.{Access}
 use Rattle.rma_types.specs.declared.accesses.Step.{Step}
 use Rattle.rma_record.specs.declared.items.Item.TheVariants.{Issue, Entry}
 use Rattle.rma_model.specs.declared.cells.Cell.{Cell}
+use Rattle.rma_model.specs.Pieces.{numbers_from}
 use Rattle.rank_engine.specs.declared.epochs.Epoch.TheVariants.{Used}
-use Rattle.rank_engine.specs.Engine.{Seat, new_seat, keeps, passed, free_of_mark, write_each, read_each}
+use Rattle.rank_engine.specs.Engine.{Seat, new_seat, keeps, passed, free_of_mark, write_each, read_each, is_ready}
 
 -- a rank and the cells
 pub record SeatAndCells : Type 0 where
@@ -39,3 +40,9 @@ abbrev pub entered : List Seat → ℕ → ℕ → Step → (Seat → Seat) → 
 entered seats rank place step after =
     let seat = slice_index_or seats rank new_seat in
     slice_set (map free_of_mark seats) rank (free_of_mark (after (keeps seat (Entry seat.at place step))))
+
+-- the first rank after the last one that may have a turn, ascending and round
+abbrev pub next_after : List Seat → ℕ → Option ℕ
+next_after seats last =
+    let ranks = numbers_from 0 (length seats) in
+    find (λ rank. is_ready (slice_index_or seats rank new_seat)) (drop (last + 1) ranks ++ take (last + 1) ranks)

@@ -9,3 +9,4 @@ mod parts;
 mod ranks;
 mod seats;
 mod touches;
+mod turns;
