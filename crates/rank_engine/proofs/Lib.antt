@@ -1,4 +1,9 @@
+pub mod AccessGrowth
 pub mod EntrySteps
 pub mod FitCalls
+pub mod Growth
+pub mod Limits
 pub mod NextRank
+pub mod PartSteps
+pub mod RunSteps
 pub mod TouchSteps

@@ -4,6 +4,7 @@ use Rattle.rma_types.specs.declared.calls.Call.{Call}
 use Rattle.rma_types.specs.declared.calls.Call.TheVariants.{Put, Load}
 use Rattle.rma_types.specs.declared.scripts.Script.{Script}
 use Rattle.rma_model.specs.declared.cells.Cell.{Cell}
+use Rattle.rma_model.specs.Layout.{layout, cells_of}
 use Rattle.rank_engine.specs.declared.parts.WindowPart.{WindowPart}
 use Rattle.rank_engine.specs.Engine.{Seat, State, amount, target_rank}
 
@@ -41,3 +42,24 @@ abbrev pub IsFit : ℕ → Call → Type 0
 IsFit ranks (Put req win target disp dtype values) = IsFitPut ranks target values
 IsFit ranks (Load win disp dtype count) = amount count ≤ 256
 IsFit ranks call = Unit {0}
+
+-- the numbers of a rank are at most so many
+pub record IsWithin (calls fences items : ℕ) (seat : Seat) : Type 0 where
+  pub at : seat.at ≤ calls
+  pub fenced : seat.fences ≤ fences
+  pub kept : length seat.log ≤ items
+
+-- a state of so many ranks and cells, whose numbers are at most so many
+pub record IsGrown (ranks cells calls fences items entries updates : ℕ) (state : State) : Type 0 where
+  pub each : length state.seats ≡ ranks
+  pub seats : All (IsWithin calls fences items) state.seats
+  pub put : state.entries ≤ entries
+  pub count : length state.cells ≡ cells
+  pub places : All (λ (cell : Cell). cell.place ≤ updates) state.cells
+  pub turn : state.last < ranks
+
+-- A state of a script's run that has had at most so many turns. A turn puts two entries at most, and touches 256
+-- elements at most.
+abbrev pub IsUnderWay : Script → ℕ → State → Type 0
+IsUnderWay script turns state =
+    IsGrown script.ranks (cells_of (layout script)) turns turns (300 * turns) (2 * turns) (256 * turns) state

@@ -7,6 +7,10 @@ mod engine;
 mod epochs;
 mod parts;
 mod ranks;
+mod runs;
 mod seats;
+mod steps;
 mod touches;
 mod turns;
+
+pub use steps::run_steps;

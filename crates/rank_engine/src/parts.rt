@@ -1,8 +1,12 @@
 //! The parts of the one window.
-ghost use Rattle.std.specs.Prelude.{◌≡◌, ◌+◌, ◌*◌, ◌<◌, ◌^◌};
-ghost use Rattle.rank_engine.specs.Engine.{passes_end, access_to};
+ghost use Rattle.std.specs.Prelude.{◌≡◌, ◌+◌, ◌*◌, ◌<◌, ◌^◌, length, IfOk};
+ghost use Rattle.rma_model.specs.BuiltForm.{IsBuilt};
+ghost use Rattle.rma_model.specs.Layout.{layout};
+ghost use Rattle.rank_engine.specs.Engine.{passes_end, access_to, bytes_allocated, parts_of};
 
-use rma_types::{Access, Kind};
+use crate::turns::{amount, calls_of_rank};
+use rma_types::{Access, Call, Kind, Layout, NoMemory, Script};
+use std::alloc::Global;
 
 /// A rank's part of the window: its first cell, and its bytes, of which each element of a put or a load takes 4.
 #[derive(Clone, Copy, Debug, PartialEq, Eq)]
@@ -32,4 +36,33 @@ pub fn access_to(kind: Kind, target: usize, disp: u32, count: u32) -> Access
         len: 4 * count,
         kind,
     }
+}
+
+/// The bytes that the first call of a list allocates.
+fn bytes_allocated(calls: &[Call]) -> u32
+    ensures { result ≡ bytes_allocated calls.now }
+{
+    match calls.first() {
+        Some(Call::Allocate { bytes, .. }) => amount(*bytes),
+        _ => 0,
+    }
+}
+
+/// The parts of the window, one for each rank.
+pub fn parts_of(alloc: Global, script: &Script, place: &Layout) -> Result<Vec<WindowPart>, NoMemory>
+    requires script { IsBuilt script.now }
+    requires layout { place.now ≡ layout script.now }
+    ensures { IfOk result (λ parts. parts.items ≡ parts_of script.now) }
+{
+    let mut parts = Vec::new(alloc);
+    let memory = place.parts.as_slice();
+    for rank in 0..usize::from(script.ranks) {
+        parts
+            .push(WindowPart {
+                first_cell: memory[rank].first_cell,
+                bytes: bytes_allocated(calls_of_rank(script, rank)),
+            })
+            .map_err(|_| NoMemory)?;
+    }
+    Ok(parts)
 }

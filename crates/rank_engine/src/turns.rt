@@ -1,5 +1,5 @@
 //! Whose turn it is, and what a rank does in a turn.
-ghost use Rattle.std.specs.Prelude.{◌≡◌, ◌+◌, ◌-◌, ◌<◌, ◌≤◌, length, find, slice_index_or, OnOk};
+ghost use Rattle.std.specs.Prelude.{◌≡◌, ◌+◌, ◌-◌, ◌<◌, ◌≤◌, length, find, slice_index_or, OnOk, IfSome};
 ghost use Rattle.rma_model.specs.BuiltForm.{IsBuilt};
 ghost use Rattle.rma_model.specs.Pieces.{numbers_from};
 ghost use Rattle.rank_engine.specs.Engine.{new_seat, seat_at, is_ready, next_rank, calls_of_rank, amount, target_rank, begin, call_turn, turn};
@@ -14,7 +14,8 @@ use rma_types::{Call, NoMemory, Script};
 /// The first rank from `from` on, and below `to`, that may have a turn.
 fn first_ready(seats: &[Seat], from: usize, to: usize) -> Option<usize>
     requires { to ≤ length seats.now }
-    ensures { result ≡ find (λ rank. is_ready (slice_index_or seats.now rank new_seat)) (numbers_from from (to - from)) }
+    ensures below { IfSome result (λ rank. rank < to) }
+    ensures first { result ≡ find (λ rank. is_ready (slice_index_or seats.now rank new_seat)) (numbers_from from (to - from)) }
 {
     for rank in from..to {
         if seats[rank].is_ready() {
@@ -27,7 +28,8 @@ fn first_ready(seats: &[Seat], from: usize, to: usize) -> Option<usize>
 /// The first rank after the last one that may have a turn, ascending and round.
 fn next_after(seats: &[Seat], last: usize) -> Option<usize>
     requires { last < length seats.now }
-    ensures { result ≡ next_after seats.now last }
+    ensures below { IfSome result (λ rank. rank < length seats.now) }
+    ensures first { result ≡ next_after seats.now last }
 {
     let after = last + 1;
     match first_ready(seats, after, seats.len()) {
@@ -65,7 +67,8 @@ impl Engine {
     /// The rank of the next turn: the first after the last one that may have it, ascending and round.
     pub fn next_rank(&self) -> Option<usize>
         requires { self.now.last < length self.now.seats }
-        ensures { result ≡ next_rank self.now }
+        ensures below { IfSome result (λ rank. rank < length self.now.seats) }
+        ensures first { result ≡ next_rank self.now }
     {
         next_after(&self.seats, self.last)
     }
