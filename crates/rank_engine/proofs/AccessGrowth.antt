@@ -26,8 +26,8 @@ use Rattle.rank_engine.proofs.Growth.{grown-more, within-more, within-at, grown-
 place-seen : (u : ℕ) (cells : List Cell) (cell : ℕ) → All (λ (one : Cell). one.place ≤ u) cells → (cell_at cells cell).place ≤ u
 place-seen u cells cell low =
     elim (cases_lt cell (length cells)) [
-      inl below ↦ All-get_or (λ (one : Cell). one.place ≤ u) cells cell empty_cell below low
-    | inr past ↦ rw (get_or_past cells cell empty_cell past) (omega arith)
+      | inl below ↦ All-get_or (λ (one : Cell). one.place ≤ u) cells cell empty_cell below low
+      | inr past ↦ rw (get_or_past cells cell empty_cell past) (omega arith)
     ]
 
 -- what so many values leave
@@ -50,7 +50,7 @@ written issue element cell u (value ∷ values) cells low =
     let one : Cell = record { bits = value; place = seen.place + 1 } in
     let before = place-seen u cells cell low in
     let raised = All-set (λ (one : Cell). one.place ≤ u + 1) cells cell one (omega arith)
-      (All-weaker (λ (one : Cell). one.place ≤ u) (λ (one : Cell). one.place ≤ u + 1) (λ one h. omega arith) cells low) in
+    (All-weaker (λ (one : Cell). one.place ≤ u) (λ (one : Cell). one.place ≤ u + 1) (λ one h. omega arith) cells low) in
     let rest = written issue (element + 1) (cell + 1) (u + 1) values (set cells cell one) raised in
     let after = write_each issue (element + 1) (cell + 1) values (set cells cell one) in
     record {
@@ -86,7 +86,7 @@ put-grown r k a f i e u parts state rank target disp values below few is =
     record {
       each = length-set state.seats rank next ∙ is.each;
       seats = All-set (IsWithin (a + 1) f (i + 257)) state.seats rank next grown
-        (All-weaker (IsWithin a f i) (IsWithin (a + 1) f (i + 257)) (within-more a f i (a + 1) f (i + 257) (omega arith) (omega arith) (omega arith)) state.seats is.seats);
+          (All-weaker (IsWithin a f i) (IsWithin (a + 1) f (i + 257)) (within-more a f i (a + 1) f (i + 257) (omega arith) (omega arith) (omega arith)) state.seats is.seats);
       put = is.put;
       count = wrote.cells ∙ is.count;
       places = All-weaker (λ (one : Cell). one.place ≤ u + length values) (λ (one : Cell). one.place ≤ u + 256) (λ one h. omega arith) touched.cells wrote.places;
@@ -160,13 +160,13 @@ try_put-grown r k a f i e u parts state rank target disp values below few is =
     let refused = λ (class : Class). grown-more r k (a + 1) f (i + 257) e u (a + 1) (f + 1) (i + 300) (e + 2) (u + 256) (refuse state rank class) (omega arith) (omega arith) (omega arith) (omega arith) (omega arith) (refuse-grown r k a f i e u rank state class below is) in
     let done = grown-more r k (a + 1) f (i + 257) e (u + 256) (a + 1) (f + 1) (i + 300) (e + 2) (u + 256) (put parts state rank target disp values) (omega arith) (omega arith) (omega arith) (omega arith) (omega arith) (put-grown r k a f i e u parts state rank target disp values below few is) in
     let ranged : IsTurnGrown r k a f i e u (cond (passes_end (part_at parts target) disp (length values)) (refuse state rank RangeClass) (put parts state rank target disp values)) =
-      elim (passes_end (part_at parts target) disp (length values)) as (λ b. IsTurnGrown r k a f i e u (cond b (refuse state rank RangeClass) (put parts state rank target disp values))) [
-        true ↦ refused RangeClass
+    elim (passes_end (part_at parts target) disp (length values)) as (λ b. IsTurnGrown r k a f i e u (cond b (refuse state rank RangeClass) (put parts state rank target disp values))) [
+      | true ↦ refused RangeClass
       | false ↦ done
-      ] in
+    ] in
     elim (not (is_fenced (seat_at state rank).epoch)) as (λ b. IsTurnGrown r k a f i e u (cond b (refuse state rank SyncClass) (cond (passes_end (part_at parts target) disp (length values)) (refuse state rank RangeClass) (put parts state rank target disp values)))) [
-      true ↦ refused SyncClass
-    | false ↦ ranged
+      | true ↦ refused SyncClass
+      | false ↦ ranged
     ]
 
 try_load-grown :
@@ -177,8 +177,8 @@ try_load-grown :
     IsTurnGrown r k a f i e u (try_load parts state rank disp count)
 try_load-grown r k a f i e u parts state rank disp count below few is =
     elim (passes_end (part_at parts rank) disp count) as (λ b. IsTurnGrown r k a f i e u (cond b (refuse state rank RangeClass) (load parts state rank disp count))) [
-      true ↦ grown-more r k (a + 1) f (i + 257) e u (a + 1) (f + 1) (i + 300) (e + 2) (u + 256) (refuse state rank RangeClass) (omega arith) (omega arith) (omega arith) (omega arith) (omega arith) (refuse-grown r k a f i e u rank state RangeClass below is)
-    | false ↦ grown-more r k (a + 1) f (i + 257) e u (a + 1) (f + 1) (i + 300) (e + 2) (u + 256) (load parts state rank disp count) (omega arith) (omega arith) (omega arith) (omega arith) (omega arith) (load-grown r k a f i e u parts state rank disp count below few is)
+      | true ↦ grown-more r k (a + 1) f (i + 257) e u (a + 1) (f + 1) (i + 300) (e + 2) (u + 256) (refuse state rank RangeClass) (omega arith) (omega arith) (omega arith) (omega arith) (omega arith) (refuse-grown r k a f i e u rank state RangeClass below is)
+      | false ↦ grown-more r k (a + 1) f (i + 257) e u (a + 1) (f + 1) (i + 300) (e + 2) (u + 256) (load parts state rank disp count) (omega arith) (omega arith) (omega arith) (omega arith) (omega arith) (load-grown r k a f i e u parts state rank disp count below few is)
     ]
 
 arrive-turn :
@@ -209,8 +209,8 @@ call_turn-grown :
     IsTurnGrown r k a f i e u (call_turn parts state rank call)
 call_turn-grown r k a f i e u parts state rank call below fit is =
     elim (seat_at state rank).entered as (λ b. IsTurnGrown r k a f i e u (cond b (leave state rank call) (begin parts state rank call))) [
-      true ↦ grown-more r k (a + 1) f (i + 1) (e + 1) u (a + 1) (f + 1) (i + 300) (e + 2) (u + 256) (leave state rank call) (omega arith) (omega arith) (omega arith) (omega arith) (omega arith) (leave-grown r k a f i e u rank state call below is)
-    | false ↦ begin-grown r k a f i e u parts state rank call below fit is
+      | true ↦ grown-more r k (a + 1) f (i + 1) (e + 1) u (a + 1) (f + 1) (i + 300) (e + 2) (u + 256) (leave state rank call) (omega arith) (omega arith) (omega arith) (omega arith) (omega arith) (leave-grown r k a f i e u rank state call below is)
+      | false ↦ begin-grown r k a f i e u parts state rank call below fit is
     ]
 
 turn-grown :
@@ -237,9 +237,9 @@ under_way-more script parts turns rank state built below is =
     let k = cells_of (layout script) in
     let picked : State = record state { last = rank } in
     let here : IsGrown r k turns turns (300 * turns) (2 * turns) (256 * turns) picked =
-      record { each = is.each; seats = is.seats; put = is.put; count = is.count; places = is.places; turn = below } in
+    record { each = is.each; seats = is.seats; put = is.put; count = is.count; places = is.places; turn = below } in
     grown-more r k (turns + 1) (turns + 1) (300 * turns + 300) (2 * turns + 2) (256 * turns + 256)
-      (turns + 1) (turns + 1) (300 * (turns + 1)) (2 * (turns + 1)) (256 * (turns + 1))
-      (turn script parts picked rank) (omega arith) (omega arith) (omega arith) (omega arith) (omega arith)
-      (turn-grown script parts k turns turns (300 * turns) (2 * turns) (256 * turns) picked rank
-        (slice_get (calls_of_rank script rank) (seat_at picked rank).at) built below refl here)
+    (turns + 1) (turns + 1) (300 * (turns + 1)) (2 * (turns + 1)) (256 * (turns + 1))
+    (turn script parts picked rank) (omega arith) (omega arith) (omega arith) (omega arith) (omega arith)
+    (turn-grown script parts k turns turns (300 * turns) (2 * turns) (256 * turns) picked rank
+    (slice_get (calls_of_rank script rank) (seat_at picked rank).at) built below refl here)

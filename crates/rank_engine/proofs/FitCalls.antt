@@ -60,6 +60,6 @@ pub fit-in_script :
 fit-in_script script rank number call built below found =
     let in_range : rank < length script.calls = omega (arith, built.lists) in
     elim built.calls [
-      inl none ↦ absurd (no-call (calls_of_rank script rank) number call (All-get_or (λ (calls : List Call). calls ≡ []) script.calls rank [] in_range (All-from_recursion (λ (calls : List Call). calls ≡ []) script.calls none)) found)
-    | inr all ↦ fit-list script.ranks (calls_of_rank script rank) number call (All-get_or (IsBuiltList script.ranks) script.calls rank [] in_range (All-from_recursion (IsBuiltList script.ranks) script.calls all)) found
+      | inl none ↦ absurd (no-call (calls_of_rank script rank) number call (All-get_or (λ (calls : List Call). calls ≡ []) script.calls rank [] in_range (All-from_recursion (λ (calls : List Call). calls ≡ []) script.calls none)) found)
+      | inr all ↦ fit-list script.ranks (calls_of_rank script rank) number call (All-get_or (IsBuiltList script.ranks) script.calls rank [] in_range (All-from_recursion (IsBuiltList script.ranks) script.calls all)) found
     ]

@@ -52,7 +52,7 @@ pub grown-with_seat :
 grown-with_seat r k a f i e u a' f' i' rank state seat la lf li within is = record {
   each = length-set state.seats rank seat ∙ is.each;
   seats = All-set (IsWithin a' f' i') state.seats rank seat within
-    (All-weaker (IsWithin a f i) (IsWithin a' f' i') (within-more a f i a' f' i' la lf li) state.seats is.seats);
+      (All-weaker (IsWithin a f i) (IsWithin a' f' i') (within-more a f i a' f' i' la lf li) state.seats is.seats);
   put = is.put;
   count = is.count;
   places = is.places;
@@ -72,11 +72,11 @@ grown-with_entry r k a f i e u a' f' i' rank state step after la lf li below gro
     let grown = grows seat (within-at r k a f i e u rank state below is) in
     let others = All-weaker (IsWithin a f i) (IsWithin a' f' i') (within-more a f i a' f' i' la lf li) state.seats is.seats in
     let free : All (λ (s : Seat). IsWithin a' f' i' (free_of_mark s)) state.seats =
-      All-weaker (IsWithin a' f' i') (λ (s : Seat). IsWithin a' f' i' (free_of_mark s)) (λ s h. record { at = h.at; fenced = h.fenced; kept = h.kept }) state.seats others in
+    All-weaker (IsWithin a' f' i') (λ (s : Seat). IsWithin a' f' i' (free_of_mark s)) (λ s h. record { at = h.at; fenced = h.fenced; kept = h.kept }) state.seats others in
     record {
       each = length-set (map free_of_mark state.seats) rank (free_of_mark one) ∙ (length-map state.seats free_of_mark ∙ is.each);
       seats = All-set (IsWithin a' f' i') (map free_of_mark state.seats) rank (free_of_mark one) (record { at = grown.at; fenced = grown.fenced; kept = grown.kept })
-        (All-map (IsWithin a' f' i') free_of_mark state.seats free);
+          (All-map (IsWithin a' f' i') free_of_mark state.seats free);
       put = omega (arith, is.put);
       count = is.count;
       places = is.places;
@@ -103,12 +103,12 @@ leave-grown r k a f i e u rank state call below is =
     let seat = seat_at state rank in
     let within = within-at r k a f i e u rank state below is in
     elim (may_leave state rank call) as (λ b. IsGrown r k (a + 1) f (i + 1) (e + 1) u (cond b (with_entry state rank Leave (left call)) (with_mark state rank))) [
-      true ↦ grown-with_entry r k a f i e u (a + 1) f (i + 1) rank state Leave (left call) (omega arith) (omega arith) (omega arith) below (λ s h. left-within a f i state.entries call Leave s h) is
-    | false ↦ grown-more r k a f i e u (a + 1) f (i + 1) (e + 1) u (with_mark state rank) (omega arith) (omega arith) (omega arith) (omega arith) (omega arith)
-        (grown-with_seat r k a f i e u a f i rank state (record seat { marked = true }) (omega arith) (omega arith) (omega arith) (record { at = within.at; fenced = within.fenced; kept = within.kept }) is)
+      | true ↦ grown-with_entry r k a f i e u (a + 1) f (i + 1) rank state Leave (left call) (omega arith) (omega arith) (omega arith) below (λ s h. left-within a f i state.entries call Leave s h) is
+      | false ↦ grown-more r k a f i e u (a + 1) f (i + 1) (e + 1) u (with_mark state rank) (omega arith) (omega arith) (omega arith) (omega arith) (omega arith)
+          (grown-with_seat r k a f i e u a f i rank state (record seat { marked = true }) (omega arith) (omega arith) (omega arith) (record { at = within.at; fenced = within.fenced; kept = within.kept }) is)
     ]
 
 pub arrive-grown : (r k a f i e u rank : ℕ) (state : State) (call : Call) → rank < r → IsGrown r k a f i e u state → IsGrown r k (a + 1) (f + 1) (i + 1 + 1) (e + 1 + 1) u (arrive state rank call)
 arrive-grown r k a f i e u rank state call below is =
     leave-grown r k a (f + 1) (i + 1) (e + 1) u rank (with_entry state rank Arrive (arrived call)) call below
-      (grown-with_entry r k a f i e u a (f + 1) (i + 1) rank state Arrive (arrived call) (omega arith) (omega arith) (omega arith) below (λ s h. arrived-within a f i state.entries call Arrive s h) is)
+    (grown-with_entry r k a f i e u a (f + 1) (i + 1) rank state Arrive (arrived call) (omega arith) (omega arith) (omega arith) below (λ s h. arrived-within a f i state.entries call Arrive s h) is)

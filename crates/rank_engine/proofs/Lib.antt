@@ -5,5 +5,6 @@ pub mod Growth
 pub mod Limits
 pub mod NextRank
 pub mod PartSteps
+pub mod RowForms
 pub mod RunSteps
 pub mod TouchSteps

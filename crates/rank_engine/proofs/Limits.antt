@@ -18,8 +18,10 @@ cells-within cell [] = omega arith
 cells-within cell (rank ∷ ranks) =
     let bytes = memory_bytes rank.0 rank.1 in
     let rest = parts_from (cell + bytes / 4) ranks in
-    rw (sum_by-cons (λ (part : MemoryPart). part.bytes / 4) (record { first_cell = cell; bytes = bytes }) rest,
-      sum_by-cons (λ (rank : ℕ × List Call). memory_bytes rank.0 rank.1) rank ranks)
+    rw (
+      sum_by-cons (λ (part : MemoryPart). part.bytes / 4) (record { first_cell = cell; bytes = bytes }) rest,
+      sum_by-cons (λ (rank : ℕ × List Call). memory_bytes rank.0 rank.1) rank ranks,
+    )
     (omega (arith, cells-within (cell + bytes / 4) ranks))
 
 -- the cells of all ranks

@@ -52,8 +52,8 @@ pub next_after-is :
     last < length seats →
     next_after seats last
     ≡ option_or
-        (find (λ rank. is_ready (get_or seats rank new_seat)) (numbers_from (last + 1) (length seats - (last + 1))))
-        (find (λ rank. is_ready (get_or seats rank new_seat)) (numbers_from 0 (last + 1)))
+    (find (λ rank. is_ready (get_or seats rank new_seat)) (numbers_from (last + 1) (length seats - (last + 1))))
+    (find (λ rank. is_ready (get_or seats rank new_seat)) (numbers_from 0 (last + 1)))
 next_after-is seats last within =
     let after = drop-numbers_from 0 (length seats) (last + 1) in
     let before = take-numbers_from 0 (length seats) (last + 1) (omega arith) in

@@ -44,9 +44,7 @@ impl Cells {
     pub fn write(&mut self, cell: usize, bits: u32)
         requires cell { cell < length self.old }
         requires place { (cell_at self.old cell).place + 1 < 2 ^ 32 }
-        ensures {
-            self.new ≡ slice_set self.old cell (record { bits = bits; place = (cell_at self.old cell).place + 1 })
-        }
+        ensures { self.new ≡ slice_set self.old cell (record { bits = bits; place = (cell_at self.old cell).place + 1 }) }
     {
         let seen = self.cells[cell];
         self.cells[cell] = Cell {

@@ -14,3 +14,6 @@ mod touches;
 mod turns;
 
 pub use steps::run_steps;
+
+#[cfg(test)]
+mod tests;

@@ -1,11 +1,12 @@
 //! The parts of the one window.
-ghost use Rattle.std.specs.Prelude.{◌≡◌, ◌+◌, ◌*◌, ◌<◌, ◌^◌, length, IfOk};
+ghost use Rattle.std.specs.Prelude.{◌≡◌, ◌+◌, ◌*◌, ◌<◌, ◌^◌, IfOk};
 ghost use Rattle.rma_model.specs.BuiltForm.{IsBuilt};
 ghost use Rattle.rma_model.specs.Layout.{layout};
 ghost use Rattle.rank_engine.specs.Engine.{passes_end, access_to, bytes_allocated, parts_of};
+ghost use Rattle.rank_engine.specs.Parts.{part_for};
 
 use crate::turns::{amount, calls_of_rank};
-use rma_types::{Access, Call, Kind, Layout, NoMemory, Script};
+use rma_types::{Access, Call, Items, Kind, Layout, NoMemory, Script};
 use std::alloc::Global;
 
 /// A rank's part of the window: its first cell, and its bytes, of which each element of a put or a load takes 4.
@@ -48,20 +49,35 @@ fn bytes_allocated(calls: &[Call]) -> u32
     }
 }
 
-/// The parts of the window, one for each rank.
-pub fn parts_of(alloc: Global, script: &Script, place: &Layout) -> Result<Vec<WindowPart>, NoMemory>
+/// The part of a rank in the window.
+fn part_for(script: &Script, place: &Layout, rank: usize) -> WindowPart
     requires script { IsBuilt script.now }
     requires layout { place.now ≡ layout script.now }
-    ensures { IfOk result (λ parts. parts.items ≡ parts_of script.now) }
+    requires rank { rank < script.now.ranks }
+    ensures { result ≡ part_for script.now rank }
 {
-    let mut parts = Vec::new(alloc);
     let memory = place.parts.as_slice();
+    WindowPart {
+        first_cell: memory[rank].first_cell,
+        bytes: bytes_allocated(calls_of_rank(script, rank)),
+    }
+}
+
+/// The parts of the window, one for each rank.
+#[tactic(auto, using(crate::proofs::PartSteps::parts_more))]
+pub fn parts_of(
+    alloc: Global,
+    script: &Script,
+    place: &Layout,
+) -> Result<Items<WindowPart>, NoMemory>
+    requires script { IsBuilt script.now }
+    requires layout { place.now ≡ layout script.now }
+    ensures { IfOk result (λ parts. parts ≡ parts_of script.now) }
+{
+    let mut parts = Items::new(alloc);
     for rank in 0..usize::from(script.ranks) {
         parts
-            .push(WindowPart {
-                first_cell: memory[rank].first_cell,
-                bytes: bytes_allocated(calls_of_rank(script, rank)),
-            })
+            .push(part_for(script, place, rank))
             .map_err(|_| NoMemory)?;
     }
     Ok(parts)

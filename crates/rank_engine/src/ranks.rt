@@ -30,12 +30,7 @@ fn clear_marks(seats: &mut [Seat])
 }
 
 /// A rank puts the Arrive of its call, at this place of the entries.
-pub fn put_arrive(
-    seats: &mut [Seat],
-    rank: usize,
-    call: &Call,
-    place: u32,
-) -> Result<(), NoMemory>
+pub fn put_arrive(seats: &mut [Seat], rank: usize, call: &Call, place: u32) -> Result<(), NoMemory>
     requires rank { rank < length seats.old }
     requires fences { (slice_index_or seats.old rank new_seat).fences + 1 < 2 ^ 32 }
     ensures { OnOk result (seats.new ≡ entered seats.old rank place Arrive (arrived call.now)) }
@@ -47,12 +42,7 @@ pub fn put_arrive(
 }
 
 /// A rank puts the Leave of its call, at this place of the entries.
-pub fn put_leave(
-    seats: &mut [Seat],
-    rank: usize,
-    call: &Call,
-    place: u32,
-) -> Result<(), NoMemory>
+pub fn put_leave(seats: &mut [Seat], rank: usize, call: &Call, place: u32) -> Result<(), NoMemory>
     requires rank { rank < length seats.old }
     requires calls { (slice_index_or seats.old rank new_seat).at + 1 < 2 ^ 32 }
     ensures { OnOk result (seats.new ≡ entered seats.old rank place Leave (left call.now)) }

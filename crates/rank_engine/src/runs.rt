@@ -29,12 +29,7 @@ impl Engine {
     }
 
     /// Has at most so many turns, until no rank may have one.
-    pub fn run(
-        &mut self,
-        script: &Script,
-        parts: &[WindowPart],
-        turns: u32,
-    ) -> Result<(), NoMemory>
+    pub fn run(&mut self, script: &Script, parts: &[WindowPart], turns: u32) -> Result<(), NoMemory>
         requires script { IsBuilt script.now }
         requires parts { AreParts script.now.ranks (cells_of (layout script.now)) parts.now }
         requires start { IsUnderWay script.now 0 self.old }

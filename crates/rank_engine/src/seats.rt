@@ -34,14 +34,14 @@ impl Model for Seat {
     ghost Value = { engine.Seat };
 
     ghost view = { λ seat. record {
-        log = seat.log.items;
-        at = seat.at;
-        epoch = seat.epoch;
-        entered = seat.entered;
-        allocated = seat.allocated;
-        fences = seat.fences;
-        marked = seat.marked;
-        ended = seat.ended;
+      log = seat.log.items;
+      at = seat.at;
+      epoch = seat.epoch;
+      entered = seat.entered;
+      allocated = seat.allocated;
+      fences = seat.fences;
+      marked = seat.marked;
+      ended = seat.ended;
     } };
 }
 

@@ -13,10 +13,8 @@ use rma_types::NoMemory;
 fn keep_touch(log: &mut Log, cells: &Cells, issue: u32, element: u32, cell: u32)
     requires cell { cell < length cells.now }
     requires room { 1 ≤ log.old.spare }
-    ensures items {
-        let seen = cell_at cells.now cell in
-        log.new.items ≡ log.old.items ++ Touch issue element cell seen.place seen.bits ∷ []
-    }
+    ensures items { let seen = cell_at cells.now cell in
+        log.new.items ≡ log.old.items ++ Touch issue element cell seen.place seen.bits ∷ [] }
     ensures room { log.new.spare + 1 ≡ log.old.spare }
 {
     let seen = cells.at(cell as usize);

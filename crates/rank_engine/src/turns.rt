@@ -73,12 +73,7 @@ impl Engine {
         next_after(&self.seats, self.last)
     }
 
-    fn begin(
-        &mut self,
-        parts: &[WindowPart],
-        rank: usize,
-        call: &Call,
-    ) -> Result<(), NoMemory>
+    fn begin(&mut self, parts: &[WindowPart], rank: usize, call: &Call) -> Result<(), NoMemory>
         requires parts { AreParts (length self.old.seats) (length self.old.cells) parts.now }
         requires room { HasRoom self.old }
         requires rank { rank < length self.old.seats }
@@ -105,12 +100,7 @@ impl Engine {
         }
     }
 
-    fn call_turn(
-        &mut self,
-        parts: &[WindowPart],
-        rank: usize,
-        call: &Call,
-    ) -> Result<(), NoMemory>
+    fn call_turn(&mut self, parts: &[WindowPart], rank: usize, call: &Call) -> Result<(), NoMemory>
         requires parts { AreParts (length self.old.seats) (length self.old.cells) parts.now }
         requires room { HasRoom self.old }
         requires rank { rank < length self.old.seats }
