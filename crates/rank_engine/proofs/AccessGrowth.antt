@@ -1,5 +1,5 @@
 -- By how much the touches of a put or a load, and a whole turn, let the numbers of a state grow.
-use Rattle.std.proofs.Common.{◌≡◌, ◌∙◌, ◌+◌, ◌*◌, ◌<◌, ◌≤◌, ℕ, zero, suc, Bool, true, false, cond, not, List, [], ◌∷◌, ◌++◌, ◌⊎◌, inl, inr, length, get_or, set, refl, sym, ap, arith, Option, Some, None, length-append}
+use Rattle.std.proofs.Common.{◌≡◌, ◌∙◌, ◌+◌, ◌*◌, ◌<◌, ◌≤◌, ℕ, zero, suc, true, false, cond, not, List, [], ◌∷◌, ◌++◌, inl, inr, length, set, refl, arith, Option, Some, None, length-append}
 use Rattle.std.specs.List.{slice_get, All}
 use Rattle.std.specs.Option.{option_map_or}
 use Rattle.std.proofs.lemmas.Bool.{cases_lt}
@@ -11,14 +11,14 @@ use Rattle.rma_types.specs.declared.accesses.Kind.TheVariants.{Put as PutKind, L
 use Rattle.rma_types.specs.declared.calls.Call.{Call}
 use Rattle.rma_types.specs.declared.calls.Call.TheVariants.{Put, Load}
 use Rattle.rma_types.specs.declared.scripts.Script.{Script}
-use Rattle.rma_record.specs.declared.items.Item.TheVariants.{Issue, Touch, Refused, Ended}
+use Rattle.rma_record.specs.declared.items.Item.TheVariants.{Issue, Refused, Ended}
 use Rattle.rma_model.specs.declared.cells.Cell.{Cell}
 use Rattle.rma_model.specs.BuiltForm.{IsBuilt}
 use Rattle.rma_model.specs.Layout.{layout, cells_of}
 use Rattle.rma_model.specs.World.{cell_at, empty_cell}
 use Rattle.rank_engine.specs.declared.epochs.Epoch.TheVariants.{Used}
 use Rattle.rank_engine.specs.declared.parts.WindowPart.{WindowPart}
-use Rattle.rank_engine.specs.Engine.{Seat, State, Touched, seat_at, with_seat, keeps, passed, refuse, part_at, passes_end, write_each, read_each, access_to, put, load, is_fenced, try_put, try_load, amount, target_rank, begin, call_turn, leave, arrive, end, turn, calls_of_rank}
+use Rattle.rank_engine.specs.Engine.{Seat, State, Touched, seat_at, keeps, passed, refuse, part_at, passes_end, write_each, read_each, access_to, put, load, is_fenced, try_put, try_load, amount, target_rank, begin, call_turn, leave, arrive, end, turn, calls_of_rank}
 use Rattle.rank_engine.specs.Room.{IsWithin, IsGrown, IsUnderWay, IsFit}
 use Rattle.rank_engine.proofs.FitCalls.{fit-in_script}
 use Rattle.rank_engine.proofs.Growth.{grown-more, within-more, within-at, grown-with_seat, kept-length, leave-grown, arrive-grown}

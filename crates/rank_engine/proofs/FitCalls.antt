@@ -1,6 +1,6 @@
 -- The calls of a script of the built form are what the engine needs of a call.
-use Rattle.std.proofs.Common.{◌≡◌, ◌<◌, ◌≤◌, ◌^◌, ℕ, zero, suc, ℤ, pos, negsuc, List, [], ◌∷◌, ◌⊎◌, inl, inr, length, get_or, Option, Some, None, subst, arith}
-use Rattle.std.specs.List.{slice_get, All, AllByRecursion}
+use Rattle.std.proofs.Common.{◌≡◌, ◌<◌, ◌≤◌, ◌^◌, ℕ, zero, suc, ℤ, pos, negsuc, List, [], ◌∷◌, inl, inr, length, Option, Some, None, subst, arith}
+use Rattle.std.specs.List.{slice_get, AllByRecursion}
 use Rattle.std.proofs.lemmas.List.Elements.{All-from_recursion, All-get_or}
 use Rattle.rma_types.specs.declared.calls.Call.{Call}
 use Rattle.rma_types.specs.declared.calls.Call.TheVariants.{Allocate, Fence, Put, Load}

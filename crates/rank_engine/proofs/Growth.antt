@@ -1,26 +1,17 @@
 -- By how much a turn lets the numbers of a state grow.
-use Rattle.std.proofs.Common.{◌≡◌, ◌∙◌, ◌+◌, ◌*◌, ◌<◌, ◌≤◌, ℕ, zero, suc, Bool, true, false, cond, List, [], ◌∷◌, ◌++◌, ◌⊎◌, inl, inr, length, map, get_or, set, refl, sym, ap, subst, arith, Option, Some, None, length-append}
-use Rattle.std.specs.List.{slice_get, All}
-use Rattle.std.specs.Option.{option_map_or}
+use Rattle.std.proofs.Common.{◌≡◌, ◌∙◌, ◌+◌, ◌<◌, ◌≤◌, ℕ, true, false, cond, [], ◌∷◌, length, map, arith, length-append}
+use Rattle.std.specs.List.{All}
 use Rattle.std.proofs.lemmas.List.{length-set, length-map}
 use Rattle.std.proofs.lemmas.List.Elements.{All-set, All-map, All-weaker, All-get_or}
 use Rattle.rma_types.specs.declared.accesses.Step.{Step}
 use Rattle.rma_types.specs.declared.accesses.Step.TheVariants.{Arrive, Leave}
-use Rattle.rma_types.specs.declared.classes.Class.{Class}
-use Rattle.rma_types.specs.declared.classes.Class.TheVariants.{Sync as SyncClass, Range as RangeClass}
 use Rattle.rma_types.specs.declared.calls.Call.{Call}
-use Rattle.rma_types.specs.declared.calls.Call.TheVariants.{Allocate, Put, Load}
-use Rattle.rma_types.specs.declared.scripts.Script.{Script}
+use Rattle.rma_types.specs.declared.calls.Call.TheVariants.{Allocate}
 use Rattle.rma_record.specs.declared.items.Item.{Item}
 use Rattle.rma_record.specs.declared.items.Item.TheVariants.{Entry}
 use Rattle.rma_model.specs.declared.cells.Cell.{Cell}
-use Rattle.rma_model.specs.BuiltForm.{IsBuilt}
-use Rattle.rma_model.specs.Layout.{layout, cells_of}
-use Rattle.rma_model.specs.World.{cell_at, empty_cell}
-use Rattle.rank_engine.specs.declared.parts.WindowPart.{WindowPart}
-use Rattle.rank_engine.specs.Engine.{Seat, State, new_seat, seat_at, with_seat, with_mark, with_entry, keeps, free_of_mark, arrived, left, may_leave, leave, arrive, refuse, part_at, passes_end, write_each, read_each, put, load, is_fenced, try_put, try_load, amount, target_rank, begin, call_turn, end, turn, calls_of_rank}
-use Rattle.rank_engine.specs.Room.{IsWithin, IsGrown, IsUnderWay, IsFit}
-use Rattle.rank_engine.proofs.FitCalls.{fit-in_script}
+use Rattle.rank_engine.specs.Engine.{Seat, State, new_seat, seat_at, with_seat, with_mark, with_entry, keeps, free_of_mark, arrived, left, may_leave, leave, arrive}
+use Rattle.rank_engine.specs.Room.{IsWithin, IsGrown}
 
 pub within-more : (a f i a' f' i' : ℕ) → a ≤ a' → f ≤ f' → i ≤ i' → (seat : Seat) → IsWithin a f i seat → IsWithin a' f' i' seat
 within-more a f i a' f' i' la lf li seat is = record { at = omega arith; fenced = omega arith; kept = omega arith }

@@ -1,6 +1,5 @@
 -- What the limits of a script say of its cells and of its run's numbers.
-use Rattle.std.proofs.Common.{◌≡◌, ◌+◌, ◌*◌, ◌/◌, ◌<◌, ◌≤◌, ◌^◌, ℕ, List, [], ◌∷◌, length, sum_by, refl, arith}
-use Rattle.std.specs.List.{All}
+use Rattle.std.proofs.Common.{◌+◌, ◌*◌, ◌/◌, ◌<◌, ◌≤◌, ◌^◌, ℕ, List, [], ◌∷◌, sum_by, arith}
 use Rattle.std.proofs.lemmas.List.Elements.{All-weaker}
 use Rattle.std.proofs.lemmas.List.Sums.{sum_by-cons}
 use Rattle.rma_types.specs.declared.calls.Call.{Call}
@@ -11,7 +10,7 @@ use Rattle.rma_model.specs.BuiltForm.{IsBuilt}
 use Rattle.rma_model.specs.Layout.{memory_bytes, parts_from, ranks_of, layout, cells_of, IsWithinLimits}
 use Rattle.rma_model.specs.StepRun.{most_turns}
 use Rattle.rank_engine.specs.Engine.{State}
-use Rattle.rank_engine.specs.Room.{IsWithin, IsGrown, IsUnderWay, CanGrow, HasRoom}
+use Rattle.rank_engine.specs.Room.{IsWithin, IsUnderWay, CanGrow, HasRoom}
 
 cells-within : (cell : ℕ) (ranks : List (ℕ × List Call)) → 4 * sum_by (λ (part : MemoryPart). part.bytes / 4) (parts_from cell ranks) ≤ sum_by (λ (rank : ℕ × List Call). memory_bytes rank.0 rank.1) ranks
 cells-within cell [] = omega arith

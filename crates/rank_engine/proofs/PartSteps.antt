@@ -1,5 +1,5 @@
 -- The parts of the window, one rank after another, and that they lie within the memory.
-use Rattle.std.proofs.Common.{◌≡◌, ◌∙◌, ◌+◌, ◌-◌, ◌*◌, ◌/◌, ◌<◌, ◌≤◌, ℕ, zero, suc, ℤ, pos, negsuc, List, [], ◌∷◌, ◌++◌, map, length, replicate, get_or, sum_by, Option, Some, None, refl, sym, ap, arith, append_assoc}
+use Rattle.std.proofs.Common.{◌≡◌, ◌∙◌, ◌+◌, ◌-◌, ◌/◌, ◌<◌, ◌≤◌, ℕ, zero, suc, pos, negsuc, List, [], ◌∷◌, ◌++◌, map, length, get_or, sum_by, refl, sym, ap, arith, append_assoc}
 use Rattle.std.specs.List.{All, slice_get, zip}
 use Rattle.std.specs.Option.{option_map_or}
 use Rattle.std.proofs.lemmas.List.{length-map, length-replicate}
@@ -14,7 +14,7 @@ use Rattle.rma_model.specs.BuiltForm.{IsBuilt}
 use Rattle.rma_model.specs.Layout.{call_bytes, memory_bytes, parts_from, layout, cells_of}
 use Rattle.rma_model.specs.Pieces.{numbers_from, first_cell}
 use Rattle.rank_engine.specs.declared.parts.WindowPart.{WindowPart}
-use Rattle.rank_engine.specs.Engine.{amount, bytes_allocated, calls_of_rank, parts_of}
+use Rattle.rank_engine.specs.Engine.{bytes_allocated, parts_of}
 use Rattle.rank_engine.specs.Parts.{part_for}
 use Rattle.rank_engine.specs.Room.{LiesWithin, AreParts}
 

@@ -1,7 +1,7 @@
 -- The scripts that are tried are of the built form.
-use Rattle.std.proofs.Common.{◌≡◌, ◌<◌, ◌≤◌, ℕ, pos, Some, None, [], ◌∷◌, refl, inr, lit≤, lit<}
+use Rattle.std.proofs.Common.{◌<◌, ◌≤◌, ℕ, pos, refl, inr, lit≤, lit<}
 use Rattle.rma_types.specs.declared.dtypes.Dtype.TheVariants.{Int32}
-use Rattle.rma_model.specs.BuiltForm.{IsBuilt, IsBuiltCall, IsBuiltAllocate, IsBuiltPut, IsBuiltLoad, no_asserts}
+use Rattle.rma_model.specs.BuiltForm.{IsBuilt, IsBuiltCall, IsBuiltAllocate, IsBuiltLoad}
 use Rattle.rank_engine.specs.Rows.{allocate, fence, put_five, put_and_load, two_refusals}
 
 allocate-is : IsBuiltAllocate allocate

@@ -1,5 +1,5 @@
 -- One turn more of a run, and its end.
-use Rattle.std.proofs.Common.{◌≡◌, ℕ, zero, suc, List, Option, Some, None, refl}
+use Rattle.std.proofs.Common.{◌≡◌, ℕ, zero, suc, List, Some, None, refl}
 use Rattle.rma_types.specs.declared.scripts.Script.{Script}
 use Rattle.rank_engine.specs.declared.parts.WindowPart.{WindowPart}
 use Rattle.rank_engine.specs.Engine.{State, next_rank, turn, run_from}

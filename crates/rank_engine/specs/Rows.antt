@@ -1,5 +1,5 @@
 -- The scripts that are tried.
-use Rattle.std.specs.Prelude.{ℕ, ℤ, pos, List, [], ◌∷◌, Some, None}
+use Rattle.std.specs.Prelude.{ℕ, pos, [], ◌∷◌, Some, None}
 use Rattle.rma_types.specs.declared.calls.Call.{Call}
 use Rattle.rma_types.specs.declared.calls.Call.TheVariants.{Allocate, Fence, Put, Load}
 use Rattle.rma_types.specs.declared.dtypes.Dtype.TheVariants.{Int32}

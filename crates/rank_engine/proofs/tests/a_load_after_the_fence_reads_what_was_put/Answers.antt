@@ -2,4 +2,4 @@ use Rattle.rank_engine.proofs.RowForms.{put_and_load-built}
 use Rattle.rank_engine.proofs.tests.a_load_after_the_fence_reads_what_was_put.Goals as goal
 
 pub run_steps-requires : goal.run_steps-requires
-run_steps-requires c = rw c.in_ok-script.ensures put_and_load-built
+run_steps-requires g c = rw c.in_ok-script.ensures put_and_load-built

@@ -1,4 +1,4 @@
-use Rattle.std.proofs.Common.{◌≡◌, ◌∙◌, ◌+◌, ◌-◌, ◌<◌, ◌≤◌, suc, sym, Some, None, arith}
+use Rattle.std.proofs.Common.{◌≡◌, ◌∙◌, ◌+◌, ◌-◌, ◌<◌, suc, sym, Some, None, arith}
 use Rattle.rank_engine.specs.Engine.{next_rank}
 use Rattle.rank_engine.proofs.AccessGrowth.{under_way-more}
 use Rattle.rank_engine.proofs.Limits.{under_way-room}
