@@ -1,3 +1,4 @@
+-- Lemmas over the engine's definitions.
 pub mod AccessGrowth
 pub mod EntrySteps
 pub mod FitCalls
@@ -7,4 +8,5 @@ pub mod NextRank
 pub mod PartSteps
 pub mod RowForms
 pub mod RunSteps
+pub mod Same
 pub mod TouchSteps

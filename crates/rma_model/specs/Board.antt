@@ -1,6 +1,6 @@
 -- What the board answers an entry after the entries before it: MPI 3.1, section 11.5, in this project's profile.
-use Rattle.std.specs.Prelude.{ℕ, ◌+◌, ◌*◌, Bool, true, false, not, ◌&&◌, ◌||◌, ◌==◌, if◌then◌else◌, nat_lt, nat_le, List, [], ◌∷◌, ◌++◌, map, length, take, reverse, Option, Some, None, ℤ, slice_get}
-use Rattle.std.specs.List.{list_any, list_all, count_by, filter, fold, find, flat_map}
+use Rattle.std.specs.Prelude.{ℕ, Bool, true, false, not, ◌&&◌, ◌||◌, ◌==◌, if◌then◌else◌, nat_lt, nat_le, List, [], ◌∷◌, ◌++◌, map, length, take, reverse, Option, Some, None, slice_get}
+use Rattle.std.specs.List.{list_any, list_all, count_by, filter, fold, flat_map}
 use Rattle.std.specs.Option.{option_map_or}
 use Rattle.rma_types.specs.declared.accesses.Step.{Step}
 use Rattle.rma_types.specs.declared.accesses.Step.TheVariants.{Arrive, Leave, One}
@@ -11,8 +11,8 @@ use Rattle.rma_types.specs.declared.calls.Flavor.{Flavor}
 use Rattle.rma_types.specs.declared.calls.Lock.{Lock}
 use Rattle.rma_types.specs.declared.calls.Lock.TheVariants.{Shared, Exclusive}
 use Rattle.rma_types.specs.declared.calls.Call.{Call}
-use Rattle.rma_types.specs.declared.calls.Call.TheVariants.{Allocate, Create, Dynamic, Free, Attach, Detach, Fence, Post, Start, Complete, WaitWin, TestWin, LockOne, Unlock, LockAll, UnlockAll, Barrier}
-use Rattle.rma_model.specs.Entries.{Row, Act, acts, window_of, is_arrive, is_leave, is_fence, is_post, is_start, is_complete, is_wait, is_free, calls_on, arrivals}
+use Rattle.rma_types.specs.declared.calls.Call.TheVariants.{Free, Attach, Detach, Fence, Post, Start, WaitWin, TestWin, LockOne, Unlock, LockAll, UnlockAll}
+use Rattle.rma_model.specs.Entries.{Row, Act, acts, window_of, is_leave, is_post, is_start, is_complete, is_wait, calls_on, arrivals}
 use Rattle.rma_model.specs.Transfers.{Transfer, Target, Own, Null, Named, transfer_of}
 use Rattle.rma_model.specs.Synchronising.{flavor_made, is_same_flavor, rank_number, members_of, is_member}
 use Rattle.rma_model.specs.Windows.{Region, is_attached, natural}

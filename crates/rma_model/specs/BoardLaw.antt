@@ -1,13 +1,12 @@
 -- The entries and looks of a lawful run: MPI 3.1, section 11.5, in this project's profile.
-use Rattle.std.specs.Prelude.{ℕ, ◌≡◌, ◌+◌, ◌<◌, ◌≤◌, Bool, true, false, ◌==◌, if◌then◌else◌, List, [], ◌∷◌, ◌++◌, length, map, take, slice_get, slice_index_or, Option, Some, None, IsSomeAnd, zero, suc}
-use Rattle.std.specs.List.{filter, flat_map, AllByRecursion}
+use Rattle.std.specs.Prelude.{ℕ, ◌≡◌, ◌+◌, ◌<◌, ◌≤◌, ◌==◌, if◌then◌else◌, List, [], ◌∷◌, ◌++◌, length, take, slice_get, slice_index_or, Some, IsSomeAnd, zero, suc}
+use Rattle.std.specs.List.{flat_map, AllByRecursion}
 use Rattle.rma_types.specs.declared.accesses.Step.{Step}
-use Rattle.rma_types.specs.declared.accesses.Step.TheVariants.{Arrive, Leave, One}
-use Rattle.rma_types.specs.declared.classes.Class.{Class}
+use Rattle.rma_types.specs.declared.accesses.Step.TheVariants.{Arrive, One}
 use Rattle.rma_types.specs.declared.calls.Call.{Call}
 use Rattle.rma_types.specs.declared.scripts.Script.{Script}
 use Rattle.rma_record.specs.declared.items.Item.{Item}
-use Rattle.rma_record.specs.declared.items.Item.TheVariants.{Issue, Null, Touch, Flush, Request, Entry, Tested, Refused, Ended}
+use Rattle.rma_record.specs.declared.items.Item.TheVariants.{Entry, Tested, Refused}
 use Rattle.rma_record.specs.declared.runs.Run.{Run}
 use Rattle.rma_model.specs.Board.{Allow, NotYet, decide, shared}
 use Rattle.rma_model.specs.Entries.{Row, is_creation, is_fence, is_free, is_barrier}

@@ -1,6 +1,6 @@
 -- The states of a cell, and the cells of a lawful run: MPI 3.1, section 11.7.1. Each update of a cell has one place among
 -- them, and each touch reads the state at its place.
-use Rattle.std.specs.Prelude.{ℕ, zero, suc, ◌≡◌, ◌<◌, ◌≤◌, Bool, true, false, ◌==◌, if◌then◌else◌, nat_lt, List, [], ◌∷◌, length, map, slice_index, slice_index_or, Option, Some, None}
+use Rattle.std.specs.Prelude.{ℕ, zero, suc, ◌≡◌, ◌<◌, ◌≤◌, Bool, true, false, ◌==◌, if◌then◌else◌, nat_lt, List, length, map, slice_index, Option, Some, None}
 use Rattle.std.specs.List.{find, count_by, AllByRecursion}
 use Rattle.std.specs.Option.{option_map_or}
 use Rattle.rma_types.specs.declared.scripts.Script.{Script}

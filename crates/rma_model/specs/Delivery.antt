@@ -1,12 +1,10 @@
 -- Which accesses are pending, and which a call must wait for: this project's profile of MPI 3.1, section 11.7.
-use Rattle.std.specs.Prelude.{ℕ, zero, suc, ◌+◌, ◌/◌, Bool, true, false, ◌&&◌, ◌||◌, ◌==◌, List, [], ◌∷◌, ◌++◌, take, Option, Some, None, slice_get, slice_index_or}
-use Rattle.std.specs.List.{list_any, filter, find, position}
+use Rattle.std.specs.Prelude.{ℕ, zero, suc, Bool, false, ◌&&◌, ◌==◌, List, take, Option, Some, None, slice_get}
+use Rattle.std.specs.List.{list_any, position}
 use Rattle.std.specs.Option.{option_map_or}
 use Rattle.rma_types.specs.declared.accesses.Access.{Access}
-use Rattle.rma_types.specs.declared.accesses.Kind.{Kind}
 use Rattle.rma_types.specs.declared.calls.Call.{Call}
 use Rattle.rma_types.specs.declared.calls.Call.TheVariants.{Fence, Complete, Unlock, UnlockAll, Flush, FlushAll, FlushLocal, FlushLocalAll, WaitReq, TestReq}
-use Rattle.rma_types.specs.declared.dtypes.Dtype.{Dtype}
 use Rattle.rma_model.specs.declared.elements.Piece.{Piece}
 use Rattle.rma_model.specs.Transfers.{Transfer, is_ordered_kind}
 use Rattle.rma_model.specs.Synchronising.{rank_number}

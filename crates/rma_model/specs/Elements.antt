@@ -1,5 +1,5 @@
--- The operation on an element of a cell: MPI 3.1, sections 5.9.2, 11.3.4 and 11.3.5. A cell is 4 bytes, little-endian.
-use Rattle.std.specs.Prelude.{ℕ, ◌+◌, ◌-◌, ◌*◌, ◌/◌, ◌%◌, ◌^◌, Bool, true, false, not, ◌&&◌, ◌||◌, ◌==◌, if◌then◌else◌, ℤ, ◌+ℤ◌, ◌*ℤ◌, int_lt, bit_and, bit_or, bit_xor, Option, Some, None}
+-- The operation on an element of a cell: MPI 3.1, sections 5.9.2, 11.3.1 and 11.3.4. A cell is 4 bytes, little-endian.
+use Rattle.std.specs.Prelude.{ℕ, ◌+◌, ◌*◌, ◌/◌, ◌%◌, ◌^◌, Bool, true, not, ◌&&◌, ◌||◌, ◌==◌, if◌then◌else◌, ◌+ℤ◌, ◌*ℤ◌, int_lt, bit_and, bit_or, bit_xor, Option, Some, None}
 use Rattle.rma_types.specs.declared.dtypes.Dtype.{Dtype}
 use Rattle.rma_types.specs.declared.ops.Op.{Op}
 use Rattle.rma_types.specs.declared.ops.Op.TheVariants.{Replace, NoOp, Max, Min, Sum, Prod, Land, Band, Lor, Bor, Lxor, Bxor}

@@ -1,11 +1,11 @@
 -- The entries of the board, in the order of their places: this project's profile of MPI 3.1, sections 11.2 and 11.5.
-use Rattle.std.specs.Prelude.{ℕ, ◌+◌, ◌-◌, ◌*◌, Bool, true, false, ◌&&◌, ◌==◌, if◌then◌else◌, List, [], ◌∷◌, ◌++◌, map, Option, Some, None, is_some}
+use Rattle.std.specs.Prelude.{ℕ, ◌+◌, ◌-◌, ◌*◌, Bool, true, false, ◌&&◌, ◌==◌, if◌then◌else◌, List, [], ◌∷◌, ◌++◌, map, is_some}
 use Rattle.std.specs.List.{count_by, filter}
 use Rattle.std.specs.Option.{option_map_or}
 use Rattle.rma_types.specs.declared.accesses.Step.{Step}
 use Rattle.rma_types.specs.declared.accesses.Step.TheVariants.{Arrive, Leave, One}
 use Rattle.rma_types.specs.declared.calls.Call.{Call}
-use Rattle.rma_types.specs.declared.calls.Call.TheVariants.{Fence, Free, Barrier, Post, Start, Complete, WaitWin, TestWin, Attach, Detach}
+use Rattle.rma_types.specs.declared.calls.Call.TheVariants.{Fence, Free, Barrier, Post, Start, Complete, WaitWin, TestWin}
 use Rattle.rma_model.specs.Synchronising.{window_named, flavor_made}
 
 -- an entry: the rank, the number of its call in the rank's list, the call, and the step

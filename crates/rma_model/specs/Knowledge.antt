@@ -4,19 +4,16 @@ use Rattle.std.specs.List.{count_by, filter, fold}
 use Rattle.std.specs.Option.{option_map_or}
 use Rattle.rma_types.specs.declared.accesses.Step.{Step}
 use Rattle.rma_types.specs.declared.accesses.Step.TheVariants.{Arrive, Leave, One}
-use Rattle.rma_types.specs.declared.accesses.Access.{Access}
 use Rattle.rma_types.specs.declared.calls.Flavor.{Flavor}
 use Rattle.rma_types.specs.declared.calls.Call.{Call}
 use Rattle.rma_types.specs.declared.calls.Call.TheVariants.{Create, Free, Attach, Detach, WaitReq, TestReq}
 use Rattle.rma_record.specs.declared.items.Item.{Item}
 use Rattle.rma_record.specs.declared.items.Item.TheVariants.{Issue, Null, Touch, Flush, Request, Entry, Tested, Refused, Ended}
 use Rattle.rma_types.specs.declared.scripts.Part.{Part}
-use Rattle.rma_types.specs.declared.scripts.Layout.{Layout}
-use Rattle.rma_model.specs.Entries.{Act}
 use Rattle.rma_model.specs.Transfers.{Transfer, transfer_of}
 use Rattle.rma_model.specs.Synchronising.{window_named, flavor_made}
-use Rattle.rma_model.specs.Epochs.{AccessState, Idle, ExposureState, Unexposed, access_after, exposure_after}
-use Rattle.rma_model.specs.Windows.{Window, Region, natural, shape_of}
+use Rattle.rma_model.specs.Epochs.{Idle, Unexposed, access_after, exposure_after}
+use Rattle.rma_model.specs.Windows.{Window, Region, natural}
 
 -- a live request: its name, and the number of the call that made it
 pub record LiveRequest : Type 0 where
@@ -128,13 +125,19 @@ accepted_by calls (Tested number seen) = None
 accepted_by calls (Refused number class seen) = None
 accepted_by calls Ended = None
 
--- what is known after one more item
-abbrev pub learn : (ℕ → List Part) → List Call → Knowledge → Item → Knowledge
+-- the place of an item that is an entry
+abbrev pub entry_place : Item → ℕ
+entry_place (Entry number place step) = place
+entry_place item = 0
+
+-- What is known after one more item. shapes gives the parts of a window by its number, at a place of the board: those
+-- that the arrivals before this place brought.
+abbrev pub learn : (ℕ → ℕ → List Part) → List Call → Knowledge → Item → Knowledge
 learn shapes calls known item = option_map_or heard (accepted_by calls item) known
   where
     heard : ℕ → Knowledge
-    heard number = option_map_or (λ (call : Call). after_call shapes known number call) (slice_get calls number) known
+    heard number = option_map_or (λ (call : Call). after_call (shapes (entry_place item)) known number call) (slice_get calls number) known
 
 -- what a rank knows after these items of its log
-abbrev pub known_after : (ℕ → List Part) → List Call → List Item → Knowledge
+abbrev pub known_after : (ℕ → ℕ → List Part) → List Call → List Item → Knowledge
 known_after shapes calls items = fold (learn shapes calls) nothing_known items

@@ -10,13 +10,17 @@ pub mod Entries
 pub mod Epochs
 pub mod Forms
 pub mod Generator
+pub mod Items
 pub mod Knowledge
 pub mod LawfulRun
 pub mod Layout
 pub mod Numbers
+pub mod Orderly
 pub mod OwnTests
 pub mod Pieces
 pub mod RankLaw
+pub mod Report
+pub mod Status
 pub mod StepRun
 pub mod Synchronising
 pub mod Text

@@ -1,16 +1,16 @@
 -- The class that a rank gives a call by its own tests: MPI 3.1, sections 8.4 and 11.6, in this project's order.
-use Rattle.std.specs.Prelude.{ℕ, ◌+◌, ◌*◌, ◌%◌, ◌<◌, Bool, true, false, not, ◌&&◌, ◌||◌, ◌==◌, if◌then◌else◌, nat_lt, List, [], ◌∷◌, Option, Some, None, is_some, is_none, ℤ, pos, negsuc, int_lt, ◌+ℤ◌}
-use Rattle.std.specs.List.{list_any, list_all, find}
-use Rattle.std.specs.Option.{option_map_or, option_map}
+use Rattle.std.specs.Prelude.{ℕ, ◌+◌, ◌*◌, ◌%◌, Bool, true, false, not, ◌&&◌, ◌||◌, ◌==◌, if◌then◌else◌, nat_lt, List, [], ◌∷◌, Option, Some, None, is_some, is_none, ℤ, pos, int_lt, ◌+ℤ◌}
+use Rattle.std.specs.List.{list_any, list_all}
+use Rattle.std.specs.Option.{option_map_or}
 use Rattle.rma_types.specs.declared.classes.Class.{Class}
 use Rattle.rma_types.specs.declared.classes.Class.TheVariants.{Win, Flavor, Size, Base, Count, Op as OpClass, Rank, Request, Assert, Sync as SyncClass, Disp, Range, Attach as AttachClass}
 use Rattle.rma_types.specs.declared.calls.Call.{Call}
-use Rattle.rma_types.specs.declared.calls.Call.TheVariants.{Allocate, Create, Attach, Detach, Fence, Put, Get, Acc, GetAcc, Fop, Cas, WaitReq, TestReq}
+use Rattle.rma_types.specs.declared.calls.Call.TheVariants.{Allocate, Create, Attach, Detach, Fence, Acc, GetAcc, Fop, WaitReq, TestReq}
 use Rattle.rma_types.specs.Datatypes.{size_of, is_allowed}
 use Rattle.rma_model.specs.Transfers.{Transfer, Target, Own, Null, Named, transfer_of, is_own, is_null}
-use Rattle.rma_model.specs.Synchronising.{window_named, flavor_made, is_dynamic_flavor, ranks_named, is_rank, names_twice, rank_number, misuses_asserts}
+use Rattle.rma_model.specs.Synchronising.{window_named, is_dynamic_flavor, ranks_named, is_rank, names_twice, rank_number, misuses_asserts}
 use Rattle.rma_model.specs.Epochs.{is_fence_used, is_in_epoch}
-use Rattle.rma_model.specs.Windows.{Window, Region, window_in, natural, part_of, is_taken, is_attached, begins_at}
+use Rattle.rma_model.specs.Windows.{Window, window_in, natural, part_of, is_taken, is_attached, begins_at}
 use Rattle.rma_model.specs.Entries.{is_creation}
 use Rattle.rma_model.specs.Knowledge.{Knowledge, LiveRequest}
 

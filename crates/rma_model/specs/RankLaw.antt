@@ -1,6 +1,6 @@
 -- The log of one rank in a lawful run: MPI 3.1, sections 11.5 and 11.7, in this project's profile.
-use Rattle.std.specs.Prelude.{ℕ, zero, suc, ◌≡◌, ◌+◌, ◌<◌, ◌≤◌, ◌⊎◌, Bool, true, false, not, ◌&&◌, ◌||◌, ◌==◌, nat_lt, nat_le, if◌then◌else◌, List, [], ◌∷◌, ◌++◌, length, map, take, drop, slice_get, slice_index, slice_index_or, Option, Some, None, IsTrue, IsSome, IsSomeAnd, IfSome, is_some}
-use Rattle.std.specs.List.{filter, filter_map, flat_map, find, list_any, AllByRecursion}
+use Rattle.std.specs.Prelude.{ℕ, zero, suc, ◌≡◌, ◌+◌, ◌<◌, ◌⊎◌, Bool, true, false, not, ◌&&◌, ◌||◌, ◌==◌, nat_lt, if◌then◌else◌, List, [], ◌∷◌, ◌++◌, length, take, drop, slice_get, slice_index, Option, Some, None, IsTrue, IsSome, IsSomeAnd, IfSome}
+use Rattle.std.specs.List.{filter, flat_map, list_any, AllByRecursion}
 use Rattle.std.specs.Option.{option_map_or}
 use Rattle.rma_types.specs.declared.accesses.Access.{Access}
 use Rattle.rma_types.specs.declared.accesses.Step.TheVariants.{Arrive, Leave, One}
@@ -17,12 +17,12 @@ use Rattle.rma_model.specs.BoardLaw.{first_row}
 use Rattle.rma_model.specs.Delivery.{Issued, gives_way, must_wait, way}
 use Rattle.rma_model.specs.Entries.{Row, is_testwin}
 use Rattle.rma_model.specs.Forms.{Form, NullForm, IssueForm, LookUpForm, FlushForm, RequestForm, CollectiveForm, TestForm, EntryForm, form_of, access_of}
-use Rattle.rma_model.specs.Knowledge.{Knowledge, known_after}
+use Rattle.rma_model.specs.Items.{is_touch, is_ended}
+use Rattle.rma_model.specs.Knowledge.{known_after}
 use Rattle.rma_model.specs.OwnTests.{Seat, own, window_at}
 use Rattle.rma_model.specs.Pieces.{numbers_from}
-use Rattle.rma_model.specs.Touches.{Touching, issued_by, issued_at, EachPair}
-use Rattle.rma_model.specs.Transfers.{Transfer, transfer_of, is_own}
-use Rattle.rma_model.specs.Windows.{Window}
+use Rattle.rma_model.specs.Touches.{issued_by, issued_at, EachPair}
+use Rattle.rma_model.specs.Transfers.{transfer_of, is_own}
 use Rattle.rma_model.specs.World.{Stage, calls_at, shapes_after}
 
 -- a rank of a run whose entries are rows
@@ -42,10 +42,6 @@ seat_after post items = record {
   space = slice_index post.stage.script.spaces post.rank;
   known = known_after (shapes_after post.stage post.rows) (calls_here post) items;
 }
-
-abbrev pub is_touch : Item → Bool
-is_touch (Touch issue element cell place bits) = true
-is_touch other = false
 
 -- the items other than touches
 abbrev pub untouched : List Item → List Item
@@ -214,10 +210,6 @@ is_own_refusal other = false
 abbrev pub belongs_to : ℕ → Item → Bool
 belongs_to number item = option_map_or (λ other. other == number) (number_in item) false
 
-abbrev pub is_ended : Item → Bool
-is_ended Ended = true
-is_ended other = false
-
 -- the item at the index of the log must wait for the access: it is the first item of a call that must, or Ended
 abbrev pub waits_at : Post → List Item → ℕ → Issued → Bool
 waits_at post log index one = option_map_or by_item (slice_get log index) false
@@ -234,6 +226,17 @@ waits_at post log index one = option_map_or by_item (slice_get log index) false
 abbrev pub IsAwaitedWhole : Post → List Item → ℕ → Type 0
 IsAwaitedWhole post log index = AllByRecursion
     (λ (one : Issued). IsTrue (waits_at post log index one) → IsTouchedWhole (take index log) one) (issued_in post (take index log))
+
+-- the look-up of an RMA call on a dynamic window is directly followed by its Issue, with no touch between
+abbrev pub IsLookUpFollowed : Post → List Item → ℕ → Type 0
+IsLookUpFollowed post log index = by_item (slice_get log index)
+  where
+    follows : ℕ → Call → Type 0
+    follows number call = IsSome (transfer_of call) → IsSomeAnd (slice_get log (index + 1)) (λ next. IsTrue (belongs_to number next))
+
+    by_item : Option Item → Type 0
+    by_item (Some (Entry number place step)) = IfSome (slice_get (calls_here post) number) (follows number)
+    by_item other = Unit {0}
 
 -- ---- when the touches of an access stand, by the delay
 
@@ -283,6 +286,7 @@ KeepsDelay SeededDelay post log = Unit {0}
 -- the log of a rank
 pub record IsLawfulLog (post : Post) (log : List Item) : Type 0 where
   pub calls : HasItemsOfCalls post (untouched log)
+  pub look_ups : AllByRecursion (IsLookUpFollowed post log) (numbers_from 0 (length log))
   pub touches : AllByRecursion (IsTouchedWhole log) (issued_in post log)
   pub issues : AllByRecursion (HasItsIssue post log) (numbers_from 0 (length log))
   pub own_direct : AllByRecursion (IsOwnDirect log) (issued_in post log)

@@ -1,4 +1,4 @@
--- The run on one thread, turn by turn: this project's profile. It is one of the runs that MPI 3.1 allows.
+-- The run on one thread, turn by turn: this project's profile. It is one of the lawful runs.
 use Rattle.std.specs.Prelude.{ℕ, zero, suc, ◌+◌, ◌-◌, ◌*◌, ◌%◌, Bool, not, ◌&&◌, List, [], ◌∷◌, ◌++◌, length, take, drop, reverse, slice_get, Option, Some, None}
 use Rattle.std.specs.List.{filter, fold}
 use Rattle.std.specs.Option.{option_map_or}

@@ -1,8 +1,6 @@
 -- Windows, ranks and assertions that calls name: MPI 3.1, sections 11.2 and 11.5.
-use Rattle.std.specs.Prelude.{ℕ, Bool, true, false, not, ◌&&◌, ◌||◌, ◌==◌, nat_lt, List, [], ◌∷◌, map, Option, Some, None, ℤ, pos, negsuc}
-use Rattle.std.specs.List.{list_any, list_all}
-use Rattle.std.specs.Option.{option_map_or}
-use Rattle.rma_types.specs.declared.calls.Asserts.{Asserts}
+use Rattle.std.specs.Prelude.{ℕ, Bool, true, false, ◌||◌, ◌==◌, nat_lt, List, [], ◌∷◌, map, Option, Some, None, ℤ, pos, negsuc}
+use Rattle.std.specs.List.{list_any}
 use Rattle.rma_types.specs.declared.calls.Flavor.{Flavor}
 use Rattle.rma_types.specs.declared.calls.Flavor.TheVariants.{Allocate as Allocated, Create as Created, Dynamic as DynamicFlavor}
 use Rattle.rma_types.specs.declared.calls.Call.{Call}

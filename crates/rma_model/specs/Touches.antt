@@ -1,13 +1,12 @@
 -- The touches of a log, each with what its access makes of it: this project's record of MPI 3.1, section 11.7.
-use Rattle.std.specs.Prelude.{ℕ, ◌+◌, Bool, true, false, ◌&&◌, ◌==◌, List, [], ◌∷◌, ◌++◌, slice_get, slice_index_or, Option, Some, None, is_some}
+use Rattle.std.specs.Prelude.{ℕ, Bool, ◌==◌, List, [], ◌∷◌, slice_get, slice_index_or, Option, None, is_some}
 use Rattle.std.specs.List.{filter, flat_map, AllByRecursion}
 use Rattle.std.specs.Option.{option_map_or, option_map}
-use Rattle.rma_types.specs.declared.accesses.Access.{Access}
 use Rattle.rma_types.specs.declared.calls.Call.{Call}
 use Rattle.rma_types.specs.declared.scripts.Layout.{Layout}
 use Rattle.rma_types.specs.declared.scripts.Script.{Script}
 use Rattle.rma_record.specs.declared.items.Item.{Item}
-use Rattle.rma_record.specs.declared.items.Item.TheVariants.{Issue, Null, Touch, Flush, Request, Entry, Tested, Refused, Ended}
+use Rattle.rma_record.specs.declared.items.Item.TheVariants.{Issue, Touch}
 use Rattle.rma_record.specs.declared.runs.Run.{Run}
 use Rattle.rma_model.specs.declared.elements.Change.{Change}
 use Rattle.rma_model.specs.declared.elements.Piece.{Piece}

@@ -1,9 +1,9 @@
 -- The calls that move data: MPI 3.1, section 11.3, and this project's loads and stores.
-use Rattle.std.specs.Prelude.{ℕ, Bool, true, false, not, ◌||◌, List, [], ◌∷◌, length, Option, Some, None, ℤ, pos, slice_index}
+use Rattle.std.specs.Prelude.{ℕ, Bool, true, false, not, List, [], ◌∷◌, length, Option, Some, None, ℤ, pos, slice_index}
 use Rattle.std.specs.Option.{option_map_or}
 use Rattle.rma_types.specs.declared.dtypes.Dtype.{Dtype}
 use Rattle.rma_types.specs.declared.ops.Op.{Op}
-use Rattle.rma_types.specs.declared.ops.Op.TheVariants.{Replace, NoOp, Max, Min, Sum, Prod, Land, Band, Lor, Bor, Lxor, Bxor}
+use Rattle.rma_types.specs.declared.ops.Op.TheVariants.{Replace, NoOp}
 use Rattle.rma_types.specs.declared.accesses.Kind.{Kind}
 use Rattle.rma_types.specs.declared.accesses.Kind.TheVariants.{Get as GetKind, Put as PutKind, Acc as AccKind, Cas as CasKind, Load as LoadKind, Store as StoreKind}
 use Rattle.rma_types.specs.declared.calls.Call.{Call}

@@ -1,5 +1,5 @@
 -- One turn of a rank: this project's profile of a run on one thread.
-use Rattle.std.specs.Prelude.{ℕ, ◌+◌, ◌/◌, ◌%◌, Bool, true, false, not, ◌&&◌, ◌||◌, ◌==◌, if◌then◌else◌, List, [], ◌∷◌, ◌++◌, length, slice_get, remove, Option, Some, None}
+use Rattle.std.specs.Prelude.{ℕ, ◌/◌, ◌%◌, Bool, true, false, not, ◌&&◌, ◌==◌, if◌then◌else◌, List, [], ◌∷◌, ◌++◌, length, slice_get, remove, Option, Some, None}
 use Rattle.std.specs.Option.{option_map_or}
 use Rattle.rma_types.specs.declared.accesses.Step.{Step}
 use Rattle.rma_types.specs.declared.accesses.Step.TheVariants.{Arrive, Leave, One}
@@ -15,7 +15,7 @@ use Rattle.rma_model.specs.Delivery.{Issued, way, awaited}
 use Rattle.rma_model.specs.Entries.{Row, is_testwin}
 use Rattle.rma_model.specs.Forms.{Form, NullForm, IssueForm, LookUpForm, FlushForm, RequestForm, CollectiveForm, TestForm, EntryForm, form_of, access_of}
 use Rattle.rma_model.specs.Generator.{stirred, drawn_from}
-use Rattle.rma_model.specs.OwnTests.{Seat, own, window_at}
+use Rattle.rma_model.specs.OwnTests.{own, window_at}
 use Rattle.rma_model.specs.Pieces.{pieces}
 use Rattle.rma_model.specs.Transfers.{Transfer, transfer_of, is_own}
 use Rattle.rma_model.specs.Windows.{Window}

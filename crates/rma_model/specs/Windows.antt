@@ -1,15 +1,14 @@
 -- Windows and ranges of memory as a rank knows them: MPI 3.1, section 11.2.
-use Rattle.std.specs.Prelude.{ℕ, ◌+◌, ◌*◌, Bool, true, false, ◌&&◌, ◌||◌, ◌==◌, nat_lt, nat_le, List, [], ◌∷◌, map, Option, Some, None, ℤ, pos, negsuc, slice_get}
-use Rattle.std.specs.List.{find, list_any, list_all, filter}
-use Rattle.std.specs.Option.{option_map_or, option_map}
+use Rattle.std.specs.Prelude.{ℕ, ◌+◌, Bool, ◌&&◌, ◌==◌, nat_lt, nat_le, List, map, Option, ℤ, pos, negsuc, slice_get}
+use Rattle.std.specs.List.{find, list_any, list_all}
+use Rattle.std.specs.Option.{option_map_or}
 use Rattle.rma_types.specs.declared.scripts.Part.{Part}
-use Rattle.rma_types.specs.declared.scripts.Script.{Script}
 use Rattle.rma_types.specs.declared.scripts.Layout.{Layout}
 use Rattle.rma_types.specs.declared.scripts.CallBase.{CallBase}
 use Rattle.rma_types.specs.declared.calls.Flavor.{Flavor}
 use Rattle.rma_types.specs.declared.calls.Call.{Call}
 use Rattle.rma_types.specs.declared.calls.Call.TheVariants.{Allocate, Create}
-use Rattle.rma_model.specs.Entries.{Row, Act, is_arrive, is_creation}
+use Rattle.rma_model.specs.Entries.{Act, is_arrive, is_creation}
 use Rattle.rma_model.specs.Epochs.{AccessState, ExposureState}
 use Rattle.rma_model.specs.Pieces.{numbers_from}
 

@@ -1,8 +1,6 @@
 -- The state of a run on one thread: this project's profile of a run's schedules and deliveries.
-use Rattle.std.specs.Prelude.{ℕ, ◌+◌, Bool, true, false, not, ◌&&◌, List, [], ◌∷◌, ◌++◌, map, length, replicate, slice_get, slice_index, slice_index_or, slice_set, Option, Some, None}
+use Rattle.std.specs.Prelude.{take, ℕ, ◌+◌, Bool, false, List, [], ◌∷◌, ◌++◌, map, length, replicate, slice_index, slice_index_or, slice_set, Option, Some, None}
 use Rattle.std.specs.List.{list_all}
-use Rattle.std.specs.Option.{option_map_or}
-use Rattle.rma_types.specs.declared.accesses.Step.{Step}
 use Rattle.rma_types.specs.declared.calls.Call.{Call}
 use Rattle.rma_types.specs.declared.schedules.Delay.{Delay}
 use Rattle.rma_types.specs.declared.scripts.Layout.{Layout}
@@ -87,9 +85,9 @@ seat_of stage rank agent = record {
   known = agent.known;
 }
 
--- the parts of a window by its number, after the entries
-abbrev pub shapes_after : Stage → List Row → ℕ → List Part
-shapes_after stage rows window = shape_of stage.layout stage.script.ranks (acts rows) window
+-- the parts of a window by its number, after the entries before a place: a window's Leave has every arrival before it
+abbrev pub shapes_after : Stage → List Row → ℕ → ℕ → List Part
+shapes_after stage rows place window = shape_of stage.layout stage.script.ranks (acts (take place rows)) window
 
 -- the rank keeps an item
 abbrev pub kept : Stage → List Row → ℕ → Agent → Item → Agent

@@ -8,7 +8,7 @@ pub struct Piece {
     pub first_byte: u8,
 }
 
-/// What an update does to one element of a cell (MPI 3.1, sections 11.3.4 and 11.3.5).
+/// What an update does to one element of a cell (MPI 3.1, sections 11.3.1 and 11.3.4).
 ///
 /// The element has the datatype's bytes from `first_byte` on. With `compare` given it changes only where its bit
 /// pattern is `compare`.

@@ -6,6 +6,8 @@
 
 mod cells;
 mod elements;
+mod modes;
 
 pub use cells::Cell;
 pub use elements::{Change, Piece};
+pub use modes::Mode;

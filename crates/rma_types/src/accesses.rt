@@ -19,7 +19,7 @@ pub struct Access {
     /// The window's number: 32 times the round of its creation, plus its name.
     pub window: u32,
     pub target: u8,
-    /// The address of the first byte, below 65,536.
+    /// The address of the first byte. Where there is a byte, it is below 65,536.
     pub lo: u32,
     /// The number of bytes, at most 1,024.
     pub len: u32,

@@ -37,38 +37,158 @@ pub struct Asserts {
 /// MPI_PROC_NULL. Bytes, units, displacements, counts and ranks may be out of range: the call is then refused.
 #[derive(Debug, PartialEq, Drop)]
 pub enum Call {
-    Allocate { win: u8, bytes: i32, unit: i32 },
-    Create { win: u8, base: i32, bytes: i32, unit: i32 },
-    Dynamic { win: u8 },
-    Free { win: u8 },
-    Attach { win: u8, base: i32, bytes: i32 },
-    Detach { win: u8, base: i32 },
-    Fence { win: u8, asserts: Asserts },
-    Post { win: u8, group: Group, asserts: Asserts },
-    Start { win: u8, group: Group, asserts: Asserts },
-    Complete { win: u8 },
-    WaitWin { win: u8 },
-    TestWin { win: u8 },
-    LockOne { win: u8, kind: Lock, target: i32, asserts: Asserts },
-    Unlock { win: u8, target: i32 },
-    LockAll { win: u8, asserts: Asserts },
-    UnlockAll { win: u8 },
-    Flush { win: u8, target: i32 },
-    FlushAll { win: u8 },
-    FlushLocal { win: u8, target: i32 },
-    FlushLocalAll { win: u8 },
-    Sync { win: u8 },
+    Allocate {
+        win: u8,
+        bytes: i32,
+        unit: i32,
+    },
+    Create {
+        win: u8,
+        base: i32,
+        bytes: i32,
+        unit: i32,
+    },
+    Dynamic {
+        win: u8,
+    },
+    Free {
+        win: u8,
+    },
+    Attach {
+        win: u8,
+        base: i32,
+        bytes: i32,
+    },
+    Detach {
+        win: u8,
+        base: i32,
+    },
+    Fence {
+        win: u8,
+        asserts: Asserts,
+    },
+    Post {
+        win: u8,
+        group: Group,
+        asserts: Asserts,
+    },
+    Start {
+        win: u8,
+        group: Group,
+        asserts: Asserts,
+    },
+    Complete {
+        win: u8,
+    },
+    WaitWin {
+        win: u8,
+    },
+    TestWin {
+        win: u8,
+    },
+    LockOne {
+        win: u8,
+        kind: Lock,
+        target: i32,
+        asserts: Asserts,
+    },
+    Unlock {
+        win: u8,
+        target: i32,
+    },
+    LockAll {
+        win: u8,
+        asserts: Asserts,
+    },
+    UnlockAll {
+        win: u8,
+    },
+    Flush {
+        win: u8,
+        target: i32,
+    },
+    FlushAll {
+        win: u8,
+    },
+    FlushLocal {
+        win: u8,
+        target: i32,
+    },
+    FlushLocalAll {
+        win: u8,
+    },
+    Sync {
+        win: u8,
+    },
     Barrier,
-    Put { req: Option<u8>, win: u8, target: Option<i32>, disp: i32, dtype: Dtype, values: Bits },
-    Get { req: Option<u8>, win: u8, target: Option<i32>, disp: i32, dtype: Dtype, count: i32 },
-    Acc { req: Option<u8>, win: u8, target: Option<i32>, disp: i32, dtype: Dtype, op: Op, values: Bits },
-    GetAcc { req: Option<u8>, win: u8, target: Option<i32>, disp: i32, dtype: Dtype, op: Op, values: Bits },
-    Fop { win: u8, target: Option<i32>, disp: i32, dtype: Dtype, op: Op, value: u64 },
-    Cas { win: u8, target: Option<i32>, disp: i32, dtype: Dtype, compare: u64, new: u64 },
-    Load { win: u8, disp: i32, dtype: Dtype, count: i32 },
-    Store { win: u8, disp: i32, dtype: Dtype, values: Bits },
-    WaitReq { req: u8 },
-    TestReq { req: u8 },
+    Put {
+        req: Option<u8>,
+        win: u8,
+        target: Option<i32>,
+        disp: i32,
+        dtype: Dtype,
+        values: Bits,
+    },
+    Get {
+        req: Option<u8>,
+        win: u8,
+        target: Option<i32>,
+        disp: i32,
+        dtype: Dtype,
+        count: i32,
+    },
+    Acc {
+        req: Option<u8>,
+        win: u8,
+        target: Option<i32>,
+        disp: i32,
+        dtype: Dtype,
+        op: Op,
+        values: Bits,
+    },
+    GetAcc {
+        req: Option<u8>,
+        win: u8,
+        target: Option<i32>,
+        disp: i32,
+        dtype: Dtype,
+        op: Op,
+        values: Bits,
+    },
+    Fop {
+        win: u8,
+        target: Option<i32>,
+        disp: i32,
+        dtype: Dtype,
+        op: Op,
+        value: u64,
+    },
+    Cas {
+        win: u8,
+        target: Option<i32>,
+        disp: i32,
+        dtype: Dtype,
+        compare: u64,
+        new: u64,
+    },
+    Load {
+        win: u8,
+        disp: i32,
+        dtype: Dtype,
+        count: i32,
+    },
+    Store {
+        win: u8,
+        disp: i32,
+        dtype: Dtype,
+        values: Bits,
+    },
+    WaitReq {
+        req: u8,
+    },
+    TestReq {
+        req: u8,
+    },
 }
 
 impl Call {

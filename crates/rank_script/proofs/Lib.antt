@@ -1,0 +1,10 @@
+pub mod Words
+pub mod Many
+pub mod Digits
+pub mod Grammar
+pub mod Each
+pub mod Numbers
+pub mod CallLines
+pub mod RankLines
+pub mod Whole
+pub mod Fences

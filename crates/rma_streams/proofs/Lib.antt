@@ -1,0 +1,2 @@
+-- Lemmas on bytes that move.
+pub mod MoveLemmas
