@@ -4,7 +4,9 @@ ghost use Rattle.std.specs.List.{list_all};
 ghost use Rattle.rma_record.specs.Kept.{Kept};
 ghost use Rattle.rma_model.specs.BuiltForm.{IsBuilt};
 ghost use Rattle.rma_model.specs.Layout.{layout, cells_of, IsWithinLimits};
-ghost use Rattle.rma_model.specs.StepRun.{most_turns};
+ghost use Rattle.rma_types.specs.declared.schedules.Delay.TheVariants.{None as NoDelay};
+ghost use Rattle.rma_types.specs.declared.schedules.Order.TheVariants.{Robin};
+ghost use Rattle.rma_model.specs.StepRun.{most_turns, step_run};
 ghost use Rattle.rma_model.specs.World.{empty_cell};
 ghost use Rattle.rank_engine.specs.Engine.{Seat as SeatValue, new_seat, beginning, run_of, engine_run};
 
@@ -99,8 +101,7 @@ impl Engine {
     }
 }
 
-/// Runs a script of the built form, on one thread.
-pub fn run_steps(alloc: Global, script: &Script) -> Result<Run, NoMemory>
+fn run_engine(alloc: Global, script: &Script) -> Result<Run, NoMemory>
     requires { IsBuilt script.now }
     ensures { IfOk result (λ run. run ≡ engine_run script.now) }
 {
@@ -109,4 +110,13 @@ pub fn run_steps(alloc: Global, script: &Script) -> Result<Run, NoMemory>
     let mut engine = Engine::new(alloc, script, &place)?;
     engine.run(script, parts.as_slice(), most_turns(script))?;
     engine.into_run(alloc)
+}
+
+/// Runs a script of the built form on one thread: the ranks have their turns ascending and round, and each access
+/// is delivered in its call's step.
+pub fn run_steps(alloc: Global, script: &Script) -> Result<Run, NoMemory>
+    requires { IsBuilt script.now }
+    ensures { IfOk result (λ run. run ≡ step_run script.now Robin NoDelay 0) }
+{
+    run_engine(alloc, script)
 }
