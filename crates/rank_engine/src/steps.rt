@@ -4,8 +4,8 @@ ghost use Rattle.std.specs.List.{list_all};
 ghost use Rattle.rma_record.specs.Kept.{Kept};
 ghost use Rattle.rma_model.specs.BuiltForm.{IsBuilt};
 ghost use Rattle.rma_model.specs.Layout.{layout, cells_of, IsWithinLimits};
-ghost use Rattle.rma_types.specs.declared.schedules.Delay.TheVariants.{None as NoDelay};
-ghost use Rattle.rma_types.specs.declared.schedules.Order.TheVariants.{Robin};
+ghost use Rattle.rma_model.specs.LawfulRun.{IsLawful};
+ghost use Rattle.rma_model.specs.Orderly.{HasOrderlyLogs};
 ghost use Rattle.rma_model.specs.StepRun.{most_turns, step_run};
 ghost use Rattle.rma_model.specs.World.{empty_cell};
 ghost use Rattle.rank_engine.specs.Engine.{Seat as SeatValue, new_seat, beginning, run_of, engine_run};
@@ -15,7 +15,8 @@ use crate::engine::Engine;
 use crate::parts::parts_of;
 use crate::seats::Seat;
 use rma_record::{Log, Logs, Run};
-use rma_types::{Layout, NoMemory, Script};
+use rma_types::{Delay, Layout, NoMemory, Order, Script};
+use run_laws::step_run_is_lawful;
 use script_layout::layout_of;
 use std::alloc::Global;
 
@@ -112,11 +113,27 @@ fn run_engine(alloc: Global, script: &Script) -> Result<Run, NoMemory>
     engine.into_run(alloc)
 }
 
-/// Runs a script of the built form on one thread: the ranks have their turns ascending and round, and each access
-/// is delivered in its call's step.
-pub fn run_steps(alloc: Global, script: &Script) -> Result<Run, NoMemory>
-    requires { IsBuilt script.now }
-    ensures { IfOk result (λ run. run ≡ step_run script.now Robin NoDelay 0) }
+/// Runs a script of the built form on one thread.
+///
+/// By now the ranks have their turns ascending and round, and each access is touched in its call's step; the seed
+/// draws nothing then.
+pub fn run_steps(
+    alloc: Global,
+    script: &Script,
+    order: Order,
+    delay: Delay,
+    seed: u32,
+) -> Result<Run, NoMemory>
+    requires built { IsBuilt script.now }
+    requires robin { order ≡ Order.Robin }
+    requires none { delay ≡ Delay.None }
+    // It is the one run that the definitions build turn by turn.
+    ensures steps { IfOk result (λ run. run ≡ step_run script.now order delay seed) }
+    // That run is lawful.
+    ensures lawful { IfOk result (IsLawful script.now delay) }
+    // Its items stand in the order of their calls, and the touches of an access directly follow its `Issue`.
+    ensures orderly { IfOk result (HasOrderlyLogs script.now) }
 {
+    step_run_is_lawful();
     run_engine(alloc, script)
 }
