@@ -17,6 +17,7 @@ use Rattle.rma_record.specs.declared.items.Item.{Item}
 use Rattle.rma_record.specs.declared.items.Item.TheVariants.{Issue, Touch, Entry, Refused, Ended}
 use Rattle.rma_record.specs.declared.runs.Run.{Run}
 use Rattle.rma_model.specs.declared.cells.Cell.{Cell}
+pub use Rattle.rma_model.specs.Layout.{size as amount}
 use Rattle.rma_model.specs.Layout.{layout, cells_of}
 use Rattle.rma_model.specs.Pieces.{numbers_from, first_cell}
 use Rattle.rma_model.specs.StepRun.{most_turns}
@@ -179,11 +180,7 @@ try_load parts state rank disp count =
 
 -- ---- turns
 
--- a number that is known not to be below zero, and a target that is known to be a rank
-abbrev pub amount : ℤ → ℕ
-amount (pos n) = n
-amount (negsuc n) = 0
-
+-- the rank that a target names, which is known to be one
 abbrev pub target_rank : Option ℤ → ℕ
 target_rank None = 0
 target_rank (Some rank) = amount rank

@@ -3,7 +3,7 @@ ghost use Rattle.rank_engine.specs.Rows.{allocate, fence, put_five, put_and_load
 
 use crate::run_steps;
 use rma_record::{Item, Run};
-use rma_types::{Access, Delay, Order, Asserts, Call, Class, Dtype, Items, Kind, Script, Step};
+use rma_types::{Access, Asserts, Call, Class, Delay, Dtype, Items, Kind, Order, Script, Step};
 use std::alloc::{AllocError, Global};
 use std::test::*;
 
@@ -118,7 +118,9 @@ fn has_log(run: &Run, rank: usize, items: &[Item]) -> bool {
 fn a_load_after_the_fence_reads_what_was_put(rt: HostRuntime) -> Result<(), Fail> {
     let alloc = rt.alloc();
     let script = put_and_load(alloc)?;
-    let run = run_steps(alloc, &script, Order::Robin, Delay::None, 0).ok().ok_or("memory is there")?;
+    let run = run_steps(alloc, &script, Order::Robin, Delay::None, 0)
+        .ok()
+        .ok_or("memory is there")?;
     assert!(rt; run.ended);
     assert_eq!(rt; run.memory.as_slice(), [0, 0, 5, 0].as_slice());
     let first = [
@@ -170,7 +172,9 @@ fn a_load_after_the_fence_reads_what_was_put(rt: HostRuntime) -> Result<(), Fail
 fn a_put_is_refused_before_the_first_fence_and_past_the_end(rt: HostRuntime) -> Result<(), Fail> {
     let alloc = rt.alloc();
     let script = two_refusals(alloc)?;
-    let run = run_steps(alloc, &script, Order::Robin, Delay::None, 0).ok().ok_or("memory is there")?;
+    let run = run_steps(alloc, &script, Order::Robin, Delay::None, 0)
+        .ok()
+        .ok_or("memory is there")?;
     let items = [
         entry(0, 0, Step::Arrive),
         entry(0, 1, Step::Leave),

@@ -1,6 +1,6 @@
 -- The scripts that are run by now: this project's profile. One window that each rank allocates first (MPI 3.1,
 -- section 11.2.2), fences (11.5.1), and puts, and loads (11.3.1).
-use Rattle.std.specs.Prelude.{ℕ, ◌≡◌, ◌<◌, ◌≤◌, ◌^◌, ℤ, pos, negsuc, List, [], ◌∷◌, length, replicate, count_by, Bool, true, false, Option, Some, None, ◌⊎◌}
+use Rattle.std.specs.Prelude.{ℕ, ◌≡◌, ◌<◌, ◌≤◌, ◌^◌, ℤ, pos, negsuc, List, [], ◌∷◌, length, replicate, count_by, false, Option, Some, None, ◌⊎◌}
 use Rattle.std.specs.List.{AllByRecursion}
 use Rattle.rma_types.specs.declared.calls.Call.{Call}
 use Rattle.rma_types.specs.declared.calls.Call.TheVariants.{Allocate, Fence, Put, Load}
@@ -8,6 +8,7 @@ use Rattle.rma_types.specs.declared.calls.Asserts.{Asserts}
 use Rattle.rma_types.specs.declared.dtypes.Dtype.{Dtype}
 use Rattle.rma_types.specs.declared.dtypes.Dtype.TheVariants.{Int32}
 use Rattle.rma_types.specs.declared.scripts.Script.{Script}
+pub use Rattle.rma_model.specs.Entries.{is_fence}
 use Rattle.rma_model.specs.Layout.{IsWithinLimits}
 
 -- no assertion is given
@@ -58,10 +59,6 @@ IsBuiltAllocate other = ⊥
 abbrev pub IsBuiltList : ℕ → List Call → Type 0
 IsBuiltList ranks [] = ⊥
 IsBuiltList ranks (call ∷ calls) = IsBuiltAllocate call × AllByRecursion (IsBuiltCall ranks) calls
-
-abbrev pub is_fence : Call → Bool
-is_fence (Fence win asserts) = true
-is_fence other = false
 
 -- the number of fences of a list
 abbrev pub fences_of : List Call → ℕ

@@ -12,7 +12,7 @@ use Rattle.rma_types.specs.declared.scripts.CallBase.{CallBase}
 abbrev pub rounded : ℕ → ℕ
 rounded bytes = 8 * ((bytes + 7) / 8)
 
--- a size as it is counted: a negative one counts as 0
+-- an integer as a size, an address or a count: a negative one counts as 0
 abbrev pub size : ℤ → ℕ
 size (pos bytes) = bytes
 size (negsuc bytes) = 0

@@ -1,6 +1,5 @@
 -- The calls that move data: MPI 3.1, section 11.3, and this project's loads and stores.
-use Rattle.std.specs.Prelude.{ℕ, Bool, true, false, not, List, [], ◌∷◌, length, Option, Some, None, ℤ, pos, slice_index}
-use Rattle.std.specs.Option.{option_map_or}
+use Rattle.std.specs.Prelude.{ℕ, Bool, true, false, List, [], ◌∷◌, length, Option, Some, None, ℤ, pos, slice_index}
 use Rattle.rma_types.specs.declared.dtypes.Dtype.{Dtype}
 use Rattle.rma_types.specs.declared.ops.Op.{Op}
 use Rattle.rma_types.specs.declared.ops.Op.TheVariants.{Replace, NoOp}
@@ -157,10 +156,6 @@ abbrev pub is_null : Target → Bool
 is_null Own = false
 is_null Null = true
 is_null (Named rank) = false
-
--- the call is an RMA call: it moves data and is no load or store
-abbrev pub is_remote : Call → Bool
-is_remote call = option_map_or (λ (t : Transfer). not (is_own t.target)) (transfer_of call) false
 
 -- the change that a transfer makes to one of its elements, at a first byte of the cell; none where it reads
 abbrev pub change_of : Transfer → ℕ → ℕ → Option Change

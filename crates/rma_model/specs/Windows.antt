@@ -1,5 +1,5 @@
 -- Windows and ranges of memory as a rank knows them: MPI 3.1, section 11.2.
-use Rattle.std.specs.Prelude.{ℕ, ◌+◌, Bool, ◌&&◌, ◌==◌, nat_lt, nat_le, List, map, Option, ℤ, pos, negsuc, slice_get}
+use Rattle.std.specs.Prelude.{ℕ, ◌+◌, Bool, ◌&&◌, ◌==◌, nat_lt, nat_le, List, map, Option, slice_get}
 use Rattle.std.specs.List.{find, list_any, list_all}
 use Rattle.std.specs.Option.{option_map_or}
 use Rattle.rma_types.specs.declared.scripts.Part.{Part}
@@ -10,6 +10,7 @@ use Rattle.rma_types.specs.declared.calls.Call.{Call}
 use Rattle.rma_types.specs.declared.calls.Call.TheVariants.{Allocate, Create}
 use Rattle.rma_model.specs.Entries.{Act, is_arrive, is_creation}
 use Rattle.rma_model.specs.Epochs.{AccessState, ExposureState}
+pub use Rattle.rma_model.specs.Layout.{size as natural}
 use Rattle.rma_model.specs.Pieces.{numbers_from}
 
 -- a live window: its name and number, how it was created, the part of each rank, and the rank's epochs on it
@@ -30,11 +31,6 @@ pub record Region : Type 0 where
 
 abbrev pub window_in : List Window → ℕ → Option Window
 window_in windows win = find (λ (window : Window). window.win == win) windows
-
--- an integer that is known not to be below zero
-abbrev pub natural : ℤ → ℕ
-natural (pos n) = n
-natural (negsuc n) = 0
 
 -- the address that the memory of one of a rank's allocates begins at
 abbrev pub base_of : Layout → ℕ → ℕ → ℕ

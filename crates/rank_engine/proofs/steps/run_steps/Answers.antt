@@ -35,6 +35,7 @@ returns c =
     record {
       steps = if_ok (λ run. run ≡ step_run script c.args.order c.args.delay c.args.seed) c.run_engine.result (engine_run script) (step_run script Robin NoDelay c.args.seed) engine named c.run_engine.ensures;
       lawful = if_ok (IsLawful script c.args.delay) c.run_engine.result (engine_run script) (step_run script Robin NoDelay c.args.seed) engine
-        (subst (λ d. IsLawful script d (step_run script Robin NoDelay c.args.seed)) (sym c.requires.none) (c.step_run_is_lawful.ensures.built script c.args.seed built)) c.run_engine.ensures;
+          (subst (λ d. IsLawful script d (step_run script Robin NoDelay c.args.seed)) (sym c.requires.none) (c.step_run_is_lawful.ensures.built script c.args.seed built)) c.run_engine.ensures;
       orderly = if_ok (HasOrderlyLogs script) c.run_engine.result (engine_run script) (step_run script Robin NoDelay c.args.seed) engine
-        (c.step_run_is_lawful.ensures.orderly script c.args.seed built) c.run_engine.ensures }
+          (c.step_run_is_lawful.ensures.orderly script c.args.seed built) c.run_engine.ensures;
+    }

@@ -1,0 +1,58 @@
+-- What the top calls answer. A source and a sink tell their bytes or not: left and written are Options.
+use Rattle.std.specs.Prelude.{ℕ, ◌≡◌, ◌⊎◌, List, [], length, Option, Some, None}
+use Rattle.rma_types.specs.declared.scripts.Script.{Script}
+use Rattle.rma_record.specs.declared.runs.Run.{Run}
+use Rattle.rma_model.specs.declared.modes.Mode.TheVariants.{Step}
+use Rattle.rma_model.specs.LawfulRun.{IsLawful}
+use Rattle.rma_model.specs.Report.{report}
+use Rattle.rma_model.specs.Status.{status}
+use Rattle.rma_model.specs.StepRun.{step_run}
+use Rattle.rma_streams.specs.Moves.{Took, AtEnd, Wrote, WrotePrefix}
+use Rattle.rank_script.specs.Accepting.{IsTextOf}
+use Rattle.rma_runner.specs.declared.options.Options.{Options}
+
+-- the bytes that were taken: the whole input, or as many as are taken of a longer one
+pub record IsInput (before after : Option (List ℕ)) (bytes : List ℕ) : Type 0 where
+  pub taken : Took before bytes after
+  pub whole : AtEnd after ⊎ (length bytes ≡ 1048577)
+
+-- the bytes taken are the whole input, and read as the script
+pub record ReadsAs (before after : Option (List ℕ)) (script : Script) : Type 0 where
+  pub bytes : List ℕ
+  pub taken : Took before bytes after
+  pub end : AtEnd after
+  pub reads : IsTextOf bytes script
+
+-- the bytes taken read as no script
+pub record ReadsAsNone (before after : Option (List ℕ)) : Type 0 where
+  pub bytes : List ℕ
+  pub input : IsInput before after bytes
+  pub none : (script : Script) → IsTextOf bytes script → ⊥
+
+-- the run is the script's run on one thread by these options, and it is lawful
+pub record IsRunOf (options : Options) (script : Script) (run : Run) : Type 0 where
+  pub steps : run ≡ step_run script options.order options.delay options.seed
+  pub lawful : IsLawful script options.delay run
+
+-- the report on a run, without findings
+abbrev pub report_on : Script → Run → List ℕ
+report_on script run = report script run [] Step
+
+-- a run is handed back, and its whole report was written; the status is that of the run
+pub record Reported (options : Options) (left_before left_after written_before written_after : Option (List ℕ)) (answer : ℕ) (handed : Option Run) : Type 0 where
+  pub script : Script
+  pub run : Run
+  pub reads : ReadsAs left_before left_after script
+  pub is_run : IsRunOf options script run
+  pub handed_back : handed ≡ Some run
+  pub text : Wrote written_before (report_on script run) written_after
+  pub status_is : answer ≡ status run []
+
+-- a run is handed back, and a front of its report was written
+pub record ReportedInPart (options : Options) (left_before left_after written_before written_after : Option (List ℕ)) (handed : Option Run) : Type 0 where
+  pub script : Script
+  pub run : Run
+  pub reads : ReadsAs left_before left_after script
+  pub is_run : IsRunOf options script run
+  pub handed_back : handed ≡ Some run
+  pub text : WrotePrefix written_before (report_on script run) written_after

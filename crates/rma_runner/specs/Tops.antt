@@ -1,0 +1,26 @@
+-- How a call ends that had a text to write.
+use Rattle.std.specs.Prelude.{ℕ, ◌≡◌, ◌⊎◌, List, [], Option, Some, None}
+use Rattle.rma_types.specs.declared.scripts.Script.{Script}
+use Rattle.rma_record.specs.declared.runs.Run.{Run}
+use Rattle.rma_model.specs.Status.{status, words_refused, script_refused, write_failed, out_of_memory}
+use Rattle.rma_streams.specs.Moves.{Wrote, WrotePrefix}
+use Rattle.rank_script.specs.declared.faults.Fault.{Fault}
+use Rattle.rma_runner.specs.Answers.{report_on}
+use Rattle.rma_runner.specs.Lines.{fault_line, usage_line}
+use Rattle.rma_runner.specs.declared.outcomes.Outcome.{Outcome}
+
+-- the whole text was written and the status is the one of that; or a write failed; or there was no memory for the text
+abbrev pub Ends : ℕ → Option Run → List ℕ → Option (List ℕ) → Option (List ℕ) → Outcome → Type 0
+Ends code run text before after outcome =
+    ((outcome ≡ record { status = code; run = run }) × Wrote before text after)
+    ⊎ ((outcome ≡ record { status = write_failed; run = run }) × WrotePrefix before text after)
+    ⊎ ((outcome ≡ record { status = out_of_memory; run = None }) × (after ≡ before))
+
+abbrev pub EndsRun : Script → Run → Option (List ℕ) → Option (List ℕ) → Outcome → Type 0
+EndsRun script run before after outcome = Ends (status run []) (Some run) (report_on script run) before after outcome
+
+abbrev pub EndsFault : Fault → Option (List ℕ) → Option (List ℕ) → Outcome → Type 0
+EndsFault fault before after outcome = Ends script_refused None (fault_line fault) before after outcome
+
+abbrev pub EndsUsage : Option (List ℕ) → Option (List ℕ) → Outcome → Type 0
+EndsUsage before after outcome = Ends words_refused None usage_line before after outcome

@@ -1,0 +1,50 @@
+//! A script from a source.
+ghost use Rattle.std.specs.Prelude.{◌≡◌, ◌≤◌, IfOk, IfErr};
+ghost use Rattle.rma_streams.specs.Faults.{Rose};
+ghost use Rattle.rank_script.specs.Accepting.{IsTextOf};
+ghost use Rattle.rma_runner.specs.Answers.{ReadsAs};
+ghost use Rattle.rma_runner.specs.Inputs.{IsRefusal, IsWhy};
+
+use rank_script::{Fault, FaultKind, parse};
+use rma_streams::{ReadError, Source, read_input};
+use rma_types::Script;
+use std::alloc::Global;
+
+/// Why no script was read.
+#[derive(Clone, Copy, Debug, PartialEq, Eq)]
+pub enum NoScript {
+    /// A read failed.
+    Failed,
+    /// There was no memory.
+    NoMemory,
+    /// The text is refused for its first fault.
+    Refused(Fault),
+}
+
+fn script_of(alloc: Global, text: &[u8]) -> Result<Script, NoScript>
+    ensures read { IfOk result (IsTextOf text.now) }
+    ensures refused { IfErr result (IsRefusal text.now) }
+{
+    match parse(alloc, text) {
+        Ok(script) => Ok(script),
+        Err(fault) => match fault.kind {
+            FaultKind::NoMemory => Err(NoScript::NoMemory),
+            _ => Err(NoScript::Refused(fault)),
+        },
+    }
+}
+
+/// Reads a script from a source, to the end of its input or to the limit.
+pub fn read_script<S: Source>(alloc: Global, source: &mut S) -> Result<Script, NoScript>
+    ensures read { IfOk result (ReadsAs (S.left source.old) (S.left source.new)) }
+    ensures refused { IfErr result (λ why. IsWhy (S.left source.old) (S.left source.new) why) }
+    ensures failed { result ≡ Err NoScript.Failed → Rose (S.faults source.old) (S.faults source.new) }
+    ensures no_fault { (result ≡ Err NoScript.Failed → ⊥) → S.faults source.new ≡ S.faults source.old }
+    ensures never_falls { S.faults source.old ≤ S.faults source.new }
+{
+    match read_input(alloc, source) {
+        Ok(text) => script_of(alloc, text.as_slice()),
+        Err(ReadError::Failed) => Err(NoScript::Failed),
+        Err(ReadError::NoMemory) => Err(NoScript::NoMemory),
+    }
+}
