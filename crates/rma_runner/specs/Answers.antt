@@ -1,5 +1,5 @@
 -- What the top calls answer. A source and a sink tell their bytes or not: left and written are Options.
-use Rattle.std.specs.Prelude.{ℕ, ◌≡◌, ◌⊎◌, List, [], length, Option, Some, None}
+use Rattle.std.specs.Prelude.{ℕ, ◌≡◌, ◌≤◌, ◌⊎◌, List, [], length, Option, Some, None}
 use Rattle.rma_types.specs.declared.scripts.Script.{Script}
 use Rattle.rma_record.specs.declared.runs.Run.{Run}
 use Rattle.rma_model.specs.declared.modes.Mode.TheVariants.{Step}
@@ -8,7 +8,8 @@ use Rattle.rma_model.specs.Report.{report}
 use Rattle.rma_model.specs.Status.{status}
 use Rattle.rma_model.specs.StepRun.{step_run}
 use Rattle.rma_streams.specs.Moves.{Took, AtEnd, Wrote, WrotePrefix}
-use Rattle.rank_script.specs.Accepting.{IsTextOf}
+use Rattle.rank_script.specs.Accepting.{IsTextOf, word_fault}
+use Rattle.rma_runner.specs.Lines.{fault_line}
 use Rattle.rma_runner.specs.declared.options.Options.{Options}
 
 -- the bytes that were taken: the whole input, or as many as are taken of a longer one
@@ -56,3 +57,20 @@ pub record ReportedInPart (options : Options) (left_before left_after written_be
   pub is_run : IsRunOf options script run
   pub handed_back : handed ≡ Some run
   pub text : WrotePrefix written_before (report_on script run) written_after
+
+-- the bytes taken read as no script, and the line of the refused script was written
+pub record Refused (left_before left_after written_before written_after : Option (List ℕ)) (handed : Option Run) : Type 0 where
+  pub reads : ReadsAsNone left_before left_after
+  pub none : handed ≡ None
+  pub text : Wrote written_before (fault_line word_fault) written_after
+
+-- the same, and a front of the line was written
+pub record RefusedInPart (left_before left_after written_before written_after : Option (List ℕ)) (handed : Option Run) : Type 0 where
+  pub reads : ReadsAsNone left_before left_after
+  pub none : handed ≡ None
+  pub text : WrotePrefix written_before (fault_line word_fault) written_after
+
+-- no script has the text, which is no longer than what is read of an input
+pub record IsNoText (text : List ℕ) : Type 0 where
+  pub short : length text ≤ 1048577
+  pub none : (script : Script) → IsTextOf text script → ⊥

@@ -3,4 +3,5 @@ pub mod Answers
 pub mod Inputs
 pub mod Lines
 pub mod Outputs
+pub mod Statuses
 pub mod Tops

@@ -2,11 +2,13 @@
 use Rattle.std.specs.Prelude.{ℕ, ◌≡◌, ◌⊎◌, List, [], Option, Some, None}
 use Rattle.rma_types.specs.declared.scripts.Script.{Script}
 use Rattle.rma_record.specs.declared.runs.Run.{Run}
-use Rattle.rma_model.specs.Status.{status, words_refused, script_refused, write_failed, out_of_memory}
+use Rattle.rma_model.specs.Status.{status, words_refused, script_refused, read_failed, write_failed, out_of_memory}
 use Rattle.rma_streams.specs.Moves.{Wrote, WrotePrefix}
 use Rattle.rank_script.specs.declared.faults.Fault.{Fault}
-use Rattle.rma_runner.specs.Answers.{report_on}
+use Rattle.rank_script.specs.Accepting.{word_fault}
+use Rattle.rma_runner.specs.Answers.{IsRunOf, ReadsAs, ReadsAsNone, report_on}
 use Rattle.rma_runner.specs.Lines.{fault_line, usage_line}
+use Rattle.rma_runner.specs.declared.options.Options.{Options}
 use Rattle.rma_runner.specs.declared.outcomes.Outcome.{Outcome}
 
 -- the whole text was written and the status is the one of that; or a write failed; or there was no memory for the text
@@ -24,3 +26,17 @@ EndsFault fault before after outcome = Ends script_refused None (fault_line faul
 
 abbrev pub EndsUsage : Option (List ℕ) → Option (List ℕ) → Outcome → Type 0
 EndsUsage before after outcome = Ends words_refused None usage_line before after outcome
+
+-- a script's run was found, which is lawful, and its report was to be written; or there was no memory for the run
+abbrev pub EndsScript : Options → Script → Option (List ℕ) → Option (List ℕ) → Outcome → Type 0
+EndsScript options script before after outcome =
+    ((run : Run) × IsRunOf options script run × EndsRun script run before after outcome)
+    ⊎ ((outcome ≡ record { status = out_of_memory; run = None }) × (after ≡ before))
+
+-- the input was read as a script, which was run; or read as none; or a read failed; or there was no memory for the script
+abbrev pub StepEnds : Options → Option (List ℕ) → Option (List ℕ) → Option (List ℕ) → Option (List ℕ) → Outcome → Type 0
+StepEnds options left_before left_after before after outcome =
+    ((script : Script) × ReadsAs left_before left_after script × EndsScript options script before after outcome)
+    ⊎ (((fault : Fault) × (fault ≡ word_fault) × ReadsAsNone left_before left_after × EndsFault fault before after outcome)
+    ⊎ (((outcome ≡ record { status = read_failed; run = None }) × (after ≡ before))
+    ⊎ ((outcome ≡ record { status = out_of_memory; run = None }) × (after ≡ before))))

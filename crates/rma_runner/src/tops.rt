@@ -1,18 +1,27 @@
 //! The top calls.
-ghost use Rattle.std.specs.Prelude.{◌≡◌, ◌≢◌, ◌≤◌};
+ghost use Rattle.std.specs.Prelude.{◌≡◌, ◌≢◌, ◌≤◌, ◌<◌, ◌-◌, ◌^◌, ◌⊎◌, ℕ, List, [], None, Some, IfSome};
+ghost use Rattle.rma_types.specs.declared.schedules.Delay.TheVariants.{None as NoDelay};
+ghost use Rattle.rma_types.specs.declared.schedules.Order.TheVariants.{Robin};
 ghost use Rattle.rma_streams.specs.Faults.{Rose};
 ghost use Rattle.rma_model.specs.BuiltForm.{IsBuilt};
 ghost use Rattle.rma_model.specs.Orderly.{HasOrderlyLogs};
-ghost use Rattle.rma_runner.specs.Tops.{EndsRun, EndsFault};
+ghost use Rattle.rma_runner.specs.Tops.{EndsRun, EndsFault, EndsScript, EndsUsage, StepEnds};
+ghost use Rattle.rma_runner.specs.Statuses.{IsStepStatus, IsRunStatus};
+ghost use Rattle.rma_model.specs.declared.modes.Mode.TheVariants.{Step as StepMode};
+ghost use Rattle.rma_model.specs.Status.{status as status_of_run};
+ghost use Rattle.rank_script.specs.Accepting.{IsTextOf};
+ghost use Rattle.rma_runner.specs.Answers.{Reported, ReportedInPart, Refused, RefusedInPart, IsNoText};
+ghost use Rattle.rma_runner.specs.Lines.{usage_line};
 
-use crate::outcomes::{
-    OUT_OF_MEMORY, Outcome, SCRIPT_REFUSED, WRITE_FAILED,
-};
+use crate::inputs::{NoScript, read_script};
+use crate::options::Options;
+use crate::outcomes::{OUT_OF_MEMORY, Outcome, READ_FAILED, SCRIPT_REFUSED, WRITE_FAILED};
 use crate::outputs::{NoText, write_fault, write_report};
+use rank_engine::run_steps;
 use rank_script::Fault;
 use rma_record::Run;
-use rma_streams::Sink;
-use rma_types::Script;
+use rma_streams::{Sink, Source};
+use rma_types::{NoMemory, Script};
 use run_report::status_of;
 use std::alloc::Global;
 
@@ -49,5 +58,51 @@ fn report_run<K: Sink>(alloc: Global, script: &Script, run: Run, sink: &mut K) -
             run: Some(run),
         },
         Err(NoText::NoMemory) => Outcome::without_run(OUT_OF_MEMORY),
+    }
+}
+
+/// Runs a script by the options, and reports on the run.
+fn run_script<K: Sink>(
+    alloc: Global,
+    options: &Options,
+    script: &Script,
+    sink: &mut K,
+) -> Outcome
+    requires built { IsBuilt script.now }
+    requires robin { options.now.order ≡ Robin }
+    requires none { options.now.delay ≡ NoDelay }
+    ensures ends { EndsScript options.now script.now (K.written sink.old) (K.written sink.new) result }
+    ensures failed { result.status ≡ WRITE_FAILED → Rose (K.faults sink.old) (K.faults sink.new) }
+    ensures no_fault { result.status ≢ WRITE_FAILED → K.faults sink.new ≡ K.faults sink.old }
+    ensures never_falls { K.faults sink.old ≤ K.faults sink.new }
+{
+    match run_steps(alloc, script, options.order, options.delay, options.seed) {
+        Ok(run) => report_run(alloc, script, run, sink),
+        Err(NoMemory) => Outcome::without_run(OUT_OF_MEMORY),
+    }
+}
+
+/// Reads a script from a source, runs it, and reports on the run.
+fn answer<S: Source, K: Sink>(
+    alloc: Global,
+    options: &Options,
+    source: &mut S,
+    sink: &mut K,
+) -> Outcome
+    requires robin { options.now.order ≡ Robin }
+    requires none { options.now.delay ≡ NoDelay }
+    ensures ends { StepEnds options.now (S.left source.old) (S.left source.new) (K.written sink.old) (K.written sink.new) result }
+    ensures read_failed { result.status ≡ READ_FAILED → Rose (S.faults source.old) (S.faults source.new) }
+    ensures no_read_fault { result.status ≢ READ_FAILED → S.faults source.new ≡ S.faults source.old }
+    ensures write_failed { result.status ≡ WRITE_FAILED → Rose (K.faults sink.old) (K.faults sink.new) }
+    ensures no_write_fault { result.status ≢ WRITE_FAILED → K.faults sink.new ≡ K.faults sink.old }
+    ensures source_count { S.faults source.old ≤ S.faults source.new }
+    ensures sink_count { K.faults sink.old ≤ K.faults sink.new }
+{
+    match read_script(alloc, source) {
+        Ok(script) => run_script(alloc, options, &script, sink),
+        Err(NoScript::Refused(fault)) => refuse_script(alloc, fault, sink),
+        Err(NoScript::Failed) => Outcome::without_run(READ_FAILED),
+        Err(NoScript::NoMemory) => Outcome::without_run(OUT_OF_MEMORY),
     }
 }
