@@ -10,6 +10,7 @@ ghost use Rattle.rma_runner.specs.Statuses.{IsStepStatus, IsRunStatus};
 ghost use Rattle.rma_model.specs.declared.modes.Mode.TheVariants.{Step as StepMode};
 ghost use Rattle.rma_model.specs.Status.{status as status_of_run};
 ghost use Rattle.rank_script.specs.Accepting.{IsTextOf};
+ghost use Rattle.rma_types.specs.declared.scripts.Script.{Script as ScriptValue};
 ghost use Rattle.rma_runner.specs.Answers.{Reported, ReportedInPart, Refused, RefusedInPart, IsNoText};
 ghost use Rattle.rma_runner.specs.Lines.{usage_line};
 
@@ -105,4 +106,56 @@ fn answer<S: Source, K: Sink>(
         Err(NoScript::Failed) => Outcome::without_run(READ_FAILED),
         Err(NoScript::NoMemory) => Outcome::without_run(OUT_OF_MEMORY),
     }
+}
+
+/// Reads a script from a source, runs it on one thread, and writes the report on the run to a sink.
+///
+/// It waits for nobody and returns. The status is that of the run, or 3 where the script is refused, 4 where a read
+/// failed, 5 where a write failed and 6 where memory ran out. The rules of the run are those of MPI 3.1, sections 11.2
+/// to 11.7, in this project's profile.
+pub fn step_main<S: Source, K: Sink>(
+    alloc: Global,
+    options: &Options,
+    source: &mut S,
+    sink: &mut K,
+) -> Outcome
+    requires step { options.now.mode ≡ StepMode }
+    requires robin { options.now.order ≡ Robin }
+    requires none { options.now.delay ≡ NoDelay }
+    requires source_count { S.faults source.old < 2 ^ 64 - 1 }
+    requires sink_count { K.faults sink.old < 2 ^ 64 - 1 }
+
+    // The whole input reads as a script; its run on one thread is handed back, which is lawful, and its report was written.
+    ensures reported { IsRunStatus result.status
+        → Reported options.now (S.left source.old) (S.left source.new) (K.written sink.old) (K.written sink.new) result.status result.run }
+    // A run is handed back only with its own status, or where a write failed.
+    ensures handed { IfSome result.run (λ run. (result.status ≡ status_of_run run []) ⊎ (result.status ≡ WRITE_FAILED)) }
+
+    // The bytes taken read as no script.
+    ensures refused { result.status ≡ SCRIPT_REFUSED
+        → Refused (S.left source.old) (S.left source.new) (K.written sink.old) (K.written sink.new) result.run }
+    // A read failed, and nothing was written.
+    ensures unread { result.status ≡ READ_FAILED → (K.written sink.new ≡ K.written sink.old) × (result.run ≡ None) }
+    // A write failed, after a front of the text.
+    ensures cut { result.status ≡ WRITE_FAILED
+        → ReportedInPart options.now (S.left source.old) (S.left source.new) (K.written sink.old) (K.written sink.new) result.run
+        ⊎ RefusedInPart (S.left source.old) (S.left source.new) (K.written sink.old) (K.written sink.new) result.run }
+    ensures no_memory { result.status ≡ OUT_OF_MEMORY → (K.written sink.new ≡ K.written sink.old) × (result.run ≡ None) }
+    ensures statuses { IsStepStatus result.status }
+
+    // The counts of faults rise exactly where the status says so.
+    ensures read_fault { result.status ≡ READ_FAILED → S.faults source.old < S.faults source.new }
+    ensures no_read_fault { result.status ≢ READ_FAILED → S.faults source.new ≡ S.faults source.old }
+    ensures write_fault { result.status ≡ WRITE_FAILED → K.faults sink.old < K.faults sink.new }
+    ensures no_write_fault { result.status ≢ WRITE_FAILED → K.faults sink.new ≡ K.faults sink.old }
+
+    // Without faults a script's text is reported on, and any other is refused, unless memory runs out.
+    ensures complete { (text : List ℕ) (script : ScriptValue) → IsTextOf text script → S.left source.old ≡ Some text
+        → S.faults source.new ≡ S.faults source.old → K.faults sink.new ≡ K.faults sink.old
+        → IsRunStatus result.status ⊎ (result.status ≡ OUT_OF_MEMORY) }
+    ensures refuses { (text : List ℕ) → IsNoText text → S.left source.old ≡ Some text
+        → S.faults source.new ≡ S.faults source.old → K.faults sink.new ≡ K.faults sink.old
+        → (result.status ≡ SCRIPT_REFUSED) ⊎ (result.status ≡ OUT_OF_MEMORY) }
+{
+    answer(alloc, options, source, sink)
 }

@@ -1,0 +1,2 @@
+-- What follows from how the top call ends.
+pub mod Ending
