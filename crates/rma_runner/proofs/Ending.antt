@@ -1,9 +1,8 @@
 -- What follows from how the call ends that reads a script and runs it.
-use Rattle.std.proofs.Common.{◌≡◌, ◌≢◌, ℕ, ◌+◌, ◌<◌, ◌≤◌, ◌⊎◌, inl, inr, Bool, true, false, cond, not, List, [], ◌∷◌, ◌++◌, length, Option, Some, None, refl, sym, ◌∙◌, ap, subst, arith}
+use Rattle.std.proofs.Common.{◌≡◌, ℕ, ◌<◌, ◌≤◌, ◌⊎◌, inl, inr, Bool, true, false, cond, not, List, [], ◌∷◌, ◌++◌, length, Option, Some, None, refl, sym, ◌∙◌, ap, subst, arith}
 use Rattle.std.specs.Prelude.{IfSome, ◌||◌, nat_lt, ◌-◌, ◌^◌}
 use Rattle.std.proofs.Common.{length-append}
 use Rattle.std.specs.List.{list_any}
-use Rattle.std.specs.Option.{option_map}
 use Rattle.std.proofs.lemmas.List.{append-nil}
 use Rattle.rma_types.specs.declared.scripts.Script.{Script}
 use Rattle.rma_record.specs.declared.runs.Run.{Run}
@@ -18,7 +17,7 @@ use Rattle.rma_runner.specs.declared.outcomes.Outcome.{Outcome}
 use Rattle.rma_runner.specs.Answers.{IsInput, ReadsAs, ReadsAsNone, IsRunOf, Reported, ReportedInPart, Refused, RefusedInPart, IsNoText, report_on}
 use Rattle.rma_runner.specs.Lines.{fault_line}
 use Rattle.rma_runner.specs.Statuses.{IsRunStatus, IsStepStatus}
-use Rattle.rma_runner.specs.Tops.{Ends, EndsRun, EndsFault, EndsScript, StepEnds}
+use Rattle.rma_runner.specs.Tops.{EndsFault, EndsScript, StepEnds}
 
 -- the status of a run is 0, 1 or 7
 status_by : (ended bad : Bool) → IsRunStatus (cond (not ended) 7 (cond bad 1 0))
@@ -52,13 +51,13 @@ is_not_6 code is e = apart code 6 is e (λ h. omega arith) (λ h. omega arith) (
 -- a report was written whole; in part; a refusal was written whole; in part; a read failed; memory ran out
 pub data Case (options : Options) (left_before left_after before after : Option (List ℕ)) (outcome : Outcome) : Type 0 where
   Whole : (script : Script) (run : Run) → ReadsAs left_before left_after script → IsRunOf options script run → outcome ≡ record { status = status run []; run = Some run } →
-    Wrote before (report_on script run) after → Case options left_before left_after before after outcome
+      Wrote before (report_on script run) after → Case options left_before left_after before after outcome
   Part : (script : Script) (run : Run) → ReadsAs left_before left_after script → IsRunOf options script run → outcome ≡ record { status = 5; run = Some run } →
-    WrotePrefix before (report_on script run) after → Case options left_before left_after before after outcome
+      WrotePrefix before (report_on script run) after → Case options left_before left_after before after outcome
   NoScript : ReadsAsNone left_before left_after → outcome ≡ record { status = 3; run = None } → Wrote before (fault_line word_fault) after →
-    Case options left_before left_after before after outcome
+      Case options left_before left_after before after outcome
   NoScriptPart : ReadsAsNone left_before left_after → outcome ≡ record { status = 5; run = None } → WrotePrefix before (fault_line word_fault) after →
-    Case options left_before left_after before after outcome
+      Case options left_before left_after before after outcome
   NotRead : outcome ≡ record { status = 4; run = None } → after ≡ before → Case options left_before left_after before after outcome
   NoRoom : outcome ≡ record { status = 6; run = None } → after ≡ before → Case options left_before left_after before after outcome
 
@@ -86,7 +85,14 @@ case_of options lb la before after outcome (inr (inr (inr room))) = NoRoom room.
 pub reported : (options : Options) (lb la before after : Option (List ℕ)) (outcome : Outcome) → Case options lb la before after outcome → IsRunStatus outcome.status →
     Reported options lb la before after outcome.status outcome.run
 reported options lb la before after outcome (Whole script run reads is e text) code = record {
-  script = script; run = run; reads = reads; is_run = is; handed_back = ap (λ (o : Outcome). o.run) e; text = text; status_is = ap (λ (o : Outcome). o.status) e }
+  script = script;
+  run = run;
+  reads = reads;
+  is_run = is;
+  handed_back = ap (λ (o : Outcome). o.run) e;
+  text = text;
+  status_is = ap (λ (o : Outcome). o.status) e;
+}
 reported options lb la before after outcome (Part script run reads is e text) code = absurd (is_not_5 outcome.status code (ap (λ (o : Outcome). o.status) e))
 reported options lb la before after outcome (NoScript none e text) code = absurd (is_not_3 outcome.status code (ap (λ (o : Outcome). o.status) e))
 reported options lb la before after outcome (NoScriptPart none e text) code = absurd (is_not_5 outcome.status code (ap (λ (o : Outcome). o.status) e))
@@ -160,16 +166,19 @@ all_taken : (text bytes : List ℕ) (after : Option (List ℕ)) → Took (Some t
 all_taken text bytes None took whole short = absurd (cc took)
 all_taken text bytes (Some rest) took whole short = both whole
   where
-  same : text ≡ bytes ++ rest
-  same = cc took
-  empty : (xs : List ℕ) → length xs ≡ 0 → xs ≡ []
-  empty [] e = refl
-  empty (x ∷ xs) e = absurd (omega arith)
-  ends : rest ≡ [] → bytes ≡ text
-  ends none = sym (same ∙ ap (λ xs. bytes ++ xs) none ∙ append-nil bytes)
-  both : AtEnd (Some rest) ⊎ (length bytes ≡ 1048577) → bytes ≡ text
-  both (inl none) = ends none
-  both (inr full) = ends (empty rest (omega (arith, ap length same, length-append bytes rest)))
+    same : text ≡ bytes ++ rest
+    same = cc took
+
+    empty : (xs : List ℕ) → length xs ≡ 0 → xs ≡ []
+    empty [] e = refl
+    empty (x ∷ xs) e = absurd (omega arith)
+
+    ends : rest ≡ [] → bytes ≡ text
+    ends none = sym (same ∙ ap (λ xs. bytes ++ xs) none ∙ append-nil bytes)
+
+    both : AtEnd (Some rest) ⊎ (length bytes ≡ 1048577) → bytes ≡ text
+    both (inl none) = ends none
+    both (inr full) = ends (empty rest (omega (arith, ap length same, length-append bytes rest)))
 
 input_is : (lb la : Option (List ℕ)) (bytes text : List ℕ) → lb ≡ Some text → length text ≤ 1048577 → IsInput lb la bytes → bytes ≡ text
 input_is lb la bytes text e short input = all_taken text bytes la (subst (λ o. Took o bytes la) e input.taken) input.whole short
@@ -183,8 +192,8 @@ complete options lb la before after outcome (NoScript none e t) text script is_t
     let bytes = input_is lb la none.bytes text told (short text script is_text) none.input in
     absurd (none.none script (subst (λ b. IsTextOf b script) (sym bytes) is_text))
   where
-  short : (text : List ℕ) (script : Script) → IsTextOf text script → length text ≤ 1048577
-  short text script is_text = let h = is_text.short in omega arith
+    short : (text : List ℕ) (script : Script) → IsTextOf text script → length text ≤ 1048577
+    short text script is_text = let h = is_text.short in omega arith
 complete options lb la before after outcome (NoScriptPart none e t) text script is_text told no4 no5 = absurd (no5 (ap (λ (o : Outcome). o.status) e))
 complete options lb la before after outcome (NotRead e same) text script is_text told no4 no5 = absurd (no4 (ap (λ (o : Outcome). o.status) e))
 complete options lb la before after outcome (NoRoom e same) text script is_text told no4 no5 = inr (ap (λ (o : Outcome). o.status) e)

@@ -1,7 +1,6 @@
 -- Why no script was read.
-use Rattle.std.specs.Prelude.{ℕ, ◌≡◌, List, [], length, Option}
+use Rattle.std.specs.Prelude.{ℕ, ◌≡◌, List, Option}
 use Rattle.rma_types.specs.declared.scripts.Script.{Script}
-use Rattle.rank_script.specs.declared.faults.Fault.{Fault}
 use Rattle.rank_script.specs.Accepting.{IsTextOf, word_fault}
 use Rattle.rma_runner.specs.Answers.{ReadsAsNone}
 use Rattle.rma_runner.specs.declared.inputs.NoScript.{NoScript}

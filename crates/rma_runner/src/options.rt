@@ -1,5 +1,5 @@
 //! What the program is told by its words.
-ghost use Rattle.std.specs.Prelude.{◌≡◌, [], IfOk, IfErr, ◌↔◌, IsOk};
+ghost use Rattle.std.specs.Prelude.{◌≡◌, ◌≢◌, [], IfOk, IfErr};
 
 use rma_model::Mode;
 use rma_types::{Delay, Order};
@@ -36,8 +36,7 @@ pub enum WordsFault {
 /// The options that the words of the command line stand for. By now only no words at all stand for options.
 pub fn read_words(words: &[String]) -> Result<Options, WordsFault>
     ensures ok { IfOk result (λ options. (words.now ≡ []) × (options ≡ DEFAULT_OPTIONS)) }
-    ensures refused { IfErr result (λ fault. fault ≡ WordsFault.Usage) }
-    ensures accepted { words.now ≡ [] → IsOk result }
+    ensures refused { IfErr result (λ fault. (fault ≡ WordsFault.Usage) × (words.now ≢ [])) }
 {
     if words.is_empty() {
         Ok(DEFAULT_OPTIONS)

@@ -3,8 +3,10 @@ ghost use Rattle.std.specs.Prelude.{◌≡◌, ◌≢◌, ◌≤◌, ◌<◌, �
 ghost use Rattle.rma_types.specs.declared.schedules.Delay.TheVariants.{None as NoDelay};
 ghost use Rattle.rma_types.specs.declared.schedules.Order.TheVariants.{Robin};
 ghost use Rattle.rma_streams.specs.Faults.{Rose};
+ghost use Rattle.rma_streams.specs.Moves.{Wrote, WrotePrefix};
 ghost use Rattle.rma_model.specs.BuiltForm.{IsBuilt};
 ghost use Rattle.rma_model.specs.Orderly.{HasOrderlyLogs};
+ghost use Rattle.rma_runner.specs.declared.options.TheConstants.{DEFAULT_OPTIONS};
 ghost use Rattle.rma_runner.specs.Tops.{EndsRun, EndsFault, EndsScript, EndsUsage, StepEnds};
 ghost use Rattle.rma_runner.specs.Statuses.{IsStepStatus, IsRunStatus};
 ghost use Rattle.rma_model.specs.declared.modes.Mode.TheVariants.{Step as StepMode};
@@ -15,14 +17,16 @@ ghost use Rattle.rma_runner.specs.Answers.{Reported, ReportedInPart, Refused, Re
 ghost use Rattle.rma_runner.specs.Lines.{usage_line};
 
 use crate::inputs::{NoScript, read_script};
-use crate::options::Options;
-use crate::outcomes::{OUT_OF_MEMORY, Outcome, READ_FAILED, SCRIPT_REFUSED, WRITE_FAILED};
-use crate::outputs::{NoText, write_fault, write_report};
+use crate::options::{Options, read_words};
+use crate::outcomes::{
+    OUT_OF_MEMORY, Outcome, READ_FAILED, SCRIPT_REFUSED, WORDS_REFUSED, WRITE_FAILED,
+};
+use crate::outputs::{NoText, write_fault, write_report, write_usage};
 use rank_engine::run_steps;
 use rank_script::Fault;
 use rma_record::Run;
 use rma_streams::{Sink, Source};
-use rma_types::{NoMemory, Script};
+use rma_types::{Gate, NoMemory, Script};
 use run_report::status_of;
 use std::alloc::Global;
 
@@ -63,12 +67,7 @@ fn report_run<K: Sink>(alloc: Global, script: &Script, run: Run, sink: &mut K) -
 }
 
 /// Runs a script by the options, and reports on the run.
-fn run_script<K: Sink>(
-    alloc: Global,
-    options: &Options,
-    script: &Script,
-    sink: &mut K,
-) -> Outcome
+fn run_script<K: Sink>(alloc: Global, options: &Options, script: &Script, sink: &mut K) -> Outcome
     requires built { IsBuilt script.now }
     requires robin { options.now.order ≡ Robin }
     requires none { options.now.delay ≡ NoDelay }
@@ -158,4 +157,77 @@ pub fn step_main<S: Source, K: Sink>(
         → (result.status ≡ SCRIPT_REFUSED) ⊎ (result.status ≡ OUT_OF_MEMORY) }
 {
     answer(alloc, options, source, sink)
+}
+
+/// Writes the line of words that are refused.
+pub fn refuse_words<K: Sink>(sink: &mut K) -> Outcome
+    ensures ends { EndsUsage (K.written sink.old) (K.written sink.new) result }
+    ensures failed { result.status ≡ WRITE_FAILED → Rose (K.faults sink.old) (K.faults sink.new) }
+    ensures no_fault { result.status ≢ WRITE_FAILED → K.faults sink.new ≡ K.faults sink.old }
+{
+    match write_usage(sink) {
+        Ok(()) => Outcome::without_run(WORDS_REFUSED),
+        Err(NoText::Failed) => Outcome::without_run(WRITE_FAILED),
+        Err(NoText::NoMemory) => Outcome::without_run(OUT_OF_MEMORY),
+    }
+}
+
+/// The program: runs the script of a source by the words of the command line, and writes to a sink.
+///
+/// By now the list of words must be empty, and the gate is not passed: the script is run on one thread. The status is
+/// 2 where the words are refused, and then the source is untouched; else it is that of `step_main`.
+pub fn rma_main<S: Source, K: Sink, G: Gate>(
+    alloc: Global,
+    words: &[String],
+    source: &mut S,
+    sink: &mut K,
+    _gate: &G,
+) -> Outcome
+    requires source_count { S.faults source.old < 2 ^ 64 - 1 }
+    requires sink_count { K.faults sink.old < 2 ^ 64 - 1 }
+
+    // The whole input reads as a script; its run on one thread is handed back, which is lawful, and its report was written.
+    ensures reported { IsRunStatus result.status
+        → Reported DEFAULT_OPTIONS (S.left source.old) (S.left source.new) (K.written sink.old) (K.written sink.new) result.status result.run }
+    // A run is handed back only with its own status, or where a write failed.
+    ensures handed { IfSome result.run (λ run. (result.status ≡ status_of_run run []) ⊎ (result.status ≡ WRITE_FAILED)) }
+
+    // The words are refused, and their line was written.
+    ensures usage { result.status ≡ WORDS_REFUSED
+        → (words.now ≢ []) × Wrote (K.written sink.old) usage_line (K.written sink.new) × (result.run ≡ None) }
+    ensures untouched { words.now ≢ [] → (S.left source.new ≡ S.left source.old) × (S.faults source.new ≡ S.faults source.old) }
+    ensures words_refused { words.now ≢ []
+        → (result.status ≡ WORDS_REFUSED) ⊎ ((result.status ≡ WRITE_FAILED) ⊎ (result.status ≡ OUT_OF_MEMORY)) }
+    ensures words_accepted { words.now ≡ [] → IsStepStatus result.status }
+
+    // The bytes taken read as no script.
+    ensures refused { result.status ≡ SCRIPT_REFUSED
+        → Refused (S.left source.old) (S.left source.new) (K.written sink.old) (K.written sink.new) result.run }
+    // A read failed, and nothing was written.
+    ensures unread { result.status ≡ READ_FAILED → (K.written sink.new ≡ K.written sink.old) × (result.run ≡ None) }
+    // A write failed, after a front of the text.
+    ensures cut { result.status ≡ WRITE_FAILED
+        → (ReportedInPart DEFAULT_OPTIONS (S.left source.old) (S.left source.new) (K.written sink.old) (K.written sink.new) result.run
+        ⊎ RefusedInPart (S.left source.old) (S.left source.new) (K.written sink.old) (K.written sink.new) result.run)
+        ⊎ ((words.now ≢ []) × WrotePrefix (K.written sink.old) usage_line (K.written sink.new) × (result.run ≡ None)) }
+    ensures no_memory { result.status ≡ OUT_OF_MEMORY → (K.written sink.new ≡ K.written sink.old) × (result.run ≡ None) }
+
+    // The counts of faults rise exactly where the status says so.
+    ensures read_fault { result.status ≡ READ_FAILED → S.faults source.old < S.faults source.new }
+    ensures no_read_fault { result.status ≢ READ_FAILED → S.faults source.new ≡ S.faults source.old }
+    ensures write_fault { result.status ≡ WRITE_FAILED → K.faults sink.old < K.faults sink.new }
+    ensures no_write_fault { result.status ≢ WRITE_FAILED → K.faults sink.new ≡ K.faults sink.old }
+
+    // Without words and without faults a script's text is reported on, and any other is refused, unless memory runs out.
+    ensures complete { words.now ≡ [] → (text : List ℕ) (script : ScriptValue) → IsTextOf text script → S.left source.old ≡ Some text
+        → S.faults source.new ≡ S.faults source.old → K.faults sink.new ≡ K.faults sink.old
+        → IsRunStatus result.status ⊎ (result.status ≡ OUT_OF_MEMORY) }
+    ensures refuses { words.now ≡ [] → (text : List ℕ) → IsNoText text → S.left source.old ≡ Some text
+        → S.faults source.new ≡ S.faults source.old → K.faults sink.new ≡ K.faults sink.old
+        → (result.status ≡ SCRIPT_REFUSED) ⊎ (result.status ≡ OUT_OF_MEMORY) }
+{
+    match read_words(words) {
+        Ok(options) => step_main(alloc, &options, source, sink),
+        Err(_) => refuse_words(sink),
+    }
 }

@@ -1,5 +1,5 @@
 -- Each clause follows from how the call ends.
-use Rattle.std.proofs.Common.{◌≡◌, ℕ, ◌<◌, sym, subst, arith}
+use Rattle.std.proofs.Common.{◌≡◌, arith}
 use Rattle.rma_runner.proofs.Ending as ending
 use Rattle.rma_runner.proofs.tops.step_main.Goals as goal
 
@@ -27,6 +27,7 @@ returns g c =
       write_fault = write_fault;
       no_write_fault = c.answer.ensures.no_write_fault;
       complete = λ text script is told same_source same_sink. ending.complete options lb la before after outcome case text script is told
-        (λ e. let rise = read_fault e in omega arith) (λ e. let rise = write_fault e in omega arith);
+          (λ e. let rise = read_fault e in omega arith) (λ e. let rise = write_fault e in omega arith);
       refuses = λ text none told same_source same_sink. ending.refuses options lb la before after outcome case text none told
-        (λ e. let rise = read_fault e in omega arith) (λ e. let rise = write_fault e in omega arith) }
+          (λ e. let rise = read_fault e in omega arith) (λ e. let rise = write_fault e in omega arith);
+    }

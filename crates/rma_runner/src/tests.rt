@@ -1,0 +1,155 @@
+//! The program on whole inputs, over sources and sinks in memory.
+ghost use Rattle.std.specs.Prelude.{◌≡◌, ◌≤◌, IfOk};
+
+use crate::options::DEFAULT_OPTIONS;
+use crate::tops::{rma_main, step_main};
+use rma_streams::{MemorySink, MemorySource};
+use rma_types::OpenGate;
+use std::alloc::{AllocError, Global};
+use std::process::Abort;
+use std::test::*;
+
+const FENCED_PUT: &str =
+    "ranks 2\nrank 0\nallocate w0 4 4\nfence w0\nput w0 1 0 int32 5\nfence w0\nrank 1\nallocate w0 4 4\nfence w0\nfence w0\nload w0 0 int32 1\n";
+
+const FENCED_PUT_REPORT: &str =
+    "ended\n1:3 value 5\nmemory 1 0 0500000000000000\nsummary accesses 2 touches 2 entries 12 refused 0 findings 0\n";
+
+/// A source of a text, of at most so many bytes a read.
+fn source_of(
+    alloc: Global,
+    text: &str,
+    piece: usize,
+    failing: &[u64],
+) -> Result<MemorySource, AllocError>
+    requires { 1 ≤ piece }
+    ensures { IfOk result (λ source. source.plan.faults ≡ 0) }
+{
+    let bytes = Vec::from_slice(alloc, text.as_bytes())?;
+    let failing = Vec::from_slice(alloc, failing)?;
+    Ok(MemorySource::new(bytes, piece, failing))
+}
+
+/// A sink of at most so many bytes a write.
+fn sink_of(alloc: Global, piece: usize, failing: &[u64]) -> Result<MemorySink, AllocError>
+    requires { 1 ≤ piece }
+    ensures { IfOk result (λ sink. sink.plan.faults ≡ 0) }
+{
+    let failing = Vec::from_slice(alloc, failing)?;
+    MemorySink::with_room(alloc, 4096, piece, failing)
+}
+
+/// Runs the program on a text, and compares what it wrote and its status.
+fn gives(
+    rt: &impl Abort,
+    alloc: Global,
+    text: &str,
+    status: u8,
+    written: &str,
+) -> Result<(), AllocError> {
+    let mut source = source_of(alloc, text, 4096, &[])?;
+    let mut sink = sink_of(alloc, 4096, &[])?;
+    let outcome = rma_main(alloc, &[], &mut source, &mut sink, &OpenGate);
+    assert_eq!(rt; outcome.status, status);
+    assert_eq!(rt; sink.bytes(), written.as_bytes());
+    Ok(())
+}
+
+#[test]
+fn reports_on_scripts(rt: HostRuntime) -> Result<(), Fail> {
+    let alloc = rt.alloc();
+    gives(&rt, alloc, FENCED_PUT, 0, FENCED_PUT_REPORT)?;
+    gives(
+        &rt,
+        alloc,
+        "ranks 1\n",
+        0,
+        "ended\nsummary accesses 0 touches 0 entries 0 refused 0 findings 0\n",
+    )?;
+    gives(
+        &rt,
+        alloc,
+        "ranks 1\nrank 0\nallocate w0 4 4\nput w0 0 0 int32 1\nfence w0\n",
+        1,
+        "ended\n0:1 refused MPI_ERR_RMA_SYNC\nsummary accesses 0 touches 0 entries 4 refused 1 findings 0\n",
+    )?;
+    gives(
+        &rt,
+        alloc,
+        "ranks 1\nrank 0\nallocate w0 16 4\nfence w0\nput w0 0 3 int32 9\nput w0 0 4 int32 9\nfence w0\n",
+        1,
+        "ended\n0:3 refused MPI_ERR_RMA_RANGE\nmemory 0 0 00000000000000000000000009000000\nsummary accesses 1 touches 1 entries 6 refused 1 findings 0\n",
+    )?;
+    Ok(())
+}
+
+#[test]
+fn refuses_other_texts(rt: HostRuntime) -> Result<(), Fail> {
+    let alloc = rt.alloc();
+    for text in [
+        "",
+        "ranks 17\n",
+        "ranks 1",
+        "ranks  1\n",
+        "ranks 1\nrank 0\n",
+        "ranks 1\nrank 0\nallocate w0 4 4\nput w0 0 0 int32 01\n",
+        "r\u{e4}nks 1\n",
+    ] {
+        gives(&rt, alloc, text, 3, "script 0 word\n")?;
+    }
+    Ok(())
+}
+
+#[test]
+fn takes_bytes_one_by_one(rt: HostRuntime) -> Result<(), Fail> {
+    let alloc = rt.alloc();
+    let mut source = source_of(alloc, FENCED_PUT, 1, &[])?;
+    let mut sink = sink_of(alloc, 1, &[])?;
+    let outcome = step_main(alloc, &DEFAULT_OPTIONS, &mut source, &mut sink);
+    assert_eq!(rt; outcome.status, 0);
+    assert_eq!(rt; sink.bytes(), FENCED_PUT_REPORT.as_bytes());
+    assert!(rt; outcome.run.is_some());
+    Ok(())
+}
+
+#[test]
+fn fails_where_a_read_fails(rt: HostRuntime) -> Result<(), Fail> {
+    let alloc = rt.alloc();
+    for number in 1..10u64 {
+        let mut source = source_of(alloc, FENCED_PUT, 16, &[number])?;
+        let mut sink = sink_of(alloc, 4096, &[])?;
+        let outcome = rma_main(alloc, &[], &mut source, &mut sink, &OpenGate);
+        assert_eq!(rt; outcome.status, 4);
+        assert!(rt; sink.bytes().is_empty());
+        assert!(rt; outcome.run.is_none());
+    }
+    Ok(())
+}
+
+#[test]
+fn fails_where_a_write_fails(rt: HostRuntime) -> Result<(), Fail> {
+    let alloc = rt.alloc();
+    for number in 1..15u64 {
+        let mut source = source_of(alloc, FENCED_PUT, 16, &[])?;
+        let mut sink = sink_of(alloc, 8, &[number])?;
+        let outcome = rma_main(alloc, &[], &mut source, &mut sink, &OpenGate);
+        assert_eq!(rt; outcome.status, 5);
+        let whole = FENCED_PUT_REPORT.as_bytes();
+        assert_eq!(rt; sink.bytes(), &whole[..8 * (number as usize - 1)]);
+        assert!(rt; outcome.run.is_some());
+    }
+    Ok(())
+}
+
+#[test]
+fn refuses_words(rt: HostRuntime) -> Result<(), Fail> {
+    let alloc = rt.alloc();
+    let words = vec![in alloc; String::from_str(alloc, "--mode=step")?]?;
+    let mut source = source_of(alloc, FENCED_PUT, 16, &[])?;
+    let mut sink = sink_of(alloc, 4096, &[])?;
+    let outcome = rma_main(alloc, words.as_slice(), &mut source, &mut sink, &OpenGate);
+    assert_eq!(rt; outcome.status, 2);
+    let usage = "usage: rma_runner [--mode M] [--order O] [--workers N] [--delay D] [--seed S]\n";
+    assert_eq!(rt; sink.bytes(), usage.as_bytes());
+    Ok(())
+}
