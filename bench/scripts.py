@@ -5,7 +5,7 @@
     scripts.py wide PUTS        16 ranks, PUTS puts of 256 values between two fences
 
 A script has at most 1,048,576 bytes, and the shortest put of one value takes 19 of them. So `ones` keeps numbers to
-one digit and makes one call of seven a fence: 60,000 calls then are 1,044,000 bytes. `wide` has room for 1,900 puts.
+one digit and makes one call of seven a fence: `ones 60000` then has 1,045,039 bytes. `wide` has room for 1,900 puts.
 """
 import sys
 
