@@ -9,6 +9,7 @@ use Rattle.rma_types.specs.declared.calls.Call.TheVariants.{Allocate, Create, Dy
 use Rattle.rma_types.specs.declared.calls.Flavor.{Flavor}
 use Rattle.rma_types.specs.declared.calls.Flavor.TheVariants.{Allocate as AllocateFlavor, Create as CreateFlavor, Dynamic as DynamicFlavor}
 use Rattle.rma_types.specs.declared.calls.Lock.{Lock}
+use Rattle.rma_types.specs.declared.calls.Lock.TheVariants.{Shared}
 use Rattle.rma_types.specs.declared.dtypes.Dtype.{Dtype}
 use Rattle.rma_types.specs.declared.ops.Op.{Op}
 use Rattle.rma_types.specs.declared.ops.Op.TheVariants.{Replace, NoOp}
@@ -47,19 +48,17 @@ pub record Creation : Type 0 where
   pub bytes : ℤ
   pub unit : ℤ
 
--- A call that opens or closes an epoch, or completes accesses within one (11.5). Waits and Tests are wait and testwin. A
--- flush of no target is flush_all; a local one completes at the origin alone.
+-- A call that opens or closes an epoch, or completes accesses within one (11.5). A wait that tests is testwin. A lock, an
+-- unlock and a flush of no target are those of all ranks; lock_all is a shared lock. A local flush completes at the origin
+-- alone.
 pub data Synchronisation : Type 0 where
   Fences : Asserts → Synchronisation
   Posts : List ℤ → Asserts → Synchronisation
   Starts : List ℤ → Asserts → Synchronisation
   Completes : Synchronisation
-  Waits : Synchronisation
-  Tests : Synchronisation
-  Locks : Lock → ℤ → Asserts → Synchronisation
-  Unlocks : ℤ → Synchronisation
-  LocksAll : Asserts → Synchronisation
-  UnlocksAll : Synchronisation
+  Waits : (tests : Bool) → Synchronisation
+  Locks : Lock → Option ℤ → Asserts → Synchronisation
+  Unlocks : Option ℤ → Synchronisation
   Flushes : Option ℤ → (local : Bool) → Synchronisation
   Syncs : Synchronisation
 
@@ -158,12 +157,12 @@ action_of (Fence win asserts) = Synchronises win (Fences asserts)
 action_of (Post win group asserts) = Synchronises win (Posts group asserts)
 action_of (Start win group asserts) = Synchronises win (Starts group asserts)
 action_of (Complete win) = Synchronises win Completes
-action_of (WaitWin win) = Synchronises win Waits
-action_of (TestWin win) = Synchronises win Tests
-action_of (LockOne win kind target asserts) = Synchronises win (Locks kind target asserts)
-action_of (Unlock win target) = Synchronises win (Unlocks target)
-action_of (LockAll win asserts) = Synchronises win (LocksAll asserts)
-action_of (UnlockAll win) = Synchronises win UnlocksAll
+action_of (WaitWin win) = Synchronises win (Waits false)
+action_of (TestWin win) = Synchronises win (Waits true)
+action_of (LockOne win kind target asserts) = Synchronises win (Locks kind (Some target) asserts)
+action_of (Unlock win target) = Synchronises win (Unlocks (Some target))
+action_of (LockAll win asserts) = Synchronises win (Locks Shared None asserts)
+action_of (UnlockAll win) = Synchronises win (Unlocks None)
 action_of (Flush win target) = Synchronises win (Flushes (Some target) false)
 action_of (FlushAll win) = Synchronises win (Flushes None false)
 action_of (FlushLocal win target) = Synchronises win (Flushes (Some target) true)

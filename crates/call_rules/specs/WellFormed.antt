@@ -3,7 +3,7 @@ use Rattle.std.specs.Prelude.{ℕ, ◌≡◌, ◌<◌, ◌≤◌, List, length, 
 use Rattle.std.specs.List.{AllByRecursion}
 use Rattle.rma_types.specs.declared.calls.Call.{Call}
 use Rattle.rma_types.specs.declared.scripts.Script.{Script}
-use Rattle.call_rules.specs.Actions.{Action, Creates, Frees, Attaches, Detaches, Synchronises, Meets, Moves, EndsRequest, Creation, Synchronisation, Fences, Posts, Starts, Completes, Waits, Tests, Locks, Unlocks, LocksAll, UnlocksAll, Flushes, Syncs, Transfer, Target, Own, Null, Named, action_of}
+use Rattle.call_rules.specs.Actions.{Action, Creates, Frees, Attaches, Detaches, Synchronises, Meets, Moves, EndsRequest, Creation, Synchronisation, Fences, Posts, Starts, Completes, Waits, Locks, Unlocks, Flushes, Syncs, Transfer, Target, Own, Null, Named, action_of}
 use Rattle.call_rules.specs.Layout.{IsWithinLimits}
 use Rattle.call_rules.specs.Numbers.{patterns_of}
 
@@ -55,12 +55,9 @@ IsWrittenSynchronisation (Fences asserts) = Unit {0}
 IsWrittenSynchronisation (Posts group asserts) = IsWrittenGroup group
 IsWrittenSynchronisation (Starts group asserts) = IsWrittenGroup group
 IsWrittenSynchronisation Completes = Unit {0}
-IsWrittenSynchronisation Waits = Unit {0}
-IsWrittenSynchronisation Tests = Unit {0}
-IsWrittenSynchronisation (Locks kind target asserts) = IsNumber target
-IsWrittenSynchronisation (Unlocks target) = IsNumber target
-IsWrittenSynchronisation (LocksAll asserts) = Unit {0}
-IsWrittenSynchronisation UnlocksAll = Unit {0}
+IsWrittenSynchronisation (Waits tests) = Unit {0}
+IsWrittenSynchronisation (Locks kind target asserts) = IfSome target IsNumber
+IsWrittenSynchronisation (Unlocks target) = IfSome target IsNumber
 IsWrittenSynchronisation (Flushes target local) = IfSome target IsNumber
 IsWrittenSynchronisation Syncs = Unit {0}
 
