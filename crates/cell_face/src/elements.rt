@@ -64,7 +64,11 @@ fn number(dtype: Dtype, pattern: u32) -> i128
         Dtype::Int32 => 0x8000_0000,
         Dtype::Uint8 | Dtype::Uint16 | Dtype::Uint32 | Dtype::Byte => return i128::from(pattern),
     };
-    if pattern < half { i128::from(pattern) } else { i128::from(pattern) - 2 * i128::from(half) }
+    if pattern < half {
+        i128::from(pattern)
+    } else {
+        i128::from(pattern) - 2 * i128::from(half)
+    }
 }
 
 /// The bit pattern of the number of the datatype's range that is congruent to `number`.
@@ -91,8 +95,16 @@ fn combined(op: Op, dtype: Dtype, old: u32, operand: u32) -> u32
     match op {
         Op::Replace => operand,
         Op::NoOp => old,
-        Op::Max => if number(dtype, old) < number(dtype, operand) { operand } else { old },
-        Op::Min => if number(dtype, operand) < number(dtype, old) { operand } else { old },
+        Op::Max => if number(dtype, old) < number(dtype, operand) {
+            operand
+        } else {
+            old
+        },
+        Op::Min => if number(dtype, operand) < number(dtype, old) {
+            operand
+        } else {
+            old
+        },
         Op::Sum => pattern(dtype, number(dtype, old) + number(dtype, operand)),
         Op::Prod => pattern(dtype, number(dtype, old) * number(dtype, operand)),
         Op::Land => truth(old != 0 && operand != 0),

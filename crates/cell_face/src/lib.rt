@@ -6,12 +6,16 @@
 #![tactic(auto)]
 
 mod elements;
+mod fronts;
 mod memories;
 mod plain;
+#[cfg(test)]
+mod tests;
 mod tokens;
 
 pub use call_rules::{Cell as Seen, Change};
 pub use elements::next_bits;
+pub use fronts::Front;
 pub use memories::{Memory, Moved};
 pub use plain::PlainMemory;
 pub use tokens::{NoNote, Token};

@@ -46,7 +46,10 @@ impl PlainMemory {
     {
         let cells = init
             .iter()
-            .map(|bits| Seen { bits: *bits, place: 0 })
+            .map(|bits| Seen {
+                bits: *bits,
+                place: 0,
+            })
             .collect(alloc)
             .map_err(|_| NoMemory)?;
         Ok(PlainMemory {
