@@ -32,6 +32,19 @@ impl AccessEpoch {
         }
     }
 
+    pub fn is_fence_unused(&self) -> bool
+        ensures { result ≡ rules.is_fence_unused (access_of self.now) }
+    {
+        match self {
+            AccessEpoch::FenceUnused => true,
+            AccessEpoch::Idle
+            | AccessEpoch::FenceUsed
+            | AccessEpoch::StartTo(_)
+            | AccessEpoch::LocksAt(_)
+            | AccessEpoch::LockAll => false,
+        }
+    }
+
     pub fn is_fence_used(&self) -> bool
         ensures { result ≡ rules.is_fence_used (access_of self.now) }
     {
@@ -114,6 +127,20 @@ impl AccessEpoch {
             AccessEpoch::FenceUnused | AccessEpoch::FenceUsed | AccessEpoch::LockAll => true,
             AccessEpoch::StartTo(group) => is_member(rank, group),
             AccessEpoch::LocksAt(targets) => is_member(rank, targets),
+        }
+    }
+
+    /// The targets that are locked one by one.
+    pub fn into_targets(self) -> Ranks
+        ensures { result.items ≡ rules.targets_locked (access_of self) }
+    {
+        match self {
+            AccessEpoch::LocksAt(targets) => targets,
+            AccessEpoch::Idle
+            | AccessEpoch::FenceUnused
+            | AccessEpoch::FenceUsed
+            | AccessEpoch::StartTo(_)
+            | AccessEpoch::LockAll => Ranks::new(),
         }
     }
 }

@@ -5,6 +5,7 @@ ghost use Rattle.call_rules.specs.WellFormed.{IsWrittenCall};
 ghost use Rattle.rank_rules.specs.Epochs.{epochs_at, epochs_after, first_epochs};
 ghost use Rattle.rank_rules.specs.EpochTests.{epoch_class};
 ghost use Rattle.rank_epochs.specs.Accepted.{IsAccepted};
+ghost use Rattle.rank_epochs.specs.Reach.{epochs_after_use};
 
 use crate::ranks::{is_rank, is_wrong_group};
 use crate::tests::{has_more_than_nocheck, synchronisation_class};
@@ -190,6 +191,68 @@ impl EpochState {
             Call::Store { .. } => None,
             Call::WaitReq { .. } => None,
             Call::TestReq { .. } => None,
+        }
+    }
+
+    /// Brings the epochs to what they are after the accepted call.
+    ///
+    /// A `testwin` is accepted where it was true.
+    pub fn after(&mut self, call: &Call)
+        requires written { IsWrittenCall call.now }
+        requires accepted { IsAccepted self.old (action_of call.now) }
+        ensures { self.new ≡ epochs_after self.old (action_of call.now) }
+    {
+        match call {
+            Call::Allocate { win, .. } => self.windows[*win as usize] = WindowEpochs::new(),
+            Call::Create { win, .. } => self.windows[*win as usize] = WindowEpochs::new(),
+            Call::Dynamic { win } => self.windows[*win as usize] = WindowEpochs::new(),
+            Call::Free { win } => self.windows[*win as usize] = WindowEpochs::new(),
+            Call::Attach { .. } => {}
+            Call::Detach { .. } => {}
+            Call::Fence { win, asserts } => self.windows[*win as usize].fence(asserts),
+            Call::Post { win, group, .. } => self.windows[*win as usize].post(group.as_slice()),
+            Call::Start { win, group, .. } => self.windows[*win as usize].start(group.as_slice()),
+            Call::Complete { win } => self.windows[*win as usize].end_access(),
+            Call::WaitWin { win } => self.windows[*win as usize].end_exposure(),
+            Call::TestWin { win } => self.windows[*win as usize].end_exposure(),
+            Call::LockOne { win, target, .. } => self.windows[*win as usize].lock(*target),
+            Call::Unlock { win, target } => self.windows[*win as usize].unlock(*target),
+            Call::LockAll { win, .. } => self.windows[*win as usize].lock_all(),
+            Call::UnlockAll { win } => self.windows[*win as usize].end_access(),
+            Call::Flush { .. } => {}
+            Call::FlushAll { .. } => {}
+            Call::FlushLocal { .. } => {}
+            Call::FlushLocalAll { .. } => {}
+            Call::Sync { .. } => {}
+            Call::Barrier => {}
+            Call::Put {
+                req, win, target, ..
+            } => self.use_fence(*win, *target, req.is_some()),
+            Call::Get {
+                req, win, target, ..
+            } => self.use_fence(*win, *target, req.is_some()),
+            Call::Acc {
+                req, win, target, ..
+            } => self.use_fence(*win, *target, req.is_some()),
+            Call::GetAcc {
+                req, win, target, ..
+            } => self.use_fence(*win, *target, req.is_some()),
+            Call::Fop { win, target, .. } => self.use_fence(*win, *target, false),
+            Call::Cas { win, target, .. } => self.use_fence(*win, *target, false),
+            Call::Load { .. } => {}
+            Call::Store { .. } => {}
+            Call::WaitReq { .. } => {}
+            Call::TestReq { .. } => {}
+        }
+    }
+
+    /// An RMA call is issued: one that reaches a rank, and has no request, uses a fence epoch.
+    fn use_fence(&mut self, win: u8, target: Option<i32>, has_request: bool)
+        requires { win < 32 }
+        ensures { self.new ≡ epochs_after_use self.old win has_request target }
+    {
+        if target.is_some() && !has_request {
+            self.windows[win as usize].use_fence();
         }
     }
 }

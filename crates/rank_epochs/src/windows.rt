@@ -1,5 +1,7 @@
 //! The epochs of a rank on one window.
-ghost use Rattle.std.specs.Prelude.{◌≡◌, ◌&&◌, ◌||◌, not};
+ghost use Rattle.std.specs.Prelude.{◌≡◌, ◌≤◌, ◌==◌, ◌&&◌, ◌||◌, not, if◌then◌else◌, length, IsTrue, Some, filter};
+ghost use Rattle.std.specs.List.{list_all};
+ghost use Rattle.call_rules.specs.Ranks.{is_rank as is_rank_of, members_of as members};
 ghost use Rattle.call_rules.specs.Actions.{Fences};
 ghost use Rattle.rank_rules.specs.Epochs as rules;
 ghost use Rattle.rank_rules.specs.EpochTests.{has_wrong_assert};
@@ -7,10 +9,11 @@ ghost use Rattle.rank_epochs.specs.Reach.{may_reach_by, reach_class_of};
 
 use crate::access::AccessEpoch;
 use crate::exposure::ExposureEpoch;
-use crate::ranks::{is_rank, natural};
+use crate::ranks::{is_rank, members_of, natural, Ranks};
 use rank_rules::first_class;
 use rma_types::{Asserts, Class};
 use std::marker::Model;
+use std::mem;
 
 /// The access epoch and the exposure epoch of a rank on one window.
 #[derive(Debug, Drop)]
@@ -142,4 +145,97 @@ impl WindowEpochs {
             ]),
         }
     }
+
+    /// A fence is done.
+    pub fn fence(&mut self, asserts: &Asserts)
+        ensures { self.new ≡ rules.after_synchronisation self.old (Fences asserts.now) }
+    {
+        self.access = if asserts.nosucceed {
+            AccessEpoch::Idle
+        } else {
+            AccessEpoch::FenceUnused
+        };
+    }
+
+    /// The group is exposed to; a fence epoch without an RMA call ends.
+    pub fn post(&mut self, group: &[i32])
+        requires few { length group.now ≤ 16 }
+        requires ranks { IsTrue (list_all (is_rank_of 16) group.now) }
+        ensures access { self.new.access ≡ (if rules.is_fence_unused self.old.access then rules.Idle else self.old.access) }
+        ensures exposure { self.new.exposure ≡ rules.PostTo (members group.now) }
+    {
+        if self.access.is_fence_unused() {
+            self.access = AccessEpoch::Idle;
+        }
+        self.exposure = ExposureEpoch::PostTo(members_of(group));
+    }
+
+    /// A start epoch towards the group begins.
+    pub fn start(&mut self, group: &[i32])
+        requires few { length group.now ≤ 16 }
+        requires ranks { IsTrue (list_all (is_rank_of 16) group.now) }
+        ensures { self.new ≡ record self.old { access = rules.StartTo (members group.now) } }
+    {
+        self.access = AccessEpoch::StartTo(members_of(group));
+    }
+
+    /// The access epoch ends.
+    pub fn end_access(&mut self)
+        ensures { self.new ≡ record self.old { access = rules.Idle } }
+    {
+        self.access = AccessEpoch::Idle;
+    }
+
+    /// The exposure epoch ends.
+    pub fn end_exposure(&mut self)
+        ensures { self.new ≡ record self.old { exposure = rules.Unexposed } }
+    {
+        self.exposure = ExposureEpoch::Unexposed;
+    }
+
+    /// The target is locked.
+    pub fn lock(&mut self, target: i32)
+        requires rank { IsTrue (is_rank_of 16 target) }
+        requires free { IsTrue (rules.may_lock self.old.access (Some target)) }
+        ensures { self.new ≡ record self.old { access = rules.after_lock self.old.access (Some target) } }
+    {
+        let mut targets = mem::replace(&mut self.access, AccessEpoch::Idle).into_targets();
+        targets.push(target as u8);
+        self.access = AccessEpoch::LocksAt(targets);
+    }
+
+    /// All targets are locked.
+    pub fn lock_all(&mut self)
+        ensures { self.new ≡ record self.old { access = rules.LockAll } }
+    {
+        self.access = AccessEpoch::LockAll;
+    }
+
+    /// The target is unlocked; no lock at all is no epoch.
+    pub fn unlock(&mut self, target: i32)
+        ensures { self.new ≡ record self.old { access = rules.after_unlock self.old.access (Some target) } }
+    {
+        let targets = mem::replace(&mut self.access, AccessEpoch::Idle).into_targets();
+        let targets = others(targets, natural(target));
+        if !targets.is_empty() {
+            self.access = AccessEpoch::LocksAt(targets);
+        }
+    }
+
+    /// An RMA call is issued, which uses a fence epoch.
+    pub fn use_fence(&mut self)
+        ensures { self.new ≡ record self.old { access = rules.after_use self.old.access } }
+    {
+        if self.access.is_fence_unused() {
+            self.access = AccessEpoch::FenceUsed;
+        }
+    }
+}
+
+/// The ranks but for this one.
+fn others(mut ranks: Ranks, rank: u32) -> Ranks
+    ensures { result.items ≡ filter (λ one. not (one == rank)) ranks.items }
+{
+    ranks.retain(|one| u32::from(*one) != rank);
+    ranks
 }
