@@ -1,0 +1,3 @@
+-- Proofs of the code of this crate.
+pub mod DistinctRanks
+pub mod AcceptedGroups

@@ -1,0 +1,1 @@
+-- Proofs of the code of this crate.

@@ -1,0 +1,2 @@
+//! windows
+#![tactic(auto)]
