@@ -8,14 +8,7 @@ use Rattle.call_rules.specs.Actions.{Action, Creates, Frees, Attaches, Detaches,
 use Rattle.call_rules.specs.Ranks.{natural}
 use Rattle.call_rules.specs.Transfers.{is_ordered_kind}
 use Rattle.rank_rules.specs.Requests.{Requests, maker_of}
-
--- an access that is issued and not yet touched: the index of its Issue in the log, the number of its call, the access, and
--- whether its call fetches
-pub record PendingAccess : Type 0 where
-  pub index : ℕ
-  pub number : ℕ
-  pub access : Access
-  pub fetches : Bool
+use Rattle.rank_rules.specs.declared.pending.PendingAccess.{PendingAccess}
 
 -- an access without bytes has no touch, and is never pending
 abbrev pub made_pending : PendingAccess → List PendingAccess

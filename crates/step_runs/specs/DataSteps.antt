@@ -19,7 +19,8 @@ use Rattle.lawful_runs.specs.Stages.{Stage, calls_at}
 use Rattle.lawful_runs.specs.TouchLaw.{is_local}
 use Rattle.rank_rules.specs.Courses.{Course, OneNull, OneIssue, LookUpAndIssue, OneFlush, OneRequest, ArriveAndLeave, EntryOrTested, OneEntry, course_of, access_of}
 use Rattle.rank_rules.specs.Knowledge.{own_class}
-use Rattle.rank_rules.specs.Pending.{PendingAccess, way}
+use Rattle.rank_rules.specs.Pending.{way}
+use Rattle.rank_rules.specs.declared.pending.PendingAccess.{PendingAccess}
 pub use Rattle.rank_rules.specs.Pending.{made_pending}
 use Rattle.step_runs.specs.Agents.{Agent, kept, finished, next_call, must_draw, awaited_by, has_pending}
 use Rattle.step_runs.specs.Generator.{stirred, drawn_from}
