@@ -1,0 +1,2 @@
+pub mod MoreTouches
+pub mod OneTouch
