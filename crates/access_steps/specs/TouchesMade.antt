@@ -1,5 +1,5 @@
 -- What making touches does to a memory, whatever the memory tells. Touches are in the order in which they are made.
-use Rattle.std.specs.Prelude.{◌≡◌, ◌≤◌, ℕ, ◌+◌, List, [], ◌∷◌, ◌++◌, length, Option, Some, None, IfSome}
+use Rattle.std.specs.Prelude.{◌≡◌, ◌≤◌, ℕ, ◌+◌, List, [], ◌∷◌, ◌++◌, length, map, Option, Some, None, IfSome}
 use Rattle.std.specs.List.{AllByRecursion}
 use Rattle.std.specs.Option.{option_map, option_map_or}
 use Rattle.rma_record.specs.declared.items.Item.{Item}
@@ -7,7 +7,9 @@ use Rattle.rma_record.specs.declared.items.Item.TheVariants.{Touch}
 use Rattle.call_rules.specs.declared.cells.Cell.{Cell}
 use Rattle.call_rules.specs.declared.elements.Change.{Change}
 use Rattle.call_rules.specs.Elements.{next}
-use Rattle.call_rules.specs.Touches.{cell_at, cells_after}
+use Rattle.call_rules.specs.declared.elements.Piece.{Piece}
+use Rattle.call_rules.specs.Actions.{Transfer}
+use Rattle.call_rules.specs.Touches.{cell_at, cells_after, touch_each}
 use Rattle.cell_face.specs.Faces.{Face, Update, Stays, Rose, low_at}
 use Rattle.access_steps.specs.Plans.{PlannedTouch}
 
@@ -68,6 +70,19 @@ pub record TouchesMade (before after : Face) (touches : List MadeTouch) : Type 0
   pub raised : AllByRecursion (λ touch. place_after touch ≤ low_at after touch.plan.cell) touches
   pub order : IsInOrder touches
 
+-- touches of these plans were made, one item was kept of each, and the state of each is known
+pub record TouchesKept (before after : Face) (knows : ℕ → Cell → Type 0) (kept_before kept_after : List Item) (issue : ℕ) (planned : List PlannedTouch) : Type 0 where
+  pub touches : List MadeTouch
+  pub plans : map plan_of touches ≡ planned
+  pub items : kept_after ≡ kept_before ++ map (item_of issue) touches
+  pub made : TouchesMade before after touches
+  pub states : AllByRecursion (λ touch. knows touch.plan.cell touch.seen) touches
+
+-- a memory that tells its cells: they and the items are those of the elements touched one after another
+pub record IsTouchEach (t : Transfer) (pieces : List Piece) (issue from : ℕ) (cells : List Cell) (told : Option (List Cell)) (kept_before kept_after : List Item) : Type 0 where
+  pub cells_after : told ≡ Some (touch_each t issue from pieces cells).cells
+  pub items : kept_after ≡ kept_before ++ (touch_each t issue from pieces cells).items
+
 -- one touch was made of a cell, on this state, as whatever element
 pub record TouchesOne (before after : Face) (cell : ℕ) (change : Option Change) (seen : Cell) : Type 0 where
   pub made : (element : ℕ) → TouchesMade before after (record { plan = record { element = element; cell = cell; change = change }; seen = seen } ∷ [])
@@ -78,7 +93,3 @@ pub record TouchesNone (before after : Face) : Type 0 where
   pub made : TouchesMade before after []
   pub moves : Rose before.moves after.moves
   pub untold : before.told ≡ None
-
--- the states that the touches were made on are known
-abbrev pub KnowsEach : (ℕ → Cell → Type 0) → List MadeTouch → Type 0
-KnowsEach knows touches = AllByRecursion (λ touch. knows touch.plan.cell touch.seen) touches

@@ -6,4 +6,4 @@ mod changes;
 mod touches;
 
 pub use changes::change_of;
-pub use touches::Progress;
+pub use touches::{Progress, touch_on};

@@ -1,16 +1,14 @@
 //! The touches of an access.
-ghost use Rattle.std.specs.Prelude.{◌≡◌, ◌+◌, ◌-◌, ◌*◌, ◌%◌, ◌^◌, ◌<◌, ◌≤◌, ◌↔◌, ℕ, List, [], ◌∷◌, ◌++◌, length, map, drop, Option, Some, None, IsTrue, IsSome, IfOk, IfSome, MatchResult, MatchBool};
+ghost use Rattle.std.specs.Prelude.{◌≡◌, ◌+◌, ◌-◌, ◌*◌, ◌/◌, ◌%◌, ◌^◌, ◌<◌, ◌≤◌, ℕ, drop, false, Some, IsTrue, IsSome, IfOk, IfSome, MatchResult, MatchBool};
 ghost use Rattle.std.specs.Option.{ForSome};
-ghost use Rattle.rma_record.specs.declared.items.Item.{Item as ItemKept};
-ghost use Rattle.call_rules.specs.declared.cells.Cell.{Cell};
-ghost use Rattle.call_rules.specs.declared.elements.Change.{Change as ChangeMade};
+ghost use Rattle.call_rules.specs.Actions.{transfer_of};
 ghost use Rattle.call_rules.specs.Elements.{Fits, next};
 ghost use Rattle.call_rules.specs.Pieces.{first_cell, pieces};
 ghost use Rattle.call_rules.specs.Touches.{touch_each};
 ghost use Rattle.call_rules.specs.WellFormed.{IsWrittenCall};
 ghost use Rattle.cell_face.specs.Faces.{cell_count, Rose, Keeps};
-ghost use Rattle.access_steps.specs.Plans.{PlannedTouch, element_count, is_update, planned_touch, planned_touches, IsAccessOf, LiesWithin};
-ghost use Rattle.access_steps.specs.TouchesMade.{MadeTouch, plan_of, item_of, TouchesMade, KnowsEach, TouchesOne, TouchesNone};
+ghost use Rattle.access_steps.specs.Plans.{element_count, is_update, planned_touches, IsAccessOf, LiesWithin};
+ghost use Rattle.access_steps.specs.TouchesMade.{TouchesKept, IsTouchEach, TouchesOne, TouchesNone};
 
 use crate::changes::{change_of, size_of};
 use call_rules::{Change, Piece};
@@ -74,5 +72,93 @@ fn touch_cell<M: Memory>(mem: &mut M, cell: u32, change: Option<Change>) -> Resu
     match change {
         None => Ok(mem.load(cell)),
         Some(change) => update_cell(mem, cell, &change),
+    }
+}
+
+/// The first cell of a rank's memory.
+fn first_cell_of(layout: &Layout, rank: u8) -> u32
+    ensures { result ≡ first_cell layout.now rank }
+{
+    match layout.parts.get(usize::from(rank)) {
+        Some(part) => part.first_cell,
+        None => 0,
+    }
+}
+
+/// Where an element lies that stands `element * size` bytes after the address `lo` of a memory, whose first cell is
+/// `first_cell`.
+fn piece_after(first_cell: u32, lo: u32, element: u32, size: u32) -> Piece
+    requires { first_cell + (lo + element * size) / 4 < 2 ^ 32 }
+    ensures { let address = lo + element * size in
+        result ≡ record { cell = first_cell + address / 4; first_byte = address % 4 } }
+{
+    let address = u64::from(lo) + u64::from(element) * u64::from(size);
+    Piece {
+        cell: (u64::from(first_cell) + address / 4) as u32,
+        first_byte: (address % 4) as u8,
+    }
+}
+
+/// Touches the elements of an access from `from` on, in ascending order, until all are touched or an attempt came too
+/// late. One Touch item is kept of each element touched; `issue` is the index of the access's Issue item in the same log.
+/// It takes no memory.
+pub fn touch_on<M: Memory, L: Keep>(
+    mem: &mut M,
+    call: &Call,
+    issue: u32,
+    access: &Access,
+    layout: &Layout,
+    from: u32,
+    log: &mut L,
+) -> Progress
+    requires call { IsWrittenCall call.now }
+    requires access { IsAccessOf call.now access.now }
+    requires cells { LiesWithin layout.now access.now call.now (cell_count (M.face mem.old)) }
+    requires from { from ≤ element_count call.now }
+    requires room { element_count call.now ≤ from + L.spare log.old }
+    requires share { IsTrue (is_update call.now) → element_count call.now ≤ from + (M.face mem.old).share }
+
+    ensures begin { from ≤ result.next }
+    ensures end { result.next ≤ element_count call.now }
+    ensures touches { TouchesKept (M.face mem.old) (M.face mem.new) (M.knows mem.new) (L.kept log.old) (L.kept log.new)
+        issue (planned_touches layout.now access.now call.now from (result.next - from)) }
+    ensures moved { MatchBool result.moved (Rose (M.face mem.old).moves (M.face mem.new).moves)
+        ((M.face mem.new).moves ≡ (M.face mem.old).moves × result.next ≡ element_count call.now) }
+    ensures known { Keeps (M.knows mem.old) (M.knows mem.new) }
+
+    // Where the memory tells its cells, no attempt comes too late.
+    ensures told_whole { IfSome (M.face mem.old).told (λ _. result.moved ≡ false) }
+    ensures told { IfSome (M.face mem.old).told (λ cells. IfSome (transfer_of call.now) (λ t.
+        let left = drop from (pieces layout.now access.now t.dtype) in
+        IsTouchEach t left issue from cells (M.face mem.new).told (L.kept log.old) (L.kept log.new))) }
+
+    ensures spare { L.spare log.new + (result.next - from) ≡ L.spare log.old }
+    ensures free_above { L.free log.old ≤ L.free log.new + (result.next - from) }
+    ensures free_below { L.free log.new ≤ L.free log.old }
+    ensures home { L.home log.new ≡ L.home log.old }
+{
+    let size = size_of(call);
+    let first_cell = first_cell_of(layout, access.target);
+    let count = access.len / size;
+    for element in from..count {
+        let piece = piece_after(first_cell, access.lo, element, size);
+        let change = change_of(call, element, piece.first_byte);
+        match touch_cell(mem, piece.cell, change) {
+            Ok(seen) => log.keep(Item::Touch {
+                issue,
+                element,
+                cell: piece.cell,
+                place: seen.place,
+                bits: u64::from(seen.bits),
+            }),
+            Err(_) => return Progress {
+                next: element,
+                moved: true,
+            },
+        }
+    }
+    Progress {
+        next: count,
+        moved: false,
     }
 }
