@@ -1,6 +1,7 @@
 -- The operation on an element of a cell: MPI 3.1, sections 5.9.2, 11.3.1 and 11.3.4. A cell is 4 bytes, little-endian.
-use Rattle.std.specs.Prelude.{ℕ, ◌+◌, ◌*◌, ◌/◌, ◌%◌, ◌^◌, Bool, true, not, ◌&&◌, ◌||◌, ◌==◌, if◌then◌else◌, ◌+ℤ◌, ◌*ℤ◌, int_lt, bit_and, bit_or, bit_xor, Option, Some, None}
+use Rattle.std.specs.Prelude.{◌≡◌, ◌<◌, ◌≤◌, ℕ, ◌+◌, ◌*◌, ◌/◌, ◌%◌, ◌^◌, Bool, true, not, ◌&&◌, ◌||◌, ◌==◌, if◌then◌else◌, ◌+ℤ◌, ◌*ℤ◌, int_lt, bit_and, bit_or, bit_xor, Option, Some, None, IfSome}
 use Rattle.rma_types.specs.declared.dtypes.Dtype.{Dtype}
+use Rattle.rma_types.specs.Datatypes.{size_of}
 use Rattle.rma_types.specs.declared.ops.Op.{Op}
 use Rattle.rma_types.specs.declared.ops.Op.TheVariants.{Replace, NoOp, Max, Min, Sum, Prod, Land, Band, Lor, Bor, Lxor, Bxor}
 use Rattle.call_rules.specs.declared.elements.Change.{Change}
@@ -56,3 +57,10 @@ next bits change =
     if meets change.compare change.dtype old
     then with_element bits change.first_byte change.dtype (cut change.dtype (combined change.op change.dtype old (cut change.dtype change.operand)))
     else bits
+
+-- the element stands in the cell at a multiple of its size, and the operand and what it is compared with are its patterns
+pub record Fits (change : Change) : Type 0 where
+  pub aligned : change.first_byte % size_of change.dtype ≡ 0
+  pub inside : change.first_byte + size_of change.dtype ≤ 4
+  pub operand : change.operand < patterns_of change.dtype
+  pub compared : IfSome change.compare (λ compare. compare < patterns_of change.dtype)

@@ -9,4 +9,4 @@ mod cells;
 mod elements;
 
 pub use cells::Cell;
-pub use elements::{Change, Piece};
+pub use elements::{Change, Piece, patterns};

@@ -1,0 +1,3 @@
+pub mod GreaterFronts
+pub mod Patterns
+pub mod PlainUpdates
