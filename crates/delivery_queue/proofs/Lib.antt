@@ -1,0 +1,2 @@
+-- Lemmas of the queue.
+pub mod GivenWays

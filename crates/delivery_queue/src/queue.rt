@@ -1,0 +1,87 @@
+//! A rank's pending accesses and live requests.
+ghost use Rattle.std.specs.Prelude.{◌≡◌, ◌<◌, ◌≤◌, ◌+◌, ◌++◌, [], length, true, false, IfSome, IfOk, OnOk};
+ghost use Rattle.std.specs.Option.{option_map_or};
+ghost use Rattle.call_rules.specs.WellFormed.{IsWrittenCall};
+ghost use Rattle.delivery_queue.specs.Queues.{no_accesses, with_access};
+ghost use Rattle.rank_rules.specs.Pending.{awaited, way as way_of};
+ghost use Rattle.rank_rules.specs.Requests.{is_live_request, with_request, without_request};
+
+use crate::waits::must_wait;
+use crate::ways::way;
+use rank_rules::PendingAccess;
+use rma_types::{Access, Call, NoMemory};
+use std::alloc::Global;
+use std::marker::Model;
+
+/// The accesses of a rank that are issued and not yet wholly touched, in the order of their Issues, and its live requests,
+/// q0 to q63.
+#[derive(Debug, Drop)]
+pub struct Pending {
+    /// The accesses, after those at the front that were delivered.
+    accesses: Vec<PendingAccess>,
+    /// How many elements of each are touched.
+    touched: Vec<u32>,
+    /// How many at the front of both lists were delivered.
+    first: usize,
+    /// The number of the call that made the live request of each name.
+    requests: [Option<u32>; 64],
+}
+
+impl Model for Pending {
+    ghost use Rattle.std.specs.Prelude.{◌≡◌, ◌≤◌, drop, length};
+    ghost use Rattle.delivery_queue.specs.Queues.{Queue};
+
+    ghost Value = { Queue };
+
+    ghost view = { λ it. record { pending = drop it.first it.accesses.items; touched = drop it.first it.touched.items; requests = it.requests } };
+
+    ghost invariant = { λ it. (it.first ≤ length it.accesses.items) × (length it.touched.items ≡ length it.accesses.items) };
+}
+
+impl Pending {
+    /// No access and no request.
+    pub fn new(alloc: Global) -> Result<Pending, NoMemory>
+        ensures { IfOk result (λ pending. pending ≡ no_accesses) }
+    {
+        Ok(Pending {
+            accesses: Vec::new(alloc),
+            touched: Vec::new(alloc),
+            first: 0,
+            requests: [None; 64],
+        })
+    }
+
+    /// Whether a request of this name, below 64, is live.
+    pub fn is_live(&self, req: u8) -> bool
+        requires { req < 64 }
+        ensures { result ≡ is_live_request self.now.requests req }
+    {
+        self.requests[usize::from(req)].is_some()
+    }
+
+    /// The number of pending accesses.
+    pub fn count(&self) -> usize
+        ensures { result ≡ length self.now.pending }
+    {
+        self.accesses.len() - self.first
+    }
+
+    /// The place of the access to which the one at a place gives way in the end, directly or through others; its own where
+    /// it gives way to none.
+    pub fn way(&self, at: usize) -> usize
+        requires { at < length self.now.pending }
+        ensures end { result ≡ way_of self.now.pending at }
+        ensures not_after { result ≤ at }
+    {
+        way(&self.accesses[self.first..], at)
+    }
+
+    /// Ends the live request of this name.
+    pub fn end_request(&mut self, req: u8)
+        requires name { req < 64 }
+        requires live { is_live_request self.old.requests req ≡ true }
+        ensures { self.new ≡ record self.old { requests = without_request self.old.requests req } }
+    {
+        self.requests[usize::from(req)] = None;
+    }
+}
