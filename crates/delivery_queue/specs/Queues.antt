@@ -1,6 +1,7 @@
 -- A rank's pending accesses and its live requests: MPI 3.1, sections 11.3.5 and 11.7.
-use Rattle.std.specs.Prelude.{ℕ, ◌++◌, List, [], map, Option, IsSomeAnd, slice_get}
+use Rattle.std.specs.Prelude.{ℕ, ◌++◌, Bool, List, [], map, Option, IsSomeAnd, slice_get}
 use Rattle.std.specs.Option.{option_map_or}
+use Rattle.rma_types.specs.declared.accesses.Access.{Access}
 use Rattle.rma_types.specs.declared.calls.Call.{Call}
 use Rattle.rma_types.specs.declared.scripts.Layout.{Layout}
 use Rattle.access_steps.specs.Plans.{IsAccessOf, LiesWithin}
@@ -25,6 +26,11 @@ IsOfCall layout cells one call =
 
 abbrev pub IsOfItsCall : Layout → List Call → ℕ → PendingAccess → Type 0
 IsOfItsCall layout calls cells one = IsSomeAnd (slice_get calls one.number) (IsOfCall layout cells one)
+
+-- the access of a call, whose Issue has this index
+abbrev pub issued : (number : ℕ) → (index : ℕ) → Access → (fetches : Bool) → PendingAccess
+issued number index access fetches =
+    record { index = index; number = number; access = access; fetches = fetches }
 
 -- an access is issued, and with it a request where one is named; an access without bytes is not pending
 abbrev pub with_access : Queue → PendingAccess → Option ℕ → Queue

@@ -2,6 +2,7 @@
 //! (MPI 3.1, sections 11.3.5 and 11.7).
 #![tactic(auto)]
 
+mod deliveries;
 mod queue;
 mod waits;
 mod ways;

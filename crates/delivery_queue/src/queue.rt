@@ -1,12 +1,11 @@
 //! A rank's pending accesses and live requests.
-ghost use Rattle.std.specs.Prelude.{◌≡◌, ◌<◌, ◌≤◌, ◌+◌, ◌++◌, [], length, true, false, IfSome, IfOk, OnOk};
-ghost use Rattle.std.specs.Option.{option_map_or};
+ghost use Rattle.std.specs.Prelude.{◌≡◌, ◌<◌, ◌≤◌, ◌+◌, ◌++◌, [], length, true, false, IfSome, IfOk, OnOk, OnErr};
 ghost use Rattle.call_rules.specs.WellFormed.{IsWrittenCall};
-ghost use Rattle.delivery_queue.specs.Queues.{no_accesses, with_access};
+ghost use Rattle.delivery_queue.specs.Queues.{no_accesses, issued, with_access};
 ghost use Rattle.rank_rules.specs.Pending.{awaited, way as way_of};
 ghost use Rattle.rank_rules.specs.Requests.{is_live_request, with_request, without_request};
 
-use crate::waits::must_wait;
+use crate::waits::first_awaited;
 use crate::ways::way;
 use rank_rules::PendingAccess;
 use rma_types::{Access, Call, NoMemory};
@@ -83,5 +82,51 @@ impl Pending {
         ensures { self.new ≡ record self.old { requests = without_request self.old.requests req } }
     {
         self.requests[usize::from(req)] = None;
+    }
+
+    /// An access is issued: it stands at the end, unless it has no bytes; `index` is that of its Issue item. Where a request
+    /// is named, below 64 and not live, it is live from now on.
+    pub fn issue(
+        &mut self,
+        call: u32,
+        index: u32,
+        access: &Access,
+        fetches: bool,
+        req: Option<u8>,
+    ) -> Result<(), NoMemory>
+        requires name { IfSome req (λ name. name < 64) }
+        requires free { IfSome req (λ name. is_live_request self.old.requests name ≡ false) }
+        ensures added { OnOk result (self.new ≡ with_access self.old (issued call index access.now fetches) req) }
+        ensures unchanged { OnErr result (self.new ≡ self.old) }
+    {
+        let one = PendingAccess {
+            index,
+            number: call,
+            access: *access,
+            fetches,
+        };
+        if 0 < one.access.len {
+            self.accesses.reserve(1).map_err(|_| NoMemory)?;
+            self.touched.reserve(1).map_err(|_| NoMemory)?;
+            self.accesses.push_reserved(one);
+            self.touched.push_reserved(0);
+        }
+        if let Some(name) = req {
+            self.requests[usize::from(name)] = Some(call);
+        }
+        Ok(())
+    }
+
+    /// The place of the access that must be delivered next before the first item of the call, after giving way; none where
+    /// none must.
+    pub fn next_for(&self, call: &Call) -> Option<usize>
+        requires { IsWrittenCall call.now }
+        ensures next { result ≡ awaited self.now.requests call.now self.now.pending }
+        ensures within { IfSome result (λ at. at < length self.now.pending) }
+    {
+        match first_awaited(&self.requests, call, &self.accesses[self.first..]) {
+            Some(at) => Some(self.way(at)),
+            None => None,
+        }
     }
 }

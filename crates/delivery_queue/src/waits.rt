@@ -1,5 +1,6 @@
 //! Which pending accesses a call must wait for (MPI 3.1, sections 11.3.5, 11.5 and 11.7).
-ghost use Rattle.std.specs.Prelude.{◌≡◌, ◌<◌, ◌%◌, ◌==◌, length, IsSome};
+ghost use Rattle.std.specs.Prelude.{◌≡◌, ◌<◌, ◌%◌, ◌==◌, length, IfSome};
+ghost use Rattle.std.specs.List.{position};
 ghost use Rattle.call_rules.specs.Ranks.{natural};
 ghost use Rattle.call_rules.specs.WellFormed.{IsWrittenCall};
 ghost use Rattle.rank_rules.specs.Pending.{is_on as is_on_window, must_wait as does_wait};
@@ -24,7 +25,7 @@ fn is_at(rank: i32, one: &PendingAccess) -> bool
 
 /// Whether the call must wait for the pending access before its first item. `made` is the number of the call that made the
 /// request which the call ends, if it ends one.
-pub fn must_wait(requests: &[Option<u32>; 64], call: &Call, one: &PendingAccess) -> bool
+fn must_wait(requests: &[Option<u32>; 64], call: &Call, one: &PendingAccess) -> bool
     requires { IsWrittenCall call.now }
     ensures { result ≡ does_wait requests.now call.now one.now }
 {
@@ -59,4 +60,17 @@ pub fn must_wait(requests: &[Option<u32>; 64], call: &Call, one: &PendingAccess)
         | Call::Load { .. }
         | Call::Store { .. } => false,
     }
+}
+
+/// The place of the first of some pending accesses that the call must wait for.
+pub fn first_awaited(
+    requests: &[Option<u32>; 64],
+    call: &Call,
+    pending: &[PendingAccess],
+) -> Option<usize>
+    requires { IsWrittenCall call.now }
+    ensures place { result ≡ position (does_wait requests.now call.now) pending.now }
+    ensures within { IfSome result (λ at. at < length pending.now) }
+{
+    pending.iter().position(|one| must_wait(requests, call, one))
 }
