@@ -1,14 +1,18 @@
 //! A rank's pending accesses and live requests.
-ghost use Rattle.std.specs.Prelude.{◌≡◌, ◌<◌, ◌≤◌, ◌+◌, ◌++◌, [], length, true, false, IfSome, IfOk, OnOk, OnErr};
+ghost use Rattle.std.specs.Prelude.{◌≡◌, ◌<◌, ◌≤◌, ◌+◌, ◌++◌, [], length, slice_get, slice_index, true, false, Some, IfSome, IfOk, OnOk, OnErr};
 ghost use Rattle.call_rules.specs.WellFormed.{IsWrittenCall};
-ghost use Rattle.delivery_queue.specs.Queues.{no_accesses, issued, with_access};
+ghost use Rattle.delivery_queue.specs.Queues.{no_accesses, issued, with_access, with_touched, without_access, Delivers, DeliversWhole, IsDeliverable};
+ghost use Rattle.cell_face.specs.Faces.{Rose, Keeps};
 ghost use Rattle.rank_rules.specs.Pending.{awaited, way as way_of};
 ghost use Rattle.rank_rules.specs.Requests.{is_live_request, with_request, without_request};
 
+use crate::deliveries::touch_pending;
 use crate::waits::first_awaited;
 use crate::ways::way;
+use cell_face::Memory;
 use rank_rules::PendingAccess;
-use rma_types::{Access, Call, NoMemory};
+use rma_record::Keep;
+use rma_types::{Access, Call, Layout, NoMemory};
 use std::alloc::Global;
 use std::marker::Model;
 
@@ -127,6 +131,85 @@ impl Pending {
         match first_awaited(&self.requests, call, &self.accesses[self.first..]) {
             Some(at) => Some(self.way(at)),
             None => None,
+        }
+    }
+
+    /// The access at a place is pending no more.
+    fn remove(&mut self, at: usize)
+        requires { at < length self.old.pending }
+        ensures { self.new ≡ without_access self.old at }
+    {
+        if at == 0 {
+            self.first += 1;
+        } else {
+            self.accesses.remove(self.first + at);
+            self.touched.remove(self.first + at);
+        }
+    }
+
+    /// So many elements of the access at a place are touched.
+    fn keep_touched(&mut self, at: usize, count: u32)
+        requires { at < length self.old.pending }
+        ensures { self.new ≡ with_touched self.old at count }
+    {
+        let place = self.first + at;
+        self.touched[place] = count;
+    }
+
+    /// The access at a place.
+    fn access_at(&self, at: usize) -> PendingAccess
+        requires { at < length self.now.pending }
+        ensures { slice_get self.now.pending at ≡ Some result }
+    {
+        self.accesses[self.first + at]
+    }
+
+    /// How many elements of the access at a place are touched.
+    fn touched_at(&self, at: usize) -> u32
+        requires { at < length self.now.pending }
+        ensures { result ≡ slice_index self.now.touched at }
+    {
+        self.touched[self.first + at]
+    }
+
+    /// Delivers the access at a place: it makes room for the touches that are left of it, and makes them in the order of
+    /// its elements. The answer is true where the access is done, and pending no more; it is false where an attempt came
+    /// too late, which never comes over a memory that tells its cells.
+    pub fn deliver<M: Memory, L: Keep>(
+        &mut self,
+        at: usize,
+        mem: &mut M,
+        layout: &Layout,
+        calls: &[Call],
+        log: &mut L,
+    ) -> Result<bool, NoMemory>
+        requires at { at < length self.old.pending }
+        requires deliverable { IsDeliverable self.old at layout.now calls.now (M.face mem.old) (L.free log.old) }
+        ensures delivered { IfOk result (λ done. Delivers self.old self.new at done layout.now calls.now
+            (M.face mem.old) (M.face mem.new) (M.knows mem.new) (L.kept log.old) (L.kept log.new)) }
+        ensures told { IfOk result (λ done. IfSome (M.face mem.old).told (λ cells.
+            (done ≡ true) × DeliversWhole self.old at layout.now calls.now cells
+                (M.face mem.new).told (L.kept log.old) (L.kept log.new))) }
+        ensures moved { IfOk result (λ done. done ≡ false → Rose (M.face mem.old).moves (M.face mem.new).moves) }
+        ensures known { Keeps (M.knows mem.old) (M.knows mem.new) }
+        ensures free_below { L.free log.new ≤ L.free log.old }
+        ensures home { L.home log.new ≡ L.home log.old }
+        ensures unchanged { OnErr result (self.new ≡ self.old) }
+        ensures kept { OnErr result (L.kept log.new ≡ L.kept log.old) }
+        ensures unwritten { OnErr result (mem.new ≡ mem.old) }
+    {
+        let one = self.access_at(at);
+        let from = self.touched_at(at);
+        let Some(call) = calls.get(one.number as usize) else {
+            unreachable!()
+        };
+        let progress = touch_pending(&one, from, mem, layout, call, log)?;
+        if progress.moved {
+            self.keep_touched(at, progress.next);
+            Ok(false)
+        } else {
+            self.remove(at);
+            Ok(true)
         }
     }
 }
