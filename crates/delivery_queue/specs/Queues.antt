@@ -86,4 +86,4 @@ abbrev pub DeliversWhole : Queue → ℕ → Layout → List Call → List Cell 
 DeliversWhole queue at layout calls cells told kept_before kept_after =
     let from = slice_index queue.touched at in
     IfSome (slice_get queue.pending at) (λ one. IfSome (slice_get calls one.number) (λ call. IfSome (transfer_of call) (λ t.
-        IsTouchEach t (drop from (pieces layout one.access t.dtype)) one.index from cells told kept_before kept_after)))
+    IsTouchEach t (drop from (pieces layout one.access t.dtype)) one.index from cells told kept_before kept_after)))

@@ -8,4 +8,3 @@ mod waits;
 mod ways;
 
 pub use queue::Pending;
-

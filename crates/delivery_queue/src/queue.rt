@@ -189,7 +189,7 @@ impl Pending {
             (M.face mem.old) (M.face mem.new) (M.knows mem.new) (L.kept log.old) (L.kept log.new)) }
         ensures told { IfOk result (λ done. IfSome (M.face mem.old).told (λ cells.
             (done ≡ true) × DeliversWhole self.old at layout.now calls.now cells
-                (M.face mem.new).told (L.kept log.old) (L.kept log.new))) }
+            (M.face mem.new).told (L.kept log.old) (L.kept log.new))) }
         ensures moved { IfOk result (λ done. done ≡ false → Rose (M.face mem.old).moves (M.face mem.new).moves) }
         ensures known { Keeps (M.knows mem.old) (M.knows mem.new) }
         ensures free_below { L.free log.new ≤ L.free log.old }

@@ -30,9 +30,14 @@ fn must_wait(requests: &[Option<u32>; 64], call: &Call, one: &PendingAccess) -> 
     ensures { result ≡ does_wait requests.now call.now one.now }
 {
     match call {
-        Call::Fence { win, .. } | Call::Complete { win } | Call::UnlockAll { win } | Call::FlushAll { win } => is_on(*win, one),
-        Call::Unlock { win, target } | Call::Flush { win, target } => is_on(*win, one) && is_at(*target, one),
-        Call::FlushLocal { win, target } => is_on(*win, one) && (is_at(*target, one) && one.fetches),
+        Call::Fence { win, .. }
+        | Call::Complete { win }
+        | Call::UnlockAll { win }
+        | Call::FlushAll { win } => is_on(*win, one),
+        Call::Unlock { win, target } | Call::Flush { win, target } => is_on(*win, one)
+            && is_at(*target, one),
+        Call::FlushLocal { win, target } => is_on(*win, one)
+            && (is_at(*target, one) && one.fetches),
         Call::FlushLocalAll { win } => is_on(*win, one) && one.fetches,
         Call::WaitReq { req } | Call::TestReq { req } => {
             one.fetches && requests[usize::from(*req)] == Some(one.number)
@@ -72,5 +77,7 @@ pub fn first_awaited(
     ensures place { result ≡ position (does_wait requests.now call.now) pending.now }
     ensures within { IfSome result (λ at. at < length pending.now) }
 {
-    pending.iter().position(|one| must_wait(requests, call, one))
+    pending
+        .iter()
+        .position(|one| must_wait(requests, call, one))
 }
