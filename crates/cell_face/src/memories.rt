@@ -1,6 +1,6 @@
 //! Memories of cells.
 ghost use Rattle.std.specs.Prelude.{◌≡◌, ◌+◌, ◌%◌, ◌^◌, ◌<◌, ◌≤◌, IfOk, IfErr, MatchResult};
-ghost use Rattle.cell_face.specs.Faces.{cell_count, Looks, Updates, Moves, Gives, Takes, Keeps};
+ghost use Rattle.cell_face.specs.Faces.{cell_count, IsToldAt, Looks, Updates, Moves, Gives, Takes, Keeps};
 
 use crate::tokens::Token;
 use call_rules::Cell as Seen;
@@ -43,6 +43,7 @@ pub trait Memory {
         requires share { 1 ≤ (face self.old).share }
         ensures updates { let sum = (result.bits + x) % 2 ^ 32 in
             Updates (face self.old) (face self.new) cell result sum }
+        ensures told_state { IsToldAt (face self.old) cell result }
         ensures found { knows self.new cell result }
         ensures known { Keeps (knows self.old) (knows self.new) };
 

@@ -1,0 +1,60 @@
+-- The touches that an access asks for: one for each element, on its cell, with its change. MPI 3.1, sections 11.3 and 11.7.1.
+use Rattle.std.specs.Prelude.{◌≡◌, ◌<◌, ◌≤◌, ℕ, ◌+◌, ◌*◌, ◌/◌, ◌%◌, ◌^◌, Bool, false, not, List, map, Option, Some, None, IsSomeAnd}
+use Rattle.std.specs.Option.{option_map_or, option_and_then}
+use Rattle.rma_types.specs.declared.accesses.Access.{Access}
+use Rattle.rma_types.specs.declared.calls.Call.{Call}
+use Rattle.rma_types.specs.declared.scripts.Layout.{Layout}
+use Rattle.rma_types.specs.Datatypes.{size_of}
+use Rattle.call_rules.specs.declared.elements.Change.{Change}
+use Rattle.call_rules.specs.declared.elements.Piece.{Piece}
+use Rattle.call_rules.specs.Actions.{Transfer, transfer_of}
+use Rattle.call_rules.specs.Pieces.{piece_at, numbers_from}
+use Rattle.call_rules.specs.Ranks.{natural}
+use Rattle.call_rules.specs.Transfers.{bytes_of, change_of, is_no_op}
+
+-- the bytes of each element that a call moves
+abbrev pub element_size : Call → ℕ
+element_size call = option_map_or (λ (t : Transfer). size_of t.dtype) (transfer_of call) 1
+
+-- how many elements a call moves
+abbrev pub element_count : Call → ℕ
+element_count call = option_map_or (λ (t : Transfer). natural t.count) (transfer_of call) 0
+
+-- the call changes the elements that it reaches
+abbrev pub is_update : Call → Bool
+is_update call = option_map_or (λ (t : Transfer). not (is_no_op t.op)) (transfer_of call) false
+
+-- the change that a call makes to one of its elements, at a first byte of the cell; none where it reads
+abbrev pub change_by : Call → ℕ → ℕ → Option Change
+change_by call element first_byte = option_and_then (λ (t : Transfer). change_of t element first_byte) (transfer_of call)
+
+-- where an element of an access lies
+abbrev pub piece_of : Layout → Access → Call → ℕ → Piece
+piece_of layout access call element = piece_at layout access.target (access.lo + element * element_size call)
+
+-- a touch that an access asks for
+pub record PlannedTouch : Type 0 where
+  pub element : ℕ
+  pub cell : ℕ
+  pub change : Option Change
+
+abbrev pub touch_at : Call → ℕ → Piece → PlannedTouch
+touch_at call element piece = record { element = element; cell = piece.cell; change = change_by call element piece.first_byte }
+
+-- the touch of an element
+abbrev pub planned_touch : Layout → Access → Call → ℕ → PlannedTouch
+planned_touch layout access call element = touch_at call element (piece_of layout access call element)
+
+-- the touches of so many elements, from one on
+abbrev pub planned_touches : Layout → Access → Call → ℕ → ℕ → List PlannedTouch
+planned_touches layout access call first count = map (planned_touch layout access call) (numbers_from first count)
+
+-- the access is the one that the call makes: its kind, its bytes, and an address that is a multiple of the element's size
+abbrev pub IsAccessOf : Call → Access → Type 0
+IsAccessOf call access = IsSomeAnd (transfer_of call)
+  (λ t. (access.kind ≡ t.kind) × (access.len ≡ bytes_of t) × (access.lo % size_of t.dtype ≡ 0))
+
+-- each element lies in one of so many cells, and the number of its cell is a u32
+abbrev pub LiesWithin : Layout → Access → Call → ℕ → Type 0
+LiesWithin layout access call cells = (element : ℕ) → element < element_count call →
+  ((piece_of layout access call element).cell < cells) × ((piece_of layout access call element).cell < 2 ^ 32)

@@ -1,0 +1,66 @@
+//! What a call does to each of its elements.
+ghost use Rattle.std.specs.Prelude.{◌≡◌, ◌<◌, ◌^◌, length, slice_index, Option, Some, None};
+ghost use Rattle.std.specs.List.{AllByRecursion};
+ghost use Rattle.call_rules.specs.Numbers.{patterns_of};
+ghost use Rattle.call_rules.specs.WellFormed.{IsWrittenCall};
+ghost use Rattle.call_rules.specs.Transfers.{is_no_op};
+ghost use Rattle.access_steps.specs.Plans.{element_count, element_size, change_by};
+
+use call_rules::Change;
+use rma_types::{Bits, Call, Dtype, Op};
+
+/// The operand of an element.
+fn operand_at(values: &Bits, element: u32, dtype: Dtype) -> u32
+    requires patterns { AllByRecursion (λ pattern. pattern < patterns_of dtype) values.now }
+    requires element { element < length values.now }
+    ensures { result ≡ slice_index values.now element }
+{
+    values.as_slice()[element as usize] as u32
+}
+
+/// The change that a call makes to one of its elements, which lies at `first_byte` of its cell; `None` where the call
+/// only reads, as a get, a load and a NO_OP do.
+pub fn change_of(call: &Call, element: u32, first_byte: u8) -> Option<Change>
+    requires call { IsWrittenCall call.now }
+    requires element { element < element_count call.now }
+    ensures { result ≡ change_by call.now element first_byte }
+{
+    let (dtype, op, operand, compare) = match call {
+        Call::Put { dtype, values, .. } | Call::Store { dtype, values, .. } => {
+            (*dtype, Op::Replace, operand_at(values, element, *dtype), None)
+        }
+        Call::Acc { dtype, op, values, .. } | Call::GetAcc { dtype, op, values, .. } => {
+            (*dtype, *op, operand_at(values, element, *dtype), None)
+        }
+        Call::Fop { dtype, op, value, .. } => (*dtype, *op, *value as u32, None),
+        Call::Cas { dtype, compare, new, .. } => (*dtype, Op::Replace, *new as u32, Some(*compare as u32)),
+        _ => return None,
+    };
+    if op == Op::NoOp {
+        return None;
+    }
+    Some(Change {
+        first_byte,
+        dtype,
+        op,
+        operand,
+        compare,
+    })
+}
+
+/// The bytes of each element that a call moves: 1, 2 or 4.
+pub fn size_of(call: &Call) -> u32
+    ensures { result ≡ element_size call.now }
+{
+    match call {
+        Call::Put { dtype, .. }
+        | Call::Get { dtype, .. }
+        | Call::Acc { dtype, .. }
+        | Call::GetAcc { dtype, .. }
+        | Call::Fop { dtype, .. }
+        | Call::Cas { dtype, .. }
+        | Call::Load { dtype, .. }
+        | Call::Store { dtype, .. } => dtype.size(),
+        _ => 1,
+    }
+}

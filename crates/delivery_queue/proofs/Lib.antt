@@ -1,0 +1,3 @@
+-- Lemmas of the queue.
+pub mod DroppedFront
+pub mod GivenWays

@@ -1,0 +1,5 @@
+use Rattle.std.proofs.Common.{ℕ}
+use Rattle.delivery_queue.proofs.ways.+way.Given as goal
+
+abbrev pub decreases-way : goal.decreases-way
+decreases-way l = l.at

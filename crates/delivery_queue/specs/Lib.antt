@@ -1,0 +1,2 @@
+-- What a queue of pending accesses is.
+pub mod Queues

@@ -1,0 +1,10 @@
+//! The accesses of a rank that are issued and not yet wholly touched, in the order of their Issues, and its live requests
+//! (MPI 3.1, sections 11.3.5 and 11.7).
+#![tactic(auto)]
+
+mod deliveries;
+mod queue;
+mod waits;
+mod ways;
+
+pub use queue::Pending;

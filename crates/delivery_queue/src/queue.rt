@@ -1,0 +1,215 @@
+//! A rank's pending accesses and live requests.
+ghost use Rattle.std.specs.Prelude.{◌≡◌, ◌<◌, ◌≤◌, ◌+◌, ◌++◌, [], length, slice_get, slice_index, true, false, Some, IfSome, IfOk, OnOk, OnErr};
+ghost use Rattle.call_rules.specs.WellFormed.{IsWrittenCall};
+ghost use Rattle.delivery_queue.specs.Queues.{no_accesses, issued, with_access, with_touched, without_access, Delivers, DeliversWhole, IsDeliverable};
+ghost use Rattle.cell_face.specs.Faces.{Rose, Keeps};
+ghost use Rattle.rank_rules.specs.Pending.{awaited, way as way_of};
+ghost use Rattle.rank_rules.specs.Requests.{is_live_request, with_request, without_request};
+
+use crate::deliveries::touch_pending;
+use crate::waits::first_awaited;
+use crate::ways::way;
+use cell_face::Memory;
+use rank_rules::PendingAccess;
+use rma_record::Keep;
+use rma_types::{Access, Call, Layout, NoMemory};
+use std::alloc::Global;
+use std::marker::Model;
+
+/// The accesses of a rank that are issued and not yet wholly touched, in the order of their Issues, and its live requests,
+/// q0 to q63.
+#[derive(Debug, Drop)]
+pub struct Pending {
+    /// The accesses, after those at the front that were delivered.
+    accesses: Vec<PendingAccess>,
+    /// How many elements of each are touched.
+    touched: Vec<u32>,
+    /// How many at the front of both lists were delivered.
+    first: usize,
+    /// The number of the call that made the live request of each name.
+    requests: [Option<u32>; 64],
+}
+
+impl Model for Pending {
+    ghost use Rattle.std.specs.Prelude.{◌≡◌, ◌≤◌, drop, length};
+    ghost use Rattle.delivery_queue.specs.Queues.{Queue};
+
+    ghost Value = { Queue };
+
+    ghost view = { λ it. record { pending = drop it.first it.accesses.items; touched = drop it.first it.touched.items; requests = it.requests } };
+
+    ghost invariant = { λ it. (it.first ≤ length it.accesses.items) × (length it.touched.items ≡ length it.accesses.items) };
+}
+
+impl Pending {
+    /// No access and no request.
+    pub fn new(alloc: Global) -> Result<Pending, NoMemory>
+        ensures { IfOk result (λ pending. pending ≡ no_accesses) }
+    {
+        Ok(Pending {
+            accesses: Vec::new(alloc),
+            touched: Vec::new(alloc),
+            first: 0,
+            requests: [None; 64],
+        })
+    }
+
+    /// Whether a request of this name, below 64, is live.
+    pub fn is_live(&self, req: u8) -> bool
+        requires { req < 64 }
+        ensures { result ≡ is_live_request self.now.requests req }
+    {
+        self.requests[usize::from(req)].is_some()
+    }
+
+    /// The number of pending accesses.
+    pub fn count(&self) -> usize
+        ensures { result ≡ length self.now.pending }
+    {
+        self.accesses.len() - self.first
+    }
+
+    /// The place of the access to which the one at a place gives way in the end, directly or through others; its own where
+    /// it gives way to none.
+    pub fn way(&self, at: usize) -> usize
+        requires { at < length self.now.pending }
+        ensures end { result ≡ way_of self.now.pending at }
+        ensures not_after { result ≤ at }
+    {
+        way(&self.accesses[self.first..], at)
+    }
+
+    /// Ends the live request of this name.
+    pub fn end_request(&mut self, req: u8)
+        requires name { req < 64 }
+        requires live { is_live_request self.old.requests req ≡ true }
+        ensures { self.new ≡ record self.old { requests = without_request self.old.requests req } }
+    {
+        self.requests[usize::from(req)] = None;
+    }
+
+    /// An access is issued: it stands at the end, unless it has no bytes; `index` is that of its Issue item. Where a request
+    /// is named, below 64 and not live, it is live from now on.
+    pub fn issue(
+        &mut self,
+        call: u32,
+        index: u32,
+        access: &Access,
+        fetches: bool,
+        req: Option<u8>,
+    ) -> Result<(), NoMemory>
+        requires name { IfSome req (λ name. name < 64) }
+        requires free { IfSome req (λ name. is_live_request self.old.requests name ≡ false) }
+        ensures added { OnOk result (self.new ≡ with_access self.old (issued call index access.now fetches) req) }
+        ensures unchanged { OnErr result (self.new ≡ self.old) }
+    {
+        let one = PendingAccess {
+            index,
+            number: call,
+            access: *access,
+            fetches,
+        };
+        if 0 < one.access.len {
+            self.accesses.reserve(1).map_err(|_| NoMemory)?;
+            self.touched.reserve(1).map_err(|_| NoMemory)?;
+            self.accesses.push_reserved(one);
+            self.touched.push_reserved(0);
+        }
+        if let Some(name) = req {
+            self.requests[usize::from(name)] = Some(call);
+        }
+        Ok(())
+    }
+
+    /// The place of the access that must be delivered next before the first item of the call, after giving way; none where
+    /// none must.
+    pub fn next_for(&self, call: &Call) -> Option<usize>
+        requires { IsWrittenCall call.now }
+        ensures next { result ≡ awaited self.now.requests call.now self.now.pending }
+        ensures within { IfSome result (λ at. at < length self.now.pending) }
+    {
+        match first_awaited(&self.requests, call, &self.accesses[self.first..]) {
+            Some(at) => Some(self.way(at)),
+            None => None,
+        }
+    }
+
+    /// The access at a place is pending no more.
+    fn remove(&mut self, at: usize)
+        requires { at < length self.old.pending }
+        ensures { self.new ≡ without_access self.old at }
+    {
+        if at == 0 {
+            self.first += 1;
+        } else {
+            self.accesses.remove(self.first + at);
+            self.touched.remove(self.first + at);
+        }
+    }
+
+    /// So many elements of the access at a place are touched.
+    fn keep_touched(&mut self, at: usize, count: u32)
+        requires { at < length self.old.pending }
+        ensures { self.new ≡ with_touched self.old at count }
+    {
+        let place = self.first + at;
+        self.touched[place] = count;
+    }
+
+    /// The access at a place.
+    fn access_at(&self, at: usize) -> PendingAccess
+        requires { at < length self.now.pending }
+        ensures { slice_get self.now.pending at ≡ Some result }
+    {
+        self.accesses[self.first + at]
+    }
+
+    /// How many elements of the access at a place are touched.
+    fn touched_at(&self, at: usize) -> u32
+        requires { at < length self.now.pending }
+        ensures { result ≡ slice_index self.now.touched at }
+    {
+        self.touched[self.first + at]
+    }
+
+    /// Delivers the access at a place: it makes room for the touches that are left of it, and makes them in the order of
+    /// its elements. The answer is true where the access is done, and pending no more; it is false where an attempt came
+    /// too late, which never comes over a memory that tells its cells.
+    pub fn deliver<M: Memory, L: Keep>(
+        &mut self,
+        at: usize,
+        mem: &mut M,
+        layout: &Layout,
+        calls: &[Call],
+        log: &mut L,
+    ) -> Result<bool, NoMemory>
+        requires at { at < length self.old.pending }
+        requires deliverable { IsDeliverable self.old at layout.now calls.now (M.face mem.old) (L.free log.old) }
+        ensures delivered { IfOk result (λ done. Delivers self.old self.new at done layout.now calls.now
+            (M.face mem.old) (M.face mem.new) (M.knows mem.new) (L.kept log.old) (L.kept log.new)) }
+        ensures told { IfOk result (λ done. IfSome (M.face mem.old).told (λ cells.
+            (done ≡ true) × DeliversWhole self.old at layout.now calls.now cells
+            (M.face mem.new).told (L.kept log.old) (L.kept log.new))) }
+        ensures moved { IfOk result (λ done. done ≡ false → Rose (M.face mem.old).moves (M.face mem.new).moves) }
+        ensures known { Keeps (M.knows mem.old) (M.knows mem.new) }
+        ensures free_below { L.free log.new ≤ L.free log.old }
+        ensures home { L.home log.new ≡ L.home log.old }
+        ensures unchanged { OnErr result (self.new ≡ self.old) }
+        ensures kept { OnErr result (L.kept log.new ≡ L.kept log.old) }
+        ensures unwritten { OnErr result (mem.new ≡ mem.old) }
+    {
+        let one = self.access_at(at);
+        let from = self.touched_at(at);
+        let Some(call) = calls.get(one.number as usize) else {
+            unreachable!()
+        };
+        let progress = touch_pending(&one, from, mem, layout, call, log)?;
+        if progress.moved {
+            self.keep_touched(at, progress.next);
+            Ok(false)
+        } else {
+            self.remove(at);
+            Ok(true)
+        }
+    }
+}
