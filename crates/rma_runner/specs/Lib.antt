@@ -5,3 +5,4 @@ pub mod Lines
 pub mod Outputs
 pub mod Statuses
 pub mod Tops
+pub mod Words

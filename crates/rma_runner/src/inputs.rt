@@ -1,5 +1,6 @@
 //! A script from a source.
 ghost use Rattle.std.specs.Prelude.{◌≡◌, ◌≤◌, IfOk, IfErr};
+ghost use Rattle.rma_streams.specs.Ends.{NoLateRead};
 ghost use Rattle.rma_streams.specs.Faults.{Rose};
 ghost use Rattle.rank_script.specs.Accepting.{IsTextOf};
 ghost use Rattle.rma_runner.specs.Answers.{ReadsAs};
@@ -41,6 +42,7 @@ pub fn read_script<S: Source>(alloc: Global, source: &mut S) -> Result<Script, N
     ensures failed { result ≡ Err NoScript.Failed → Rose (S.faults source.old) (S.faults source.new) }
     ensures no_fault { (result ≡ Err NoScript.Failed → ⊥) → S.faults source.new ≡ S.faults source.old }
     ensures never_falls { S.faults source.old ≤ S.faults source.new }
+    ensures no_late_read { NoLateRead (S.end source.old) (S.end source.new) }
 {
     match read_input(alloc, source) {
         Ok(text) => script_of(alloc, text.as_slice()),

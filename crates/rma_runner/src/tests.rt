@@ -3,9 +3,12 @@ ghost use Rattle.std.specs.Prelude.{◌≡◌, ◌≤◌, IfOk};
 
 use crate::options::DEFAULT_OPTIONS;
 use crate::tops::{rma_main, step_main};
+use crate::words::{NoWords, end_without_words, words_of};
 use rma_streams::{MemorySink, MemorySource};
 use rma_types::OpenGate;
 use std::alloc::{AllocError, Global};
+use std::io;
+use std::io::ErrorKind;
 use std::process::Abort;
 use std::test::*;
 
@@ -14,6 +17,9 @@ const FENCED_PUT: &str =
 
 const FENCED_PUT_REPORT: &str =
     "ended\n1:3 value 5\nmemory 1 0 0500000000000000\nsummary accesses 2 touches 2 entries 12 refused 0 findings 0\n";
+
+const USAGE_LINE: &str =
+    "usage: rma_runner [--mode M] [--order O] [--workers N] [--delay D] [--seed S]\n";
 
 /// A source of a text, of at most so many bytes a read.
 fn source_of(
@@ -123,6 +129,12 @@ fn fails_where_a_read_fails(rt: HostRuntime) -> Result<(), Fail> {
         assert!(rt; sink.bytes().is_empty());
         assert!(rt; outcome.run.is_none());
     }
+    // The ninth read tells the end, and there is no tenth.
+    let mut source = source_of(alloc, FENCED_PUT, 16, &[10])?;
+    let mut sink = sink_of(alloc, 4096, &[])?;
+    let outcome = rma_main(alloc, &[], &mut source, &mut sink, &OpenGate);
+    assert_eq!(rt; outcome.status, 0);
+    assert_eq!(rt; sink.bytes(), FENCED_PUT_REPORT.as_bytes());
     Ok(())
 }
 
@@ -138,6 +150,12 @@ fn fails_where_a_write_fails(rt: HostRuntime) -> Result<(), Fail> {
         assert_eq!(rt; sink.bytes(), &whole[..8 * (number as usize - 1)]);
         assert!(rt; outcome.run.is_some());
     }
+    // The fourteenth write is the last, and there is no fifteenth.
+    let mut source = source_of(alloc, FENCED_PUT, 16, &[])?;
+    let mut sink = sink_of(alloc, 8, &[15])?;
+    let outcome = rma_main(alloc, &[], &mut source, &mut sink, &OpenGate);
+    assert_eq!(rt; outcome.status, 0);
+    assert_eq!(rt; sink.bytes(), FENCED_PUT_REPORT.as_bytes());
     Ok(())
 }
 
@@ -149,7 +167,42 @@ fn refuses_words(rt: HostRuntime) -> Result<(), Fail> {
     let mut sink = sink_of(alloc, 4096, &[])?;
     let outcome = rma_main(alloc, words.as_slice(), &mut source, &mut sink, &OpenGate);
     assert_eq!(rt; outcome.status, 2);
-    let usage = "usage: rma_runner [--mode M] [--order O] [--workers N] [--delay D] [--seed S]\n";
-    assert_eq!(rt; sink.bytes(), usage.as_bytes());
+    assert_eq!(rt; sink.bytes(), USAGE_LINE.as_bytes());
+    let mut sink = sink_of(alloc, 8, &[3])?;
+    let outcome = rma_main(alloc, words.as_slice(), &mut source, &mut sink, &OpenGate);
+    assert_eq!(rt; outcome.status, 5);
+    assert_eq!(rt; sink.bytes(), b"usage: rma_runne".as_slice());
+    Ok(())
+}
+
+#[test]
+fn hands_over_the_words_after_the_name(rt: HostRuntime) -> Result<(), Fail> {
+    let alloc = rt.alloc();
+    let name = String::from_str(alloc, "rma_runner")?;
+    let word = String::from_str(alloc, "--mode=step")?;
+    let arguments = vec![in alloc; name, word]?;
+    let words = words_of(alloc, Ok(arguments.into_iter()))
+        .ok()
+        .expect(&rt, "words");
+    assert_eq!(rt; words.len(), 1);
+    assert_eq!(rt; words[0].as_str(), "--mode=step");
+    let none: Vec<String> = Vec::new(alloc);
+    let words = words_of(alloc, Ok(none.into_iter()))
+        .ok()
+        .expect(&rt, "no words");
+    assert!(rt; words.is_empty());
+    Ok(())
+}
+
+#[test]
+fn refuses_a_word_that_is_no_text(rt: HostRuntime) -> Result<(), Fail> {
+    let alloc = rt.alloc();
+    let no_text = words_of(alloc, Err(io::Error::from(ErrorKind::InvalidData)));
+    assert!(rt; matches!(no_text, Err(NoWords::NoText)));
+    let no_memory = words_of(alloc, Err(io::Error::from(ErrorKind::OutOfMemory)));
+    assert!(rt; matches!(no_memory, Err(NoWords::NoMemory)));
+    let mut sink = sink_of(alloc, 4096, &[])?;
+    assert_eq!(rt; end_without_words(NoWords::NoText, &mut sink).status, 2);
+    assert_eq!(rt; sink.bytes(), USAGE_LINE.as_bytes());
     Ok(())
 }

@@ -2,6 +2,7 @@
 ghost use Rattle.std.specs.Prelude.{◌≡◌, ◌≢◌, ◌≤◌, ◌<◌, ◌-◌, ◌^◌, ◌⊎◌, ℕ, List, [], None, Some, IfSome};
 ghost use Rattle.rma_types.specs.declared.schedules.Delay.TheVariants.{None as NoDelay};
 ghost use Rattle.rma_types.specs.declared.schedules.Order.TheVariants.{Robin};
+ghost use Rattle.rma_streams.specs.Ends.{NoLateRead};
 ghost use Rattle.rma_streams.specs.Faults.{Rose};
 ghost use Rattle.rma_streams.specs.Moves.{Wrote, WrotePrefix};
 ghost use Rattle.rma_model.specs.BuiltForm.{IsBuilt};
@@ -97,6 +98,7 @@ fn answer<S: Source, K: Sink>(
     ensures write_failed { result.status ≡ WRITE_FAILED → Rose (K.faults sink.old) (K.faults sink.new) }
     ensures no_write_fault { result.status ≢ WRITE_FAILED → K.faults sink.new ≡ K.faults sink.old }
     ensures source_count { S.faults source.old ≤ S.faults source.new }
+    ensures no_late_read { NoLateRead (S.end source.old) (S.end source.new) }
     ensures sink_count { K.faults sink.old ≤ K.faults sink.new }
 {
     match read_script(alloc, source) {
@@ -148,6 +150,9 @@ pub fn step_main<S: Source, K: Sink>(
     ensures write_fault { result.status ≡ WRITE_FAILED → K.faults sink.old < K.faults sink.new }
     ensures no_write_fault { result.status ≢ WRITE_FAILED → K.faults sink.new ≡ K.faults sink.old }
 
+    // Where the end of the input is told, reading is over.
+    ensures no_late_read { NoLateRead (S.end source.old) (S.end source.new) }
+
     // Without faults a script's text is reported on, and any other is refused, unless memory runs out.
     ensures complete { (text : List ℕ) (script : ScriptValue) → IsTextOf text script → S.left source.old ≡ Some text
         → S.faults source.new ≡ S.faults source.old → K.faults sink.new ≡ K.faults sink.old
@@ -195,7 +200,7 @@ pub fn rma_main<S: Source, K: Sink, G: Gate>(
     // The words are refused, and their line was written.
     ensures usage { result.status ≡ WORDS_REFUSED
         → (words.now ≢ []) × Wrote (K.written sink.old) usage_line (K.written sink.new) × (result.run ≡ None) }
-    ensures untouched { words.now ≢ [] → (S.left source.new ≡ S.left source.old) × (S.faults source.new ≡ S.faults source.old) }
+    ensures untouched { words.now ≢ [] → source.new ≡ source.old }
     ensures words_refused { words.now ≢ []
         → (result.status ≡ WORDS_REFUSED) ⊎ ((result.status ≡ WRITE_FAILED) ⊎ (result.status ≡ OUT_OF_MEMORY)) }
     ensures words_accepted { words.now ≡ [] → IsStepStatus result.status }
@@ -210,6 +215,8 @@ pub fn rma_main<S: Source, K: Sink, G: Gate>(
         → (ReportedInPart DEFAULT_OPTIONS (S.left source.old) (S.left source.new) (K.written sink.old) (K.written sink.new) result.run
         ⊎ RefusedInPart (S.left source.old) (S.left source.new) (K.written sink.old) (K.written sink.new) result.run)
         ⊎ ((words.now ≢ []) × WrotePrefix (K.written sink.old) usage_line (K.written sink.new) × (result.run ≡ None)) }
+    ensures usage_cut { words.now ≢ [] → result.status ≡ WRITE_FAILED
+        → WrotePrefix (K.written sink.old) usage_line (K.written sink.new) × (result.run ≡ None) }
     ensures no_memory { result.status ≡ OUT_OF_MEMORY → (K.written sink.new ≡ K.written sink.old) × (result.run ≡ None) }
 
     // The counts of faults rise exactly where the status says so.
@@ -217,6 +224,9 @@ pub fn rma_main<S: Source, K: Sink, G: Gate>(
     ensures no_read_fault { result.status ≢ READ_FAILED → S.faults source.new ≡ S.faults source.old }
     ensures write_fault { result.status ≡ WRITE_FAILED → K.faults sink.old < K.faults sink.new }
     ensures no_write_fault { result.status ≢ WRITE_FAILED → K.faults sink.new ≡ K.faults sink.old }
+
+    // Where the end of the input is told, reading is over.
+    ensures no_late_read { NoLateRead (S.end source.old) (S.end source.new) }
 
     // Without words and without faults a script's text is reported on, and any other is refused, unless memory runs out.
     ensures complete { words.now ≡ [] → (text : List ℕ) (script : ScriptValue) → IsTextOf text script → S.left source.old ≡ Some text

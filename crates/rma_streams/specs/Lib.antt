@@ -1,5 +1,6 @@
--- The words of sources and sinks: counts of faults, bytes that move, and what the streams in memory hold.
+-- The words of sources and sinks: counts of faults, the end of an input, bytes that move, and what the streams hold.
 pub mod Faults
+pub mod Ends
 pub mod Moves
 pub mod Memory
 pub mod System

@@ -1,9 +1,11 @@
 //! A source in memory whose calls fail as planned.
 ghost use Rattle.std.specs.Prelude.{◌≡◌, ◌≤◌, ◌<◌, ◌++◌, [], Some, length, min, take, is_err, if◌then◌else◌, IfOk, OnOk, OnErr};
+ghost use Rattle.rma_streams.specs.Ends.{unread, after_read};
 ghost use Rattle.rma_streams.specs.Faults.{Rose, counted};
 ghost use Rattle.rma_streams.specs.Memory.{call_fails, called, faulted};
 
 use crate::cursors::ByteCursor;
+use crate::ends::EndMark;
 use crate::plans::FaultPlan;
 use crate::streams::{Failed, Source};
 use std::marker::Model;
@@ -18,6 +20,7 @@ pub struct MemorySource {
     rest: ByteCursor,
     piece: usize,
     plan: FaultPlan,
+    end: EndMark,
 }
 
 impl Model for MemorySource {
@@ -26,7 +29,12 @@ impl Model for MemorySource {
 
     ghost Value = { SourceState };
 
-    ghost view = { λ source. record { left = source.rest; piece = source.piece; plan = source.plan } };
+    ghost view = { λ source. record {
+      left = source.rest;
+      piece = source.piece;
+      plan = source.plan;
+      end = source.end;
+    } };
 
     ghost invariant = { λ source. 1 ≤ source.piece };
 }
@@ -39,11 +47,13 @@ impl MemorySource {
         ensures left { result.left ≡ bytes.items }
         ensures piece { result.piece ≡ piece }
         ensures plan { result.plan ≡ record { failing = failing.items; calls = 0; faults = 0 } }
+        ensures end { result.end ≡ unread }
     {
         MemorySource {
             rest: ByteCursor::new(bytes),
             piece,
             plan: FaultPlan::new(failing),
+            end: EndMark::new(),
         }
     }
 }
@@ -55,12 +65,15 @@ impl Source for MemorySource {
 
     ghost faults = { λ source. source.plan.faults };
 
+    ghost end = { λ source. source.end };
+
     /// Fails exactly where the number of the call is in the list.
     fn read(&mut self, buf: &mut [u8]) -> Result<usize, Failed>
         ensures fails { is_err result ≡ call_fails self.old.plan }
         ensures count { IfOk result (λ n. n ≡ min (min self.old.piece (length buf.new)) (length self.old.left)) }
         ensures moved { IfOk result (λ n. self.old.left ≡ take n buf.new ++ self.new.left) }
         ensures kept { OnErr result (self.new.left ≡ self.old.left) }
+        ensures told { self.new.end ≡ after_read self.old.end (length buf.new) result }
 
         // The call is counted, and its failure is one fault.
         ensures no_fault { OnOk result (self.new.plan ≡ called self.old.plan) }
@@ -70,10 +83,14 @@ impl Source for MemorySource {
         ensures piece { self.new.piece ≡ self.old.piece }
         ensures piece_at_least_one { 1 ≤ self.old.piece }
     {
+        let room = buf.len();
         if self.plan.count_call() {
             self.plan.count_fault();
+            self.end.note(room, Err(Failed));
             return Err(Failed);
         }
-        Ok(self.rest.take_into(self.piece, buf))
+        let count = self.rest.take_into(self.piece, buf);
+        self.end.note(room, Ok(count));
+        Ok(count)
     }
 }

@@ -1,7 +1,9 @@
 //! A source and a sink that never fail.
 ghost use Rattle.std.specs.Prelude.{◌≡◌, ◌≤◌, ◌<◌, ◌++◌, [], Some, None, length, min, take, IfOk, IsOkAnd};
+ghost use Rattle.rma_streams.specs.Ends.{unread, after_read};
 
 use crate::cursors::ByteCursor;
+use crate::ends::EndMark;
 use crate::streams::{Failed, Sink, Source};
 use std::alloc::{AllocError, Global};
 use std::marker::Model;
@@ -11,23 +13,26 @@ use std::marker::Model;
 #[derive(Debug, Drop)]
 pub struct SafeSource {
     rest: ByteCursor,
+    end: EndMark,
 }
 
 impl Model for SafeSource {
-    ghost use Rattle.std.specs.Prelude.{ℕ, List};
+    ghost use Rattle.rma_streams.specs.Memory.{SafeState};
 
-    ghost Value = { List ℕ };
+    ghost Value = { SafeState };
 
-    ghost view = { λ source. source.rest };
+    ghost view = { λ source. record { left = source.rest; end = source.end } };
 }
 
 impl SafeSource {
     /// A source of `bytes`.
     pub fn new(bytes: Vec<u8>) -> Self
-        ensures { result ≡ bytes.items }
+        ensures left { result.left ≡ bytes.items }
+        ensures end { result.end ≡ unread }
     {
         SafeSource {
             rest: ByteCursor::new(bytes),
+            end: EndMark::new(),
         }
     }
 }
@@ -35,16 +40,22 @@ impl SafeSource {
 impl Source for SafeSource {
     ghost use Rattle.std.specs.Prelude.{Some};
 
-    ghost left = { λ source. Some source };
+    ghost left = { λ source. Some source.left };
 
     ghost faults = { λ _. 0 };
 
+    ghost end = { λ source. source.end };
+
     /// Never fails.
     fn read(&mut self, buf: &mut [u8]) -> Result<usize, Failed>
-        ensures count { IsOkAnd result (λ n. n ≡ min (length buf.new) (length self.old)) }
-        ensures moved { IfOk result (λ n. self.old ≡ take n buf.new ++ self.new) }
+        ensures count { IsOkAnd result (λ n. n ≡ min (length buf.new) (length self.old.left)) }
+        ensures moved { IfOk result (λ n. self.old.left ≡ take n buf.new ++ self.new.left) }
+        ensures told { self.new.end ≡ after_read self.old.end (length buf.new) result }
     {
-        Ok(self.rest.take_into(buf.len(), buf))
+        let room = buf.len();
+        let count = self.rest.take_into(room, buf);
+        self.end.note(room, Ok(count));
+        Ok(count)
     }
 }
 

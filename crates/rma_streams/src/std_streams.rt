@@ -1,37 +1,81 @@
 //! The real standard input and output, as a source and a sink.
 ghost use Rattle.std.specs.Prelude.{◌≡◌, ◌≤◌, ◌<◌, length, IfOk, OnOk, OnErr};
 ghost use Rattle.std.specs.Io.KnownBytes.{ReadConsumes, WriteAppends};
+ghost use Rattle.rma_streams.specs.Ends.{unread, after_read};
 ghost use Rattle.rma_streams.specs.Faults.{Rose, counted};
 
+use crate::ends::EndMark;
 use crate::streams::{Failed, Sink, Source};
-use std::io::{Read, Write};
+use std::io::{ErrorKind, Read, Write};
 use std::marker::Model;
+
+/// The most calls of the system for one read or one write: it is tried again after a signal interrupted it
+/// (EINTR), at most 64 times.
+const MOST_CALLS: u32 = 65;
+
+/// Reads, and again where the call was interrupted.
+fn read_again<R: Read>(reader: &mut R, buf: &mut [u8]) -> Result<usize, Failed>
+    ensures within { IfOk result (λ n. n ≤ length buf.new) }
+    ensures moved { ReadConsumes (R.remaining reader.old) (R.remaining reader.new) result buf.new }
+{
+    'calls: for _ in 0..MOST_CALLS {
+        match reader.read(buf) {
+            Ok(count) => return Ok(count),
+            Err(error) if error.kind() == ErrorKind::Interrupted => {}
+            Err(_) => return Err(Failed),
+        }
+    }
+    Err(Failed)
+}
+
+/// Writes, and again where the call was interrupted. A write of no byte of a piece that is not empty failed.
+fn write_again<W: Write>(writer: &mut W, bytes: &[u8]) -> Result<usize, Failed>
+    ensures within { IfOk result (λ n. n ≤ length bytes.now) }
+    ensures some { IfOk result (λ n. 0 < length bytes.now → 0 < n) }
+    ensures appended { WriteAppends (W.contents writer.old) (W.contents writer.new) result bytes.now }
+{
+    'calls: for _ in 0..MOST_CALLS {
+        match writer.write(bytes) {
+            Ok(count) if count > 0 || bytes.is_empty() => return Ok(count),
+            Err(error) if error.kind() == ErrorKind::Interrupted => {}
+            _ => return Err(Failed),
+        }
+    }
+    Err(Failed)
+}
 
 /// A source over a reader of the system, as standard input. It tells no bytes.
 ///
-/// Contracts see the reader and the count of faults, which rises at each read that fails and stands still at
-/// 2^64 - 1. What the reader knows of its bytes is said of it, and stays out of the meaning as a `Source`.
+/// Contracts see the reader, the count of faults, which rises at each read that fails and stands still at
+/// 2^64 - 1, and the end as it was told. What the reader knows of its bytes is said of it, and stays out of the
+/// meaning as a `Source`.
 #[derive(Debug, Drop)]
 pub struct StdSource<R> {
     reader: R,
     faults: u64,
+    end: EndMark,
 }
 
 impl<R> Model for StdSource<R> {
-    ghost use Rattle.rma_streams.specs.System.{SystemStream};
+    ghost use Rattle.rma_streams.specs.System.{SystemInput};
 
-    ghost Value = { SystemStream R };
+    ghost Value = { SystemInput R };
 
-    ghost view = { λ source. record { stream = source.reader; faults = source.faults } };
+    ghost view = { λ source. record { stream = source.reader; faults = source.faults; end = source.end } };
 }
 
 impl<R: Read> StdSource<R> {
-    /// A source over `reader` that has had no fault.
+    /// A source over `reader` that has had no fault and was not read yet.
     pub fn new(reader: R) -> Self
         ensures stream { result.stream ≡ reader }
         ensures faults { result.faults ≡ 0 }
+        ensures end { result.end ≡ unread }
     {
-        StdSource { reader, faults: 0 }
+        StdSource {
+            reader,
+            faults: 0,
+            end: EndMark::new(),
+        }
     }
 }
 
@@ -42,10 +86,14 @@ impl<R: Read> Source for StdSource<R> {
 
     ghost faults = { λ source. source.faults };
 
-    /// Reads once, and hands on what the reader did.
+    ghost end = { λ source. source.end };
+
+    /// Hands on what the reader did. A call that a signal interrupted is made again, at most 64 times; then it
+    /// is a fault.
     fn read(&mut self, buf: &mut [u8]) -> Result<usize, Failed>
         ensures within { IfOk result (λ n. n ≤ length buf.new) }
         ensures moved { ReadConsumes (R.remaining self.old.stream) (R.remaining self.new.stream) result buf.new }
+        ensures told { self.new.end ≡ after_read self.old.end (length buf.new) result }
 
         // Each failure is one fault.
         ensures no_fault { OnOk result (self.new.faults ≡ self.old.faults) }
@@ -53,13 +101,13 @@ impl<R: Read> Source for StdSource<R> {
         ensures rose { OnErr result (Rose self.old.faults self.new.faults) }
         ensures never_falls { self.old.faults ≤ self.new.faults }
     {
-        match self.reader.read(buf) {
-            Ok(count) => Ok(count),
-            Err(_) => {
-                self.faults = self.faults.saturating_add(1);
-                Err(Failed)
-            }
+        let room = buf.len();
+        let answer = read_again(&mut self.reader, buf);
+        self.end.note(room, answer);
+        if answer.is_err() {
+            self.faults = self.faults.saturating_add(1);
         }
+        answer
     }
 }
 
@@ -98,7 +146,8 @@ impl<W: Write> Sink for StdSink<W> {
 
     ghost faults = { λ sink. sink.faults };
 
-    /// Writes once, and hands on what the writer did.
+    /// Hands on what the writer did. A call that a signal interrupted is made again, at most 64 times; then it
+    /// is a fault.
     fn write(&mut self, bytes: &[u8]) -> Result<usize, Failed>
         ensures within { IfOk result (λ n. n ≤ length bytes.now) }
         ensures some { IfOk result (λ n. 0 < length bytes.now → 0 < n) }
@@ -110,12 +159,10 @@ impl<W: Write> Sink for StdSink<W> {
         ensures rose { OnErr result (Rose self.old.faults self.new.faults) }
         ensures never_falls { self.old.faults ≤ self.new.faults }
     {
-        match self.writer.write(bytes) {
-            Ok(count) if count > 0 || bytes.is_empty() => Ok(count),
-            _ => {
-                self.faults = self.faults.saturating_add(1);
-                Err(Failed)
-            }
+        let answer = write_again(&mut self.writer, bytes);
+        if answer.is_err() {
+            self.faults = self.faults.saturating_add(1);
         }
+        answer
     }
 }

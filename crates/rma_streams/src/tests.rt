@@ -1,4 +1,6 @@
 //! What the clauses do not say: that calls succeed, and what the system's streams do.
+ghost use Rattle.std.specs.Prelude.{◌≡◌, IfOk};
+
 use crate::{
     Failed, MemorySink, MemorySource, READ_LIMIT, ReadError, SafeSink, SafeSource, Sink, Source,
     StdSink, StdSource, read_input, write_output,
@@ -20,6 +22,40 @@ impl Read for FailingReader {
         }
         self.failed = true;
         Err(io::Error::from(ErrorKind::Other))
+    }
+}
+
+/// A reader and writer that is interrupted as often as told, and then moves all.
+#[derive(Drop)]
+struct InterruptedStream {
+    times: u32,
+}
+
+impl InterruptedStream {
+    fn moves(&mut self, count: usize) -> io::Result<usize>
+        ensures { IfOk result (λ n. n ≡ count) }
+    {
+        if self.times == 0 {
+            return Ok(count);
+        }
+        self.times -= 1;
+        Err(io::Error::from(ErrorKind::Interrupted))
+    }
+}
+
+impl Read for InterruptedStream {
+    fn read(&mut self, buf: &mut [u8]) -> io::Result<usize> {
+        self.moves(buf.len())
+    }
+}
+
+impl Write for InterruptedStream {
+    fn write(&mut self, buf: &[u8]) -> io::Result<usize> {
+        self.moves(buf.len())
+    }
+
+    fn flush(&mut self) -> io::Result<()> {
+        Ok(())
     }
 }
 
@@ -53,6 +89,21 @@ fn std_sink_writes_and_counts_faults(rt: HostRuntime) {
     let mut full = StdSink::new(FullWriter);
     assert_eq!(rt; write_output(&mut full, b"none"), Err(Failed));
     assert_eq!(rt; full.write(b""), Ok(0));
+}
+
+#[test]
+fn interrupted_calls_are_tried_again(rt: HostRuntime) {
+    let mut piece = [0u8; 3];
+    let mut source = StdSource::new(InterruptedStream { times: 64 });
+    assert_eq!(rt; source.read(&mut piece), Ok(3));
+    let mut source = StdSource::new(InterruptedStream { times: 65 });
+    assert_eq!(rt; source.read(&mut piece), Err(Failed));
+    assert_eq!(rt; source.read(&mut piece), Ok(3));
+    let mut sink = StdSink::new(InterruptedStream { times: 64 });
+    assert_eq!(rt; sink.write(b"abc"), Ok(3));
+    let mut sink = StdSink::new(InterruptedStream { times: 65 });
+    assert_eq!(rt; sink.write(b"abc"), Err(Failed));
+    assert_eq!(rt; sink.write(b"abc"), Ok(3));
 }
 
 #[test]

@@ -1,5 +1,6 @@
 //! A whole input, and a whole output.
 ghost use Rattle.std.specs.Prelude.{◌≡◌, ◌≤◌, ◌<◌, ◌⊎◌, length, vec_len, IfOk, OnOk, OnErr};
+ghost use Rattle.rma_streams.specs.Ends.{NoLateRead};
 ghost use Rattle.rma_streams.specs.Faults.{Rose};
 ghost use Rattle.rma_streams.specs.Moves.{AtEnd, Took, TookSome, Wrote, WrotePrefix};
 
@@ -49,6 +50,9 @@ pub fn read_input<S: Source>(alloc: Global, source: &mut S) -> Result<Vec<u8>, R
     ensures whole { IfOk result (λ bytes. AtEnd (S.left source.new) ⊎ (vec_len bytes ≡ READ_LIMIT)) }
     ensures within { IfOk result (λ bytes. vec_len bytes ≤ READ_LIMIT) }
     ensures lost { OnErr result (TookSome (S.left source.old) (S.left source.new)) }
+
+    // Where the end is told, reading is over.
+    ensures no_late_read { NoLateRead (S.end source.old) (S.end source.new) }
 
     // Why it failed. Want of memory is no fault of the source.
     ensures never_falls { S.faults source.old ≤ S.faults source.new }

@@ -26,6 +26,7 @@ returns g c =
       no_read_fault = c.answer.ensures.no_read_fault;
       write_fault = write_fault;
       no_write_fault = c.answer.ensures.no_write_fault;
+      no_late_read = c.answer.ensures.no_late_read;
       complete = λ text script is told same_source same_sink. ending.complete options lb la before after outcome case text script is told
           (λ e. let rise = read_fault e in omega arith) (λ e. let rise = write_fault e in omega arith);
       refuses = λ text none told same_source same_sink. ending.refuses options lb la before after outcome case text none told
