@@ -1,2 +1,5 @@
-//! windows
+//! The windows of a rank and its ranges of memory: MPI 3.1, sections 11.2 and 11.3.
 #![tactic(auto)]
+
+mod region;
+mod sorted;

@@ -1,0 +1,2 @@
+-- What the code of this crate keeps of a rank's ranges.
+pub mod Ascending

@@ -1,0 +1,39 @@
+//! Searches among ranges that have no byte in common, in ascending order.
+ghost use Rattle.std.specs.Prelude.{◌≡◌, ◌≤◌, ◌<◌, ◌+◌};
+ghost use Rattle.std.specs.List.{list_any};
+ghost use Rattle.rank_rules.specs.Ranges.{do_overlap};
+ghost use Rattle.rank_rules.specs.Windows.{is_attached_from};
+ghost use Rattle.window_regions.specs.Ascending.{IsAscending, IsFirstPast};
+
+use crate::region::Region;
+
+/// The place of the first range that ends past the address.
+pub fn first_past(ranges: &[Region], address: u32) -> usize
+    requires { IsAscending ranges.now }
+    ensures { IsFirstPast ranges.now address result }
+{
+    ranges.partition_point(|range| range.end() <= address)
+}
+
+/// Whether a byte of the range, which has bytes, lies in one of the ranges.
+pub fn do_any_overlap(ranges: &[Region], base: u32, bytes: u32) -> bool
+    requires ascending { IsAscending ranges.now }
+    requires some { 0 < bytes }
+    ensures { result ≡ list_any (λ own. do_overlap (record { base = base; bytes = bytes }) own.range) ranges.now }
+{
+    match ranges.get(first_past(ranges, base)) {
+        None => false,
+        Some(range) => u64::from(range.base()) < u64::from(base) + u64::from(bytes),
+    }
+}
+
+/// Whether one of the ranges is attached to the window and begins at the base.
+pub fn does_any_begin(ranges: &[Region], win: u8, base: u32) -> bool
+    requires { IsAscending ranges.now }
+    ensures { result ≡ list_any (is_attached_from win base) ranges.now }
+{
+    match ranges.get(first_past(ranges, base)) {
+        None => false,
+        Some(range) => range.is_attached() && range.win() == win && range.base() == base,
+    }
+}
