@@ -1,2 +1,3 @@
 -- What the code of this crate keeps of a rank's ranges.
 pub mod Ascending
+pub mod Places

@@ -21,9 +21,12 @@ pub fn do_any_overlap(ranges: &[Region], base: u32, bytes: u32) -> bool
     requires some { 0 < bytes }
     ensures { result ≡ list_any (λ own. do_overlap (record { base = base; bytes = bytes }) own.range) ranges.now }
 {
-    match ranges.get(first_past(ranges, base)) {
-        None => false,
-        Some(range) => u64::from(range.base()) < u64::from(base) + u64::from(bytes),
+    let at = first_past(ranges, base);
+    if at < ranges.len() {
+        let range = ranges[at];
+        u64::from(range.base()) < u64::from(base) + u64::from(bytes)
+    } else {
+        false
     }
 }
 
@@ -32,8 +35,18 @@ pub fn does_any_begin(ranges: &[Region], win: u8, base: u32) -> bool
     requires { IsAscending ranges.now }
     ensures { result ≡ list_any (is_attached_from win base) ranges.now }
 {
-    match ranges.get(first_past(ranges, base)) {
-        None => false,
-        Some(range) => range.is_attached() && range.win() == win && range.base() == base,
+    let at = first_past(ranges, base);
+    if at < ranges.len() {
+        let range = ranges[at];
+        is_attached_at(&range, win, base)
+    } else {
+        false
     }
+}
+
+/// Whether the range is attached to the window and begins at the base.
+pub fn is_attached_at(range: &Region, win: u8, base: u32) -> bool
+    ensures { result ≡ is_attached_from win base range.now }
+{
+    range.is_attached() && range.win() == win && range.base() == base
 }

@@ -1,0 +1,2 @@
+-- Proofs of the code of this crate.
+pub mod Searches
