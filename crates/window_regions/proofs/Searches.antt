@@ -1,13 +1,19 @@
 -- What a search among ascending ranges finds.
-use Rattle.std.proofs.Common.{◌≡◌, ℕ, ◌+◌, ◌<◌, ◌≤◌, ◌==◌, Bool, true, false, not, ◌&&◌, ◌||◌, nat_lt, nat_le, List, [], ◌∷◌, length, slice_index_or, refl, sym, ◌∙◌, ap, subst, arith, inl, inr}
+use Rattle.std.proofs.Common.{◌≡◌, ℕ, zero, suc, ◌+◌, ◌<◌, ◌≤◌, ◌==◌, Bool, true, false, not, ◌&&◌, ◌||◌, nat_lt, nat_le, List, [], ◌∷◌, length, slice_index_or, refl, sym, ◌∙◌, ap, subst, arith, inl, inr}
 use Rattle.std.specs.Prelude.{◌⊎◌}
-use Rattle.std.specs.List.{list_any}
+use Rattle.std.specs.List.{list_any, list_all}
+use Rattle.call_rules.specs.Pieces.{numbers_from}
 use Rattle.std.specs.List.Sorted.{IsPartitionedBy, IsPartitionPoint}
-use Rattle.std.proofs.lemmas.Bool.{cases_lt, cases_order, cases_Bool, leb-true, le-leb, leb-false, ltb-true, ltb-false, lt-ltb, le-ltb, and_parts, and_from, and_left, and_right, eq-eqb, eqb-true, ne_eqb}
+use Rattle.std.proofs.lemmas.Bool.{cases_lt, cases_order, cases_Bool, leb-true, le-leb, leb-false, ltb-true, ltb-false, lt-ltb, le-ltb, lt-leb, and_parts, and_from, and_left, and_right, eq-eqb, eqb-true, ne_eqb}
+use Rattle.std.proofs.lemmas.List.{get_or_default}
 use Rattle.std.proofs.lemmas.List.Recursion.{or_at, or_from_places}
 use Rattle.rank_rules.specs.Ranges.{Range, do_overlap}
 use Rattle.rank_rules.specs.Windows.{OwnRange, is_attached_from}
-use Rattle.window_regions.specs.Ascending.{end_of, IsBefore, IsAscending, IsFirstPast}
+use Rattle.window_regions.specs.Ascending.{end_of, IsBefore, IsAscending, IsFirstPast, is_attached_byte}
+
+-- what is read past the end of a list
+abbrev pub no_range : OwnRange
+no_range = record { win = 0; range = record { base = 0; bytes = 0 }; is_attached = false }
 
 -- a range ends no later than those after it
 end-rises : (xs : List OwnRange) → IsAscending xs → (i j : ℕ) (d : OwnRange) → i ≤ j → j < length xs
@@ -167,3 +173,105 @@ begin_at xs win base at own up first lt is = by_test (cases_Bool (is_attached_fr
 pub begin_past_all : (xs : List OwnRange) (win base at : ℕ) (d : OwnRange) → IsAscending xs → IsFirstPast xs base at
     → length xs ≤ at → false ≡ list_any (is_attached_from win base) xs
 begin_past_all xs win base at d up first none = sym (begin_elsewhere xs win base at d up first (λ lt. absurd (omega arith)))
+
+-- ---- bytes that are attached
+
+-- a byte lies in no range, where those before a place end by it, and none from there on has it
+pub byte_nowhere : (xs : List OwnRange) (win address at : ℕ) (d : OwnRange) → IsAscending xs → IsFirstPast xs address at
+    → (at < length xs → is_attached_byte win address (slice_index_or xs at d) ≡ false)
+    → list_any (is_attached_byte win address) xs ≡ false
+byte_nowhere xs win address at d up first here =
+    or_from_places (list_any (is_attached_byte win address)) (is_attached_byte win address) refl (λ x rest. refl) xs d each
+  where
+    each : (i : ℕ) → i < length xs → is_attached_byte win address (slice_index_or xs i d) ≡ false
+    each i lt = by_place (cases_lt i at)
+      where
+        by_place : ((i < at) ⊎ (at ≤ i)) → is_attached_byte win address (slice_index_or xs i d) ≡ false
+        by_place (inl below) =
+            let ends : end_of (slice_index_or xs i d) ≤ address = first.before i d below in
+            and_right _ _ (and_right _ _ (le-ltb _ _ ends))
+        by_place (inr above) = by_order (cases_lt at i)
+          where
+            by_order : ((at < i) ⊎ (i ≤ at)) → is_attached_byte win address (slice_index_or xs i d) ≡ false
+            by_order (inl later) =
+                let past : address < end_of (slice_index_or xs at d) = first.after at d (omega arith) (omega arith) in
+                let before : end_of (slice_index_or xs at d) ≤ (slice_index_or xs i d).range.base = up.in_order at i d later lt in
+                and_right _ _ (and_left _ _ (lt-leb (slice_index_or xs i d).range.base address (omega arith)))
+            by_order (inr at_place) =
+                let same : at ≡ i = omega arith in
+                subst (λ (k : ℕ). is_attached_byte win address (slice_index_or xs k d) ≡ false) same (here (omega arith))
+
+-- a range that has one byte has those up to its end
+pub bytes_of_range : (xs : List OwnRange) (win address a at : ℕ) (own : OwnRange) → at < length xs
+    → own ≡ slice_index_or xs at own → is_attached_byte win address own ≡ true → address ≤ a → a < end_of own
+    → list_any (is_attached_byte win a) xs ≡ true
+bytes_of_range xs win address a at own lt is has le within =
+    let parts = and_parts _ _ has in
+    let bounds = and_parts _ _ parts.1 in
+    let low : own.range.base ≤ address = leb-true _ _ bounds.0 in
+    let there : is_attached_byte win a own ≡ true =
+        and_from _ _ parts.0 (and_from _ _ (le-leb own.range.base a (omega arith)) (lt-ltb a (end_of own) within)) in
+    or_at (list_any (is_attached_byte win a)) (is_attached_byte win a) refl (λ x rest. refl) xs at own lt
+        (subst (λ (o : OwnRange). is_attached_byte win a o ≡ true) is there)
+
+-- a test of numbers from one on holds of all where it holds of each
+pub list_all-numbers_from : (p : ℕ → Bool) (low len : ℕ) → ((a : ℕ) → low ≤ a → a < low + len → p a ≡ true)
+    → list_all p (numbers_from low len) ≡ true
+list_all-numbers_from p low zero h = refl
+list_all-numbers_from p low (suc len) h =
+    and_from _ _ (h low (omega arith) (omega arith))
+        (list_all-numbers_from p (low + 1) len (λ a le lt. h a (omega arith) (omega arith)))
+
+-- and fails where it fails of one
+pub list_all-numbers_from_fails : (p : ℕ → Bool) (low len a : ℕ) → low ≤ a → a < low + len → p a ≡ false
+    → list_all p (numbers_from low len) ≡ false
+list_all-numbers_from_fails p low zero a le lt h = absurd (omega arith)
+list_all-numbers_from_fails p low (suc len) a le lt h = by_place (cases_lt low a) (list_all-numbers_from_fails p (low + 1) len a)
+  where
+    by_place : ((low < a) ⊎ (a ≤ low))
+        → (low + 1 ≤ a → a < low + 1 + len → p a ≡ false → list_all p (numbers_from (low + 1) len) ≡ false)
+        → list_all p (numbers_from low (suc len)) ≡ false
+    by_place (inl later) rest = and_right _ _ (rest (omega arith) (omega arith) h)
+    by_place (inr here) rest =
+        let same : a ≡ low = omega arith in
+        and_left _ _ (subst (λ (k : ℕ). p k ≡ false) same h)
+
+-- the ranges before a place end by an address, those from there on end past it, and the bytes up to it are attached
+pub record IsCoveredUpTo (xs : List OwnRange) (win low at address : ℕ) : Type 0 where
+  pub reached : low ≤ address
+  pub first : IsFirstPast xs address at
+  pub covered : (a : ℕ) → low ≤ a → a < address → list_any (is_attached_byte win a) xs ≡ true
+
+-- the next range has the bytes up to its end
+pub IsCoveredUpTo-more : (xs : List OwnRange) (win low at address : ℕ) (own : OwnRange) → IsAscending xs
+    → IsCoveredUpTo xs win low at address → at < length xs → own ≡ slice_index_or xs at own
+    → is_attached_byte win address own ≡ true → IsCoveredUpTo xs win low (at + 1) (end_of own)
+IsCoveredUpTo-more xs win low at address own up so lt is has = record {
+  reached = reached;
+  first = record { within = omega arith; before = before; after = after };
+  covered = covered;
+}
+  where
+    past : address < end_of own
+    past = subst (λ (o : OwnRange). address < end_of o) (sym is) (so.first.after at own (omega arith) lt)
+    reached : low ≤ end_of own
+    reached = let below = so.reached in let beyond : address < end_of own = past in omega arith
+    ends : (d : OwnRange) → end_of (slice_index_or xs at d) ≡ end_of own
+    ends d = ap end_of (get_or_default xs at d own lt ∙ sym is)
+    before : (i : ℕ) (d : OwnRange) → i < at + 1 → end_of (slice_index_or xs i d) ≤ end_of own
+    before i d below =
+        let rises : end_of (slice_index_or xs i d) ≤ end_of (slice_index_or xs at d) = end-rises xs up i at d (omega arith) lt in
+        let same : end_of (slice_index_or xs at d) ≡ end_of own = ends d in
+        omega arith
+    after : (i : ℕ) (d : OwnRange) → at + 1 ≤ i → i < length xs → end_of own < end_of (slice_index_or xs i d)
+    after i d above within =
+        let next : end_of (slice_index_or xs at d) ≤ (slice_index_or xs i d).range.base = up.in_order at i d (omega arith) within in
+        let some : 0 < (slice_index_or xs i d).range.bytes = up.with_bytes i d within in
+        let same : end_of (slice_index_or xs at d) ≡ end_of own = ends d in
+        omega arith
+    covered : (a : ℕ) → low ≤ a → a < end_of own → list_any (is_attached_byte win a) xs ≡ true
+    covered a le within = by_place (cases_lt a address)
+      where
+        by_place : ((a < address) ⊎ (address ≤ a)) → list_any (is_attached_byte win a) xs ≡ true
+        by_place (inl early) = so.covered a le early
+        by_place (inr late) = bytes_of_range xs win address a at own lt is has late within

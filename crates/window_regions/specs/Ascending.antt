@@ -1,5 +1,6 @@
 -- Ranges of memory without a byte in common, in ascending order.
-use Rattle.std.specs.Prelude.{ℕ, ◌≡◌, ◌+◌, ◌<◌, ◌≤◌, List, length, slice_index_or, AllPairs}
+use Rattle.std.specs.Prelude.{ℕ, Bool, ◌&&◌, ◌==◌, ◌+◌, ◌<◌, ◌≤◌, List, length, slice_index_or, AllPairs}
+use Rattle.rank_rules.specs.Ranges.{has_byte}
 use Rattle.rank_rules.specs.Windows.{OwnRange}
 
 -- the address after the last byte
@@ -20,3 +21,7 @@ pub record IsFirstPast (ranges : List OwnRange) (address : ℕ) (at : ℕ) : Typ
   pub within : at ≤ length ranges
   pub before : (i : ℕ) (d : OwnRange) → i < at → end_of (slice_index_or ranges i d) ≤ address
   pub after : (i : ℕ) (d : OwnRange) → at ≤ i → i < length ranges → address < end_of (slice_index_or ranges i d)
+
+-- the byte lies in the range, which is attached to the window
+abbrev pub is_attached_byte : ℕ → ℕ → OwnRange → Bool
+is_attached_byte win address own = (own.is_attached && own.win == win) && has_byte address own.range
