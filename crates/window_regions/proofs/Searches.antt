@@ -275,3 +275,32 @@ IsCoveredUpTo-more xs win low at address own up so lt is has = record {
         by_place : ((a < address) ⊎ (address ≤ a)) → list_any (is_attached_byte win a) xs ≡ true
         by_place (inl early) = so.covered a le early
         by_place (inr late) = bytes_of_range xs win address a at own lt is has late within
+
+-- where the end is reached, each byte is attached
+pub covered_whole : (xs : List OwnRange) (win low len at address : ℕ) → IsCoveredUpTo xs win low at address
+    → low + len ≤ address
+    → true ≡ list_all (λ (a : ℕ). list_any (is_attached_byte win a) xs) (numbers_from low len)
+covered_whole xs win low len at address so reached =
+    sym (list_all-numbers_from (λ (a : ℕ). list_any (is_attached_byte win a) xs) low len
+        (λ a le lt. so.covered a le (omega arith)))
+
+-- where the next byte is in no range, not each byte is
+pub gap_found : (xs : List OwnRange) (win low len at address : ℕ) (d : OwnRange) → IsAscending xs
+    → IsCoveredUpTo xs win low at address → address < low + len
+    → (at < length xs → is_attached_byte win address (slice_index_or xs at d) ≡ false)
+    → false ≡ list_all (λ (a : ℕ). list_any (is_attached_byte win a) xs) (numbers_from low len)
+gap_found xs win low len at address d up so more here =
+    sym (list_all-numbers_from_fails (λ (a : ℕ). list_any (is_attached_byte win a) xs) low len address so.reached more
+        (byte_nowhere xs win address at d up so.first here))
+
+-- and past the last range the address alone tells
+pub covered_at_end : (xs : List OwnRange) (win low len at address : ℕ) → IsAscending xs
+    → IsCoveredUpTo xs win low at address → length xs ≤ at
+    → nat_le (low + len) address ≡ list_all (λ (a : ℕ). list_any (is_attached_byte win a) xs) (numbers_from low len)
+covered_at_end xs win low len at address up so none = by_test (cases_Bool (nat_le (low + len) address))
+  where
+    by_test : ((nat_le (low + len) address ≡ true) ⊎ (nat_le (low + len) address ≡ false))
+        → nat_le (low + len) address ≡ list_all (λ (a : ℕ). list_any (is_attached_byte win a) xs) (numbers_from low len)
+    by_test (inl reached) = reached ∙ covered_whole xs win low len at address so (leb-true _ _ reached)
+    by_test (inr more) =
+        more ∙ gap_found xs win low len at address no_range up so (leb-false _ _ more) (λ lt. absurd (omega arith))
