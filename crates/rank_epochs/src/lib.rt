@@ -6,10 +6,13 @@
 #![tactic(auto)]
 
 mod access;
+mod classes;
 mod exposure;
 mod ranks;
 mod state;
-mod tests;
 mod windows;
+
+#[cfg(test)]
+mod tests;
 
 pub use state::EpochState;

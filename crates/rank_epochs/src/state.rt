@@ -8,7 +8,7 @@ ghost use Rattle.rank_epochs.specs.Accepted.{IsAccepted};
 ghost use Rattle.rank_epochs.specs.Reach.{epochs_after_use};
 
 use crate::ranks::{is_rank, is_wrong_group};
-use crate::tests::{has_more_than_nocheck, synchronisation_class};
+use crate::classes::{has_more_than_nocheck, synchronisation_class};
 use crate::windows::WindowEpochs;
 use rank_rules::first_class;
 use rma_types::{Call, Class};

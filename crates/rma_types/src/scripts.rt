@@ -8,7 +8,7 @@ pub struct NoMemory;
 
 /// A rank's part of a window: where it begins in the rank's memory, its bytes and its displacement unit
 /// (MPI 3.1, section 11.2).
-#[derive(Clone, Copy, Debug, PartialEq, Eq)]
+#[derive(Clone, Copy, Debug, Default, PartialEq, Eq)]
 pub struct Part {
     pub base: u32,
     pub bytes: u32,

@@ -1,0 +1,81 @@
+-- The ranges for searches stay those of all ranges.
+use Rattle.std.proofs.Common.{◌≡◌, ℕ, suc, ◌+◌, ◌-◌, ◌<◌, ◌≤◌, Bool, true, false, not, ◌&&◌, ◌||◌, nat_lt, List, [], ◌∷◌, ◌++◌, length, slice_index_or, take, drop, map, filter, refl, sym, ◌∙◌, ap, subst, inl, inr, arith, take_append_drop}
+use Rattle.std.specs.Prelude.{◌⊎◌, insert, All}
+use Rattle.std.specs.List.{list_any}
+use Rattle.std.proofs.lemmas.Bool.{cases_lt, cases_Bool, cases_order, ltb-true, ltb-false, or_parts, false≢true}
+use Rattle.std.proofs.lemmas.List.Edits.{length-insert, get_or-insert_below, get_or-insert_at, get_or-insert_above}
+use Rattle.std.proofs.lemmas.List.Elements.{All-filter, All-get_or, All-from_get_or}
+use Rattle.std.proofs.lemmas.List.Folds.{list_any-append, list_any_at}
+use Rattle.std.proofs.lemmas.List.Kept.{AllPairs-filter}
+use Rattle.rank_rules.specs.Ranges.{Range, do_overlap, is_taken}
+use Rattle.rank_rules.specs.Windows.{OwnRange}
+use Rattle.window_regions.specs.Ascending.{end_of, IsBefore, IsAscending, IsFirstPast}
+use Rattle.window_regions.specs.Indexed.{IsIndexed}
+use Rattle.window_regions.proofs.Searches.{no_range, do_overlap-true}
+use Rattle.window_regions.proofs.Tests.{list_any-agree, list_any-filter, list_any-map}
+
+and-swap : (a b c : Bool) → (a && (b && c)) ≡ (b && (a && c))
+and-swap true b c = refl
+and-swap false true c = refl
+and-swap false false c = refl
+
+or-false : (a : Bool) → (a || false) ≡ a
+or-false true = refl
+or-false false = refl
+
+or-swap : (a b c : Bool) → (a || (b || c)) ≡ (b || (a || c))
+or-swap true true c = refl
+or-swap true false c = refl
+or-swap false b c = refl
+
+-- ascending ranges, some left out
+IsAscending-filter : (q : OwnRange → Bool) (xs : List OwnRange) → IsAscending xs → IsAscending (filter q xs)
+IsAscending-filter q xs up = record {
+  in_order = AllPairs-filter IsBefore q xs up.in_order;
+  with_bytes = λ i d lt. All-get_or HasBytes (filter q xs) i d lt (All-filter q HasBytes xs each);
+}
+  where
+    HasBytes : OwnRange → Type 0
+    HasBytes own = 0 < own.range.bytes
+    each : All (λ (own : OwnRange). 0 < own.range.bytes) xs
+    each = All-from_get_or (λ (own : OwnRange). 0 < own.range.bytes) xs no_range (λ i lt. up.with_bytes i no_range lt)
+
+-- some ranges are left out of all lists
+pub IsIndexed-filter : (q : OwnRange → Bool) (ranges created attached : List OwnRange) → IsIndexed ranges created attached
+    → IsIndexed (filter q ranges) (filter q created) (filter q attached)
+IsIndexed-filter q ranges created attached so = record {
+  of_created = λ test.
+      list_any-filter test q created
+      ∙ so.of_created (λ own. q own && test own)
+      ∙ list_any-agree _ _ (λ (own : OwnRange). and-swap (not own.is_attached) (q own) (test own)) ranges
+      ∙ sym (list_any-filter (λ (own : OwnRange). not own.is_attached && test own) q ranges);
+  of_attached = λ test.
+      list_any-filter test q attached
+      ∙ so.of_attached (λ own. q own && test own)
+      ∙ list_any-agree _ _ (λ (own : OwnRange). and-swap own.is_attached (q own) (test own)) ranges
+      ∙ sym (list_any-filter (λ (own : OwnRange). own.is_attached && test own) q ranges);
+  ascending = IsAscending-filter q attached so.ascending;
+}
+
+-- the range of a created window comes to the ranges
+pub IsIndexed-created : (ranges created attached : List OwnRange) (win base bytes : ℕ) → IsIndexed ranges created attached
+    → IsIndexed (ranges ++ record { win = win; range = record { base = base; bytes = bytes }; is_attached = false } ∷ [])
+        (created ++ record { win = win; range = record { base = base; bytes = bytes }; is_attached = false } ∷ []) attached
+IsIndexed-created ranges created attached win base bytes so = record {
+  of_created = λ test.
+      list_any-append test created _
+      ∙ ap (λ b. b || (test (record { win = win; range = record { base = base; bytes = bytes }; is_attached = false }) || false)) (so.of_created test)
+      ∙ sym (list_any-append (λ (own : OwnRange). not own.is_attached && test own) ranges _);
+  of_attached = λ test.
+      so.of_attached test
+      ∙ sym (or-false _)
+      ∙ sym (list_any-append (λ (own : OwnRange). own.is_attached && test own) ranges _);
+  ascending = so.ascending;
+}
+
+list_any-insert : (test : OwnRange → Bool) (xs : List OwnRange) (at : ℕ) (own : OwnRange)
+    → list_any test (insert xs at own) ≡ (test own || list_any test xs)
+list_any-insert test xs at own =
+    list_any-append test (take at xs) (own ∷ drop at xs)
+    ∙ or-swap (list_any test (take at xs)) (test own) (list_any test (drop at xs))
+    ∙ ap (λ b. test own || b) (sym (list_any-append test (take at xs) (drop at xs)) ∙ ap (list_any test) (take_append_drop at xs))
