@@ -5,9 +5,9 @@ use Rattle.script_reader.specs.Lexing.{tokens_in}
 use Rattle.script_reader.proofs.tokens.read_fields.Given as goal
 
 -- the tokens that are left give what the whole line gives
-abbrev pub invariant-loop-rest : goal.invariant-loop-rest
-invariant-loop-rest l =
+abbrev pub invariant-loop-token : goal.invariant-loop-token
+invariant-loop-token l =
     tokens_read l.draft l.fields l.left (tokens_in l.rest) ≡ tokens_read l.draft no_fields l.places (tokens_in l.line)
 
-abbrev pub decreases-loop-rest : goal.decreases-loop-rest
-decreases-loop-rest l = length l.rest
+abbrev pub decreases-loop-token : goal.decreases-loop-token
+decreases-loop-token l = length l.rest
