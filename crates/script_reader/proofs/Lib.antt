@@ -1,2 +1,5 @@
 -- Lemmas on definitions, which the proofs of the reader cite.
 pub mod Cuts
+pub mod Charging
+pub mod LineRanges
+pub mod Growing

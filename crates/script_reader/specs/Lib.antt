@@ -2,3 +2,6 @@
 pub mod Lexing
 pub mod Answers
 pub mod Telling
+pub mod Sound
+pub mod Totals
+pub mod Counted

@@ -4,11 +4,15 @@
 //! its values or its group alone, and a repeat for what its expansion holds.
 #![tactic(auto)]
 
+mod calls;
+mod copies;
 mod errors;
 mod integers;
 mod lexing;
 mod numerals;
+mod readers;
 mod tokens;
+mod totals;
 mod words;
 
 pub use script_language::{Fault, FaultKind};
