@@ -46,8 +46,10 @@ within_err t u kind h calls bytes =
           let none : (leb u.calls 65536 && leb u.bytes 65536) ≡ false = grind (arith, common_steps) in rw none (ap (λ (k : FaultKind). Err k) g.1)
     ]
 
-same_totals : (t u : Totals) → t.calls ≡ u.calls → t.bytes ≡ u.bytes → t ≡ u
-same_totals t u calls bytes = cc
+pub same_totals : (t u : Totals) → t.calls ≡ u.calls → t.bytes ≡ u.bytes → t ≡ u
+same_totals t u calls bytes =
+    let made : ℕ → ℕ → Totals = λ n m. record { calls = n; bytes = m } in
+    ap (λ n. made n t.bytes) calls ∙ ap (λ m. made u.calls m) bytes
 
 -- one call, and then the others
 pub one_more : (t : Totals) (ranks times : ℕ) (call : Call) (calls : List Call) → totals_behind t ranks times (call ∷ calls) ≡ totals_behind (totals_with t ranks times (times * call_bytes call)) ranks times calls

@@ -1,5 +1,5 @@
 -- Lists of calls that grow, and their totals.
-use Rattle.std.proofs.Common.{◌≡◌, ℕ, zero, suc, ◌+◌, ◌*◌, ◌<◌, ◌≤◌, Bool, true, false, ◌&&◌, cond, leb, List, [], ◌∷◌, ◌++◌, map, length, get_or, set, replicate, Option, Some, None, unwrap_or, Ok, Err, Result, refl, ap, sym, ◌∙◌, arith, sum_by, add-one, append_assoc, append_nil, subst, length-append}
+use Rattle.std.proofs.Common.{◌≡◌, ℕ, zero, suc, ◌+◌, ◌*◌, ◌<◌, ◌≤◌, Bool, true, false, ◌&&◌, cond, leb, List, [], ◌∷◌, ◌++◌, map, length, get_or, set, replicate, Option, Some, None, unwrap_or, Ok, Err, Result, refl, ap, sym, ◌∙◌, arith, sum_by, add-one, append_assoc, append-nil, subst, length-append}
 use Rattle.std.specs.Prelude.{is_some}
 use Rattle.std.specs.List.{AllByRecursion, zip}
 use Rattle.std.proofs.lemmas.Grind.{common_steps}
@@ -15,13 +15,16 @@ use Rattle.script_language.specs.declared.forms.Form.TheVariants.{Ranks, Space, 
 use Rattle.script_language.specs.Drafts.{repeated, added_to, script_of, with_line, with_call, limited, is_within_limits, is_in_repeat}
 use Rattle.script_reader.specs.declared.totals.Totals.{Totals}
 use Rattle.script_reader.specs.Sound.{IsSoundDraft, IsNewSpace}
+use Rattle.script_reader.proofs.Charging.{same_totals}
 use Rattle.script_reader.specs.Totals.{totals_of, within_limits, totals_with, totals_behind}
 
+repeated_suc : (times : ℕ) (calls : List Call) → repeated (suc times) calls ≡ repeated times calls ++ calls
+repeated_suc zero calls = append-nil calls
+repeated_suc (suc times) calls =
+    ap (λ (xs : List Call). calls ++ xs) (repeated_suc times calls) ∙ sym (append_assoc calls (repeated times calls) calls)
+
 pub repeated_more : (times : ℕ) (calls : List Call) → repeated (times + 1) calls ≡ repeated times calls ++ calls
-repeated_more zero calls = rw add-one (simp (append_nil {A = Call}))
-repeated_more (suc times) calls =
-    let rest : repeated (suc times) calls ≡ repeated times calls ++ calls = rw (← add-one) (repeated_more times calls) in
-    rw add-one (ap (λ (xs : List Call). calls ++ xs) rest ∙ sym (append_assoc calls (repeated times calls) calls))
+repeated_more times calls = ap (λ (n : ℕ). repeated n calls) (add-one times) ∙ repeated_suc times calls
 
 -- ---- sums over lists that grow
 
@@ -35,7 +38,7 @@ repeated_sum f none adds (suc times) calls =
     let first = adds calls (repeated times calls) in
     omega arith
 
-kept_below : (block : List ℕ) (n m : ℕ) → n ≡ m → AllByRecursion (λ rank. rank < n) block → AllByRecursion (λ rank. rank < m) block
+pub kept_below : (block : List ℕ) (n m : ℕ) → n ≡ m → AllByRecursion (λ rank. rank < n) block → AllByRecursion (λ rank. rank < m) block
 kept_below block n m same all = subst (λ k. AllByRecursion (λ rank. rank < k) block) same all
 
 pub length-added_to : (block : List ℕ) (added : List Call) (lists : List (List Call)) → length (added_to block added lists) ≡ length lists
@@ -68,9 +71,6 @@ memory_split (space ∷ spaces) (calls ∷ lists) e =
     let second = sum_by-cons (sum_by call_bytes) calls lists in
     omega arith
 
-same_totals : (t u : Totals) → t.calls ≡ u.calls → t.bytes ≡ u.bytes → t ≡ u
-same_totals t u calls bytes = cc
-
 -- the totals of the lines so far, with calls at each rank of the block
 totals_added : (draft : Draft) (added : List Call) (lists : List (List Call)) → IsSoundDraft draft → lists ≡ added_to draft.block added draft.calls → (next : Draft) → next.spaces ≡ draft.spaces → next.calls ≡ lists → totals_of next ≡ totals_with (totals_of draft) (length draft.block) (length added) (sum_by call_bytes added)
 totals_added draft added lists sound e next spaces calls =
@@ -85,7 +85,9 @@ totals_added draft added lists sound e next spaces calls =
       (rw (spaces, calls, e) (omega arith))
 
 pub totals_of_call : (draft : Draft) (call : Call) → IsSoundDraft draft → (next : Draft) → next.spaces ≡ draft.spaces → next.calls ≡ added_to draft.block (call ∷ []) draft.calls → totals_of next ≡ totals_with (totals_of draft) (length draft.block) 1 (call_bytes call)
-totals_of_call draft call sound next spaces calls = totals_added draft (call ∷ []) (added_to draft.block (call ∷ []) draft.calls) sound refl next spaces calls
+totals_of_call draft call sound next spaces calls =
+    totals_added draft (call ∷ []) (added_to draft.block (call ∷ []) draft.calls) sound refl next spaces calls
+    ∙ same_totals (totals_with (totals_of draft) (length draft.block) 1 (sum_by call_bytes (call ∷ []))) (totals_with (totals_of draft) (length draft.block) 1 (call_bytes call)) refl (omega arith)
 
 pub totals_of_repeat : (draft : Draft) (times : ℕ) (inside : List Call) → IsSoundDraft draft → (next : Draft) → next.spaces ≡ draft.spaces → next.calls ≡ added_to draft.block (repeated times inside) draft.calls → totals_of next ≡ totals_behind (totals_of draft) (length draft.block) times inside
 totals_of_repeat draft times inside sound next spaces calls =

@@ -3,3 +3,6 @@ pub mod Cuts
 pub mod Charging
 pub mod LineRanges
 pub mod Growing
+pub mod Adding
+pub mod Keeping
+pub mod TextLines

@@ -40,7 +40,7 @@ pub bind_ok : {A B E : Type 0} (m : Result A E) (f : A → Result B E) (y : B) �
 bind_ok (Ok x) f y h = (x, refl, h)
 bind_ok (Err e) f y h = absurd cc
 
-pub ok_same : {A E : Type 0} {x y : A} → Ok {E = E} x ≡ Ok y → x ≡ y
+pub ok_same : {A E : Type 0} {x y : A} → ◌≡◌ {A = Result A E} (Ok x) (Ok y) → x ≡ y
 ok_same h = cc
 
 pub chosen_ok : {A E : Type 0} (b : Bool) (m : Result A E) (e : E) (y : A) → cond b m (Err e) ≡ Ok y → (b ≡ true) × (m ≡ Ok y)
@@ -305,7 +305,7 @@ token_sound draft fields told ElementType token typed s h =
     let sound : IsSoundLine (bound draft) (record fields { dtype = b.0 }) = record { directive = s.directive; request = s.request; window = s.window; numbers = s.numbers; group = s.group; target = s.target; elements = typed_elements b.0 fields fresh_now } in
     (subst (IsSoundLine (bound draft)) (ok_same b.2) sound, λ _. λ fresh. subst IsFresh (ok_same b.2) fresh)
 token_sound draft fields told Operation token typed s h =
-    let b = bind_ok (found_or NoOperation (op_named token)) (λ (op : Op). Ok (record fields { op = op })) told h in
+    let b = bind_ok (found_or NoOperation (op_named token)) (λ (op : Operator). Ok (record fields { op = op })) told h in
     let sound : IsSoundLine (bound draft) (record fields { op = b.0 }) = record { directive = s.directive; request = s.request; window = s.window; numbers = s.numbers; group = s.group; target = s.target; elements = s.elements } in
     (subst (IsSoundLine (bound draft)) (ok_same b.2) sound, λ _. λ fresh. subst IsFresh (ok_same b.2) fresh)
 token_sound draft fields told Count token typed s h =

@@ -5,3 +5,4 @@ pub mod Telling
 pub mod Sound
 pub mod Totals
 pub mod Counted
+pub mod Parsing

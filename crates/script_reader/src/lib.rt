@@ -10,9 +10,11 @@ mod errors;
 mod integers;
 mod lexing;
 mod numerals;
+mod parses;
 mod readers;
 mod tokens;
 mod totals;
 mod words;
 
+pub use parses::parse;
 pub use script_language::{Fault, FaultKind};
