@@ -10,13 +10,13 @@ use Rattle.script_reader.proofs.TextLines.{size_left}
 use Rattle.script_reader.proofs.parses.script.Given as goal
 
 -- the lines that are left give what all lines give
-abbrev pub invariant-loop-rest : goal.invariant-loop-rest
-invariant-loop-rest l = record {
+abbrev pub invariant-loop-left : goal.invariant-loop-left
+invariant-loop-left l = record {
   counted : IsCounted l.reader;
   left : lines_read (l.line + 1) l.reader.draft (lines_behind l.left) ≡ lines_read 1 no_lines (lines_of l.text);
   number : l.line + length (lines_behind l.left) ≡ length (lines_of l.text);
   few : l.line + size_left l.left ≤ 1048577;
 }
 
-abbrev pub decreases-loop-rest : goal.decreases-loop-rest
-decreases-loop-rest l = size_left l.left
+abbrev pub decreases-loop-left : goal.decreases-loop-left
+decreases-loop-left l = size_left l.left

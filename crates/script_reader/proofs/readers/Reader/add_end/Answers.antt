@@ -28,5 +28,4 @@ pub returns-clause-totals : goal.returns-clause-totals
 returns-clause-totals c =
     let within : Ok c.in_ok-totals.totals ≡ within_limits (totals_behind c.args.self.now.totals (length c.args.self.now.draft.block) (unwrap_or c.args.self.now.draft.times 0) c.args.self.now.draft.inside) = rw (← c.len-ranks.ensures, ← c.unwrap_or-times.ensures, ← c.replace-inside.ensures.value, ← c.as_slice.ensures) c.in_ok-totals.ensures in
     let lists : c.from_vec.result ≡ added_to c.args.self.now.draft.block (repeated (unwrap_or c.args.self.now.draft.times 0) c.args.self.now.draft.inside) c.args.self.now.draft.calls = cc c.in_ok-expand.ensures in
-    let none : c.replace-inside.new.dest ≡ [] = cc in
-    rw none (end_ok c.args.self.now.draft c.args.fields c.from_vec.result c.args.self.now.totals c.in_ok-totals.totals c.requires.sound c.requires.totals within lists).1
+    (end_ok c.args.self.now.draft c.args.fields c.from_vec.result c.args.self.now.totals c.in_ok-totals.totals c.requires.sound c.requires.totals within lists).1
