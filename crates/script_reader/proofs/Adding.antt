@@ -1,6 +1,5 @@
 -- What the test of the totals says of the lines with one line more.
-use Rattle.std.proofs.Common.{◌≡◌, ℕ, ◌+◌, ◌<◌, ◌≤◌, Bool, true, false, cond, List, [], ◌∷◌, length, set, replicate, Option, Some, None, unwrap_or, Ok, Err, refl, ap, sym, ◌∙◌, subst, arith}
-use Rattle.std.specs.Prelude.{is_some}
+use Rattle.std.proofs.Common.{◌≡◌, ℕ, false, List, [], ◌∷◌, length, set, replicate, Option, Some, None, unwrap_or, Ok, Err, refl, ap, sym, ◌∙◌, arith}
 use Rattle.rma_types.specs.declared.calls.Call.{Call as MpiCall}
 use Rattle.call_rules.specs.Layout.{rounded, call_bytes}
 use Rattle.script_language.specs.declared.drafts.Draft.{Draft}

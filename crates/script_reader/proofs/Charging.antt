@@ -1,5 +1,5 @@
 -- Totals that grow call by call.
-use Rattle.std.proofs.Common.{◌≡◌, ℕ, suc, drop, get_or, add-one, drop-cons, ◌+◌, ◌*◌, ◌<◌, ◌≤◌, Bool, true, false, ◌&&◌, cond, leb, List, [], ◌∷◌, length, Ok, Err, Result, refl, ap, sym, ◌∙◌, arith, sum_by, ◌⊎◌, inl, inr}
+use Rattle.std.proofs.Common.{◌≡◌, ℕ, suc, drop, get_or, add-one, drop-cons, ◌+◌, ◌*◌, ◌<◌, ◌≤◌, Bool, true, false, ◌&&◌, cond, leb, List, [], ◌∷◌, length, Ok, Err, refl, ap, sym, ◌∙◌, arith, ◌⊎◌, inl, inr}
 use Rattle.std.proofs.lemmas.Bool.{leb-true, le-leb}
 use Rattle.std.proofs.lemmas.Grind.{common_steps}
 use Rattle.std.proofs.lemmas.List.Sums.{sum_by-cons}
@@ -55,7 +55,7 @@ same_totals t u calls bytes =
 pub one_more : (t : Totals) (ranks times : ℕ) (call : Call) (calls : List Call) → totals_behind t ranks times (call ∷ calls) ≡ totals_behind (totals_with t ranks times (times * call_bytes call)) ranks times calls
 one_more t ranks times call calls =
     same_totals (totals_behind t ranks times (call ∷ calls)) (totals_behind (totals_with t ranks times (times * call_bytes call)) ranks times calls)
-      (omega arith) (rw (sum_by-cons call_bytes call calls) (omega arith))
+    (omega arith) (rw (sum_by-cons call_bytes call calls) (omega arith))
 
 pub charged_ok : (t u : Totals) (ranks times : ℕ) (call : Call) (calls : List Call) → within_limits (totals_with t ranks times (times * call_bytes call)) ≡ Ok u → totals_behind t ranks times (call ∷ calls) ≡ totals_behind u ranks times calls
 charged_ok t u ranks times call calls h =

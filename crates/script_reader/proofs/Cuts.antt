@@ -1,9 +1,9 @@
 -- A list cut at its first element of a kind: lines and tokens.
-use Rattle.std.proofs.Common.{◌≡◌, ℕ, suc, ◌+◌, ◌<◌, ◌≤◌, Bool, true, false, not, cond, List, [], ◌∷◌, length, take, drop, filter, Option, Some, None, unwrap_or, position, refl, ap, sym, ◌∙◌, arith, rules, ltb}
+use Rattle.std.proofs.Common.{◌≡◌, ℕ, suc, ◌+◌, ◌<◌, ◌≤◌, Bool, true, false, not, cond, List, [], ◌∷◌, length, take, drop, filter, unwrap_or, position, refl, ap, sym, ◌∙◌, arith}
 use Rattle.std.specs.List.{slice_split, position_or_len, onto_first}
 use Rattle.std.proofs.lemmas.Grind.{common_steps}
 use Rattle.std.proofs.lemmas.List.Recursion.{is_position_or_len}
-use Rattle.script_language.specs.Lines.{lines_of, is_blank, has_bytes}
+use Rattle.script_language.specs.Lines.{is_blank, has_bytes}
 use Rattle.script_reader.specs.Lexing.{tokens_in}
 
 -- where the first element of a kind stands, or the length

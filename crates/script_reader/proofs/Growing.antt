@@ -1,6 +1,5 @@
 -- Lists of calls that grow, and their totals.
-use Rattle.std.proofs.Common.{◌≡◌, ℕ, zero, suc, ◌+◌, ◌*◌, ◌<◌, ◌≤◌, Bool, true, false, ◌&&◌, cond, leb, List, [], ◌∷◌, ◌++◌, map, length, get_or, set, replicate, Option, Some, None, unwrap_or, Ok, Err, Result, refl, ap, sym, ◌∙◌, arith, sum_by, add-one, append_assoc, append-nil, subst, length-append}
-use Rattle.std.specs.Prelude.{is_some}
+use Rattle.std.proofs.Common.{◌≡◌, ℕ, zero, suc, ◌+◌, ◌*◌, ◌<◌, Bool, true, false, ◌&&◌, cond, leb, List, [], ◌∷◌, ◌++◌, map, length, get_or, set, replicate, Option, Some, None, unwrap_or, Ok, Err, refl, ap, sym, ◌∙◌, arith, sum_by, add-one, append_assoc, append-nil, subst, length-append}
 use Rattle.std.specs.List.{AllByRecursion, zip}
 use Rattle.std.proofs.lemmas.Grind.{common_steps}
 use Rattle.std.proofs.lemmas.List.Sums.{sum_by-cons, sum_by-append, sum_by-set}
@@ -11,8 +10,7 @@ use Rattle.script_language.specs.declared.drafts.Draft.{Draft}
 use Rattle.script_language.specs.declared.faults.FaultKind.{FaultKind}
 use Rattle.script_language.specs.declared.faults.FaultKind.TheVariants.{Limit}
 use Rattle.script_language.specs.declared.fields.Fields.{Fields}
-use Rattle.script_language.specs.declared.forms.Form.TheVariants.{Ranks, Space, End}
-use Rattle.script_language.specs.Drafts.{repeated, added_to, script_of, with_line, with_call, limited, is_within_limits, is_in_repeat}
+use Rattle.script_language.specs.Drafts.{repeated, added_to, limited}
 use Rattle.script_reader.specs.declared.totals.Totals.{Totals}
 use Rattle.script_reader.specs.Sound.{IsSoundDraft, IsNewSpace}
 use Rattle.script_reader.proofs.Charging.{same_totals}
@@ -81,8 +79,8 @@ totals_added draft added lists sound e next spaces calls =
     let long : length draft.spaces ≡ length (added_to draft.block added draft.calls) = sound.spaces ∙ (sym sound.lists ∙ sym (length-added_to draft.block added draft.calls)) in
     let after = memory_split draft.spaces (added_to draft.block added draft.calls) long in
     same_totals (totals_of next) (totals_with (totals_of draft) (length draft.block) (length added) (sum_by call_bytes added))
-      (rw (calls, e) (omega arith))
-      (rw (spaces, calls, e) (omega arith))
+    (rw (calls, e) (omega arith))
+    (rw (spaces, calls, e) (omega arith))
 
 pub totals_of_call : (draft : Draft) (call : Call) → IsSoundDraft draft → (next : Draft) → next.spaces ≡ draft.spaces → next.calls ≡ added_to draft.block (call ∷ []) draft.calls → totals_of next ≡ totals_with (totals_of draft) (length draft.block) 1 (call_bytes call)
 totals_of_call draft call sound next spaces calls =

@@ -1,6 +1,6 @@
 -- A line that reads leaves the script so far within its ranges, and at its end it is a script that a text can say.
-use Rattle.std.proofs.Common.{◌≡◌, ℕ, zero, suc, ◌+◌, ◌-◌, ◌<◌, ◌≤◌, Bool, true, false, ◌&&◌, not, cond, leb, List, [], ◌∷◌, ◌++◌, map, length, get_or, set, replicate, Option, Some, None, unwrap_or, Ok, Err, ℤ, pos, negsuc, refl, ap, sym, ◌∙◌, subst, arith}
-use Rattle.std.specs.Prelude.{IfSome, is_some}
+use Rattle.std.proofs.Common.{◌≡◌, ℕ, zero, suc, ◌<◌, ◌≤◌, true, false, not, cond, leb, List, [], ◌∷◌, ◌++◌, map, get_or, set, replicate, Option, Some, None, unwrap_or, Ok, ℤ, refl, ◌∙◌, subst, arith}
+use Rattle.std.specs.Prelude.{IfSome}
 use Rattle.std.specs.List.{AllByRecursion}
 use Rattle.std.proofs.lemmas.Bool.{leb-true}
 use Rattle.std.proofs.lemmas.Grind.{common_steps}
@@ -9,8 +9,7 @@ use Rattle.std.proofs.lemmas.List.{length-map, length-replicate}
 use Rattle.rma_types.specs.declared.calls.Call.{Call as MpiCall}
 use Rattle.call_rules.specs.Actions.{target_of}
 use Rattle.call_rules.specs.Layout.{calls_of, memory_of, IsWithinLimits}
-use Rattle.call_rules.specs.Numbers.{patterns_of}
-use Rattle.call_rules.specs.WellFormed.{IsNumber, IsWrittenTarget, IsWrittenTransfer, IsWrittenCall, IsWellFormed}
+use Rattle.call_rules.specs.WellFormed.{IsNumber, IsWrittenTarget, IsWrittenCall, IsWellFormed}
 use Rattle.script_language.specs.declared.drafts.Draft.{Draft}
 use Rattle.script_language.specs.declared.faults.FaultKind.TheVariants.{Limit}
 use Rattle.script_language.specs.declared.fields.Fields.{Fields}
@@ -19,7 +18,7 @@ use Rattle.script_language.specs.declared.forms.CallForm.TheVariants.{Allocate, 
 use Rattle.script_language.specs.declared.forms.Form.{Form}
 use Rattle.script_language.specs.declared.forms.Form.TheVariants.{Ranks, Space, Rank, Repeat, End, Call}
 use Rattle.script_language.specs.Calls.{call_of}
-use Rattle.script_language.specs.Drafts.{no_lines, is_begun, is_in_block, is_in_repeat, may_stand, repeated, added_to, with_call, with_line, script_of, is_within_limits, limited}
+use Rattle.script_language.specs.Drafts.{no_lines, is_begun, is_in_repeat, may_stand, repeated, added_to, with_call, with_line, script_of, is_within_limits, limited}
 use Rattle.script_reader.specs.Sound.{IsSoundDraft, IsSoundLine}
 use Rattle.script_reader.proofs.Charging.{ok_from_if, both_true}
 use Rattle.script_reader.proofs.Growing.{length-added_to}

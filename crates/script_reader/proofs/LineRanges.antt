@@ -1,11 +1,9 @@
 -- What a line that reads says is within its ranges.
-use Rattle.std.proofs.Common.{◌≡◌, ℕ, zero, suc, ◌+◌, ◌-◌, ◌*◌, ◌/◌, ◌%◌, ◌^◌, ◌<◌, ◌≤◌, Bool, true, false, ◌&&◌, ◌||◌, not, cond, leb, ltb, List, [], ◌∷◌, ◌++◌, length, Option, Some, None, Ok, Err, Result, ℤ, pos, negsuc, refl, ap, sym, ◌∙◌, subst, ◌⊎◌, inl, inr, arith, rules, length-append, get_or}
+use Rattle.std.proofs.Common.{◌≡◌, ℕ, zero, suc, ◌+◌, ◌-◌, ◌<◌, ◌≤◌, Bool, true, false, ◌&&◌, ◌||◌, not, cond, ltb, List, [], ◌∷◌, ◌++◌, length, Option, Some, None, Ok, Err, Result, ℤ, pos, negsuc, refl, ap, sym, ◌∙◌, subst, arith, length-append, get_or}
 use Rattle.std.specs.Prelude.{IfSome, int_le, find, codes, is_some}
 use Rattle.std.specs.List.{AllByRecursion, range_with_len, list_all}
 use Rattle.std.specs.Str.{bytes_eq}
 use Rattle.std.proofs.lemmas.Bool.{leb-true, ltb-true}
-use Rattle.std.proofs.lemmas.Grind.{common_steps}
-use Rattle.rma_types.specs.declared.calls.Asserts.{Asserts}
 use Rattle.rma_types.specs.declared.calls.Lock.{Lock}
 use Rattle.rma_types.specs.declared.dtypes.Dtype.{Dtype}
 use Rattle.rma_types.specs.declared.dtypes.Dtype.TheVariants.{Int8, Int16, Int32, Uint8, Uint16, Uint32, Byte}
@@ -15,7 +13,7 @@ use Rattle.call_rules.specs.Ranks.{natural, is_member}
 use Rattle.call_rules.specs.WellFormed.{IsNumber, IsUpTo, IsWindowName, IsRequestName, IsWrittenGroup}
 use Rattle.script_language.specs.declared.drafts.Draft.{Draft}
 use Rattle.script_language.specs.declared.faults.FaultKind.{FaultKind}
-use Rattle.script_language.specs.declared.faults.FaultKind.TheVariants.{Word, Number, Datatype, Op as NoOperation, Name, Shape, Limit}
+use Rattle.script_language.specs.declared.faults.FaultKind.TheVariants.{Word, Datatype, Op as NoOperation, Name, Shape, Limit}
 use Rattle.script_language.specs.declared.fields.Fields.{Fields}
 use Rattle.script_language.specs.declared.places.Assertion.{Assertion}
 use Rattle.script_language.specs.declared.places.Place.{Place}
@@ -25,7 +23,7 @@ use Rattle.script_language.specs.Forms.{is_group, is_many, call_places, places_o
 use Rattle.script_language.specs.Integers.{integer_of, integer_within, integer_up_to, plain_integer, lowest, least_of, greatest_of}
 use Rattle.script_language.specs.Lines.{is_printable}
 use Rattle.script_language.specs.Tokens.{natural_within, rank_read, owner_read, members_read, group_read, pattern_read, values_read, target_read, with_assertion, token_read, begins_number, places_from, places_behind, Told, read_at, next_read, tokens_read}
-use Rattle.script_language.specs.Words.{window_text, request_text, all_windows, all_requests, dtype_named, op_named, lock_named, assertion_named, window_named, request_named}
+use Rattle.script_language.specs.Words.{window_text, request_text, dtype_named, op_named, lock_named, assertion_named, window_named, request_named}
 use Rattle.script_language.specs.declared.forms.CallForm.{CallForm}
 use Rattle.script_language.specs.declared.forms.CallForm.TheVariants.{Allocate, Create, Dynamic, Free, Attach, Detach, Fence, Post, Start, Complete, WaitWin, TestWin, LockOne, Unlock, LockAll, UnlockAll, Flush, FlushAll, FlushLocal, FlushLocalAll, Sync, Barrier, Put, RequestPut, Get, RequestGet, Acc, RequestAcc, GetAcc, RequestGetAcc, Fop, Cas, Load, Store, WaitReq, TestReq}
 use Rattle.script_language.specs.declared.forms.Form.{Form}

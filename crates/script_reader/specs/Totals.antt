@@ -1,5 +1,5 @@
 -- The totals of the lines so far: their calls and their bytes of memory.
-use Rattle.std.specs.Prelude.{ℕ, ◌≡◌, ◌≤◌, ◌+◌, ◌*◌, ◌&&◌, nat_le, if◌then◌else◌, List, length, sum_by, Result, Ok, Err}
+use Rattle.std.specs.Prelude.{ℕ, ◌+◌, ◌*◌, ◌&&◌, nat_le, if◌then◌else◌, List, length, sum_by, Result, Ok, Err}
 use Rattle.rma_types.specs.declared.calls.Call.{Call}
 use Rattle.call_rules.specs.Layout.{calls_of, memory_of, call_bytes}
 use Rattle.script_language.specs.declared.drafts.Draft.{Draft}

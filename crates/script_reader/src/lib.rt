@@ -18,3 +18,6 @@ mod words;
 
 pub use parses::parse;
 pub use script_language::{Fault, FaultKind};
+
+#[cfg(test)]
+mod tests;

@@ -141,7 +141,13 @@ impl Reader {
         let totals = self.totals.behind(ranks, times, inside.as_slice())?;
         let lists = mem::replace(&mut self.draft.calls, Items::new(alloc));
         let mut lists = lists.into_vec();
-        expand(alloc, &mut lists, self.draft.block.as_slice(), times, inside.as_slice())?;
+        expand(
+            alloc,
+            &mut lists,
+            self.draft.block.as_slice(),
+            times,
+            inside.as_slice(),
+        )?;
         self.draft.calls = Items::from_vec(lists);
         self.draft.times = None;
         self.totals = totals;

@@ -10,8 +10,12 @@ ghost use Rattle.script_reader.specs.Telling.{Tells};
 
 use crate::errors::ReadError;
 use crate::lexing::{is_printable, next_token};
-use crate::numerals::{add_member, add_rank, add_value, integer_up_to, natural_in, owner, pattern, plain, target};
-use crate::words::{assertion_named, dtype_named, lock_named, op_named, request_named, window_named};
+use crate::numerals::{
+    add_member, add_rank, add_value, integer_up_to, natural_in, owner, pattern, plain, target,
+};
+use crate::words::{
+    assertion_named, dtype_named, lock_named, op_named, request_named, window_named,
+};
 use rma_types::{Asserts, Dtype, Items, Lock, Op};
 use script_language::{Assertion, Draft, FaultKind, Fields, Place};
 use std::alloc::Global;
@@ -21,11 +25,26 @@ fn asserts_with(asserts: Asserts, assertion: Assertion) -> Asserts
     ensures { result ≡ the_asserts_with asserts assertion }
 {
     match assertion {
-        Assertion::NoCheck => Asserts { nocheck: true, ..asserts },
-        Assertion::NoStore => Asserts { nostore: true, ..asserts },
-        Assertion::NoPut => Asserts { noput: true, ..asserts },
-        Assertion::NoPrecede => Asserts { noprecede: true, ..asserts },
-        Assertion::NoSucceed => Asserts { nosucceed: true, ..asserts },
+        Assertion::NoCheck => Asserts {
+            nocheck: true,
+            ..asserts
+        },
+        Assertion::NoStore => Asserts {
+            nostore: true,
+            ..asserts
+        },
+        Assertion::NoPut => Asserts {
+            noput: true,
+            ..asserts
+        },
+        Assertion::NoPrecede => Asserts {
+            noprecede: true,
+            ..asserts
+        },
+        Assertion::NoSucceed => Asserts {
+            nosucceed: true,
+            ..asserts
+        },
     }
 }
 
@@ -179,7 +198,11 @@ fn tell_next<'a>(
         [] => Err(ReadError::Refused(FaultKind::Shape)),
         [place, rest @ ..] => {
             tell(draft, fields, *place, token)?;
-            if is_many(*place) { Ok(places) } else { Ok(rest) }
+            if is_many(*place) {
+                Ok(places)
+            } else {
+                Ok(rest)
+            }
         }
     }
 }
@@ -221,7 +244,12 @@ fn no_fields(alloc: Global) -> Fields
 }
 
 /// Reads all tokens behind the word of a line.
-pub fn read_fields(alloc: Global, draft: &Draft, places: &[Place], line: &[u8]) -> Result<Fields, ReadError>
+pub fn read_fields(
+    alloc: Global,
+    draft: &Draft,
+    places: &[Place],
+    line: &[u8],
+) -> Result<Fields, ReadError>
     ensures { Gives result (tokens_read draft.now the_no_fields places.now (tokens_in line.now)) }
 {
     let mut fields = no_fields(alloc);

@@ -220,7 +220,12 @@ fn call_place_list(form: CallForm) -> &'static [Place]
         CallForm::Complete => &[Place::Window],
         CallForm::WaitWin => &[Place::Window],
         CallForm::TestWin => &[Place::Window],
-        CallForm::LockOne => &[Place::Window, Place::LockKind, Place::Peer, Place::Assertions],
+        CallForm::LockOne => &[
+            Place::Window,
+            Place::LockKind,
+            Place::Peer,
+            Place::Assertions,
+        ],
         CallForm::Unlock => &[Place::Window, Place::Peer],
         CallForm::LockAll => &[Place::Window, Place::Assertions],
         CallForm::UnlockAll => &[Place::Window],
@@ -230,18 +235,98 @@ fn call_place_list(form: CallForm) -> &'static [Place]
         CallForm::FlushLocalAll => &[Place::Window],
         CallForm::Sync => &[Place::Window],
         CallForm::Barrier => &[],
-        CallForm::Put => &[Place::Window, Place::Target, Place::Displacement, Place::ElementType, Place::Values],
-        CallForm::RequestPut => &[Place::Request, Place::Window, Place::Target, Place::Displacement, Place::ElementType, Place::Values],
-        CallForm::Get => &[Place::Window, Place::Target, Place::Displacement, Place::ElementType, Place::Count],
-        CallForm::RequestGet => &[Place::Request, Place::Window, Place::Target, Place::Displacement, Place::ElementType, Place::Count],
-        CallForm::Acc => &[Place::Window, Place::Target, Place::Displacement, Place::ElementType, Place::Operation, Place::Values],
-        CallForm::RequestAcc => &[Place::Request, Place::Window, Place::Target, Place::Displacement, Place::ElementType, Place::Operation, Place::Values],
-        CallForm::GetAcc => &[Place::Window, Place::Target, Place::Displacement, Place::ElementType, Place::Operation, Place::Values],
-        CallForm::RequestGetAcc => &[Place::Request, Place::Window, Place::Target, Place::Displacement, Place::ElementType, Place::Operation, Place::Values],
-        CallForm::Fop => &[Place::Window, Place::Target, Place::Displacement, Place::ElementType, Place::Operation, Place::Value],
-        CallForm::Cas => &[Place::Window, Place::Target, Place::Displacement, Place::ElementType, Place::Compare, Place::Value],
-        CallForm::Load => &[Place::Window, Place::Displacement, Place::ElementType, Place::Count],
-        CallForm::Store => &[Place::Window, Place::Displacement, Place::ElementType, Place::Values],
+        CallForm::Put => &[
+            Place::Window,
+            Place::Target,
+            Place::Displacement,
+            Place::ElementType,
+            Place::Values,
+        ],
+        CallForm::RequestPut => &[
+            Place::Request,
+            Place::Window,
+            Place::Target,
+            Place::Displacement,
+            Place::ElementType,
+            Place::Values,
+        ],
+        CallForm::Get => &[
+            Place::Window,
+            Place::Target,
+            Place::Displacement,
+            Place::ElementType,
+            Place::Count,
+        ],
+        CallForm::RequestGet => &[
+            Place::Request,
+            Place::Window,
+            Place::Target,
+            Place::Displacement,
+            Place::ElementType,
+            Place::Count,
+        ],
+        CallForm::Acc => &[
+            Place::Window,
+            Place::Target,
+            Place::Displacement,
+            Place::ElementType,
+            Place::Operation,
+            Place::Values,
+        ],
+        CallForm::RequestAcc => &[
+            Place::Request,
+            Place::Window,
+            Place::Target,
+            Place::Displacement,
+            Place::ElementType,
+            Place::Operation,
+            Place::Values,
+        ],
+        CallForm::GetAcc => &[
+            Place::Window,
+            Place::Target,
+            Place::Displacement,
+            Place::ElementType,
+            Place::Operation,
+            Place::Values,
+        ],
+        CallForm::RequestGetAcc => &[
+            Place::Request,
+            Place::Window,
+            Place::Target,
+            Place::Displacement,
+            Place::ElementType,
+            Place::Operation,
+            Place::Values,
+        ],
+        CallForm::Fop => &[
+            Place::Window,
+            Place::Target,
+            Place::Displacement,
+            Place::ElementType,
+            Place::Operation,
+            Place::Value,
+        ],
+        CallForm::Cas => &[
+            Place::Window,
+            Place::Target,
+            Place::Displacement,
+            Place::ElementType,
+            Place::Compare,
+            Place::Value,
+        ],
+        CallForm::Load => &[
+            Place::Window,
+            Place::Displacement,
+            Place::ElementType,
+            Place::Count,
+        ],
+        CallForm::Store => &[
+            Place::Window,
+            Place::Displacement,
+            Place::ElementType,
+            Place::Values,
+        ],
         CallForm::WaitReq => &[Place::Request],
         CallForm::TestReq => &[Place::Request],
     }
@@ -271,13 +356,19 @@ pub fn is_text(text: &str, token: &[u8]) -> bool
 pub fn form_named(token: &[u8]) -> Option<Form>
     ensures { result ≡ the_form_named token.now }
 {
-    FORMS.iter().copied().find(|x| is_text(form_text(*x), token))
+    FORMS
+        .iter()
+        .copied()
+        .find(|x| is_text(form_text(*x), token))
 }
 
 pub fn dtype_named(token: &[u8]) -> Option<Dtype>
     ensures { result ≡ the_dtype_named token.now }
 {
-    DTYPES.iter().copied().find(|x| is_text(dtype_word(*x), token))
+    DTYPES
+        .iter()
+        .copied()
+        .find(|x| is_text(dtype_word(*x), token))
 }
 
 pub fn op_named(token: &[u8]) -> Option<Op>
@@ -289,13 +380,19 @@ pub fn op_named(token: &[u8]) -> Option<Op>
 pub fn lock_named(token: &[u8]) -> Option<Lock>
     ensures { result ≡ the_lock_named token.now }
 {
-    LOCKS.iter().copied().find(|x| is_text(lock_word(*x), token))
+    LOCKS
+        .iter()
+        .copied()
+        .find(|x| is_text(lock_word(*x), token))
 }
 
 pub fn assertion_named(token: &[u8]) -> Option<Assertion>
     ensures { result ≡ the_assertion_named token.now }
 {
-    ASSERTIONS.iter().copied().find(|x| is_text(assertion_word(*x), token))
+    ASSERTIONS
+        .iter()
+        .copied()
+        .find(|x| is_text(assertion_word(*x), token))
 }
 
 /// Whether the token is a letter and a number below 100.

@@ -1,4 +1,4 @@
-use Rattle.std.proofs.Common.{◌≡◌, ◌+◌, ◌++◌, List, ap, sym, ◌∙◌, append_assoc}
+use Rattle.std.proofs.Common.{◌++◌, List, ap, sym, ◌∙◌, append_assoc}
 use Rattle.rma_types.specs.declared.calls.Call.{Call}
 use Rattle.script_language.specs.Drafts.{repeated}
 use Rattle.script_reader.proofs.Growing.{repeated_more}

@@ -1,6 +1,5 @@
-use Rattle.std.proofs.Common.{◌≡◌, ◌≤◌, ◌<◌, ◌+◌, ◌-◌, ℕ, List, [], ◌∷◌, length, take, drop, refl, ap, sym, ◌∙◌, arith}
+use Rattle.std.proofs.Common.{◌≡◌, ◌<◌, ℕ, List, [], ◌∷◌, length, refl, arith}
 use Rattle.std.proofs.lemmas.Grind.{common_steps}
-use Rattle.script_reader.specs.Lexing.{tokens_in}
 use Rattle.script_reader.proofs.Cuts.{token_first, first_blank_later, no_token}
 use Rattle.script_reader.proofs.lexing.next_token.Goals as goal
 

@@ -1,7 +1,5 @@
-use Rattle.std.proofs.Common.{◌≡◌, ◌+◌, ◌≤◌, ℕ, length, Option, Some, None, List}
-use Rattle.std.specs.Borrow.{Bor}
-use Rattle.script_language.specs.Answers.{◌>>=◌}
-use Rattle.script_language.specs.Drafts.{no_lines, finished}
+use Rattle.std.proofs.Common.{◌≡◌, ◌+◌, ◌≤◌, length}
+use Rattle.script_language.specs.Drafts.{no_lines}
 use Rattle.script_language.specs.Lines.{lines_of}
 use Rattle.script_language.specs.Reading.{lines_read}
 use Rattle.script_reader.specs.Counted.{IsCounted}

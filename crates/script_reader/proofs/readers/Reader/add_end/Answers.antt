@@ -1,4 +1,4 @@
-use Rattle.std.proofs.Common.{◌≡◌, ◌<◌, [], ◌∷◌, length, false, unwrap_or, Ok, Err, sym, ◌∙◌, arith}
+use Rattle.std.proofs.Common.{◌≡◌, [], length, unwrap_or, Ok, Err, sym}
 use Rattle.std.proofs.lemmas.Result.{err_from_is_err_and}
 use Rattle.script_language.specs.Drafts.{added_to, repeated}
 use Rattle.script_reader.specs.Totals.{within_limits, totals_behind}

@@ -1,4 +1,4 @@
-use Rattle.std.proofs.Common.{◌≡◌, ◌≤◌, Bool, true, false, not, Result, Ok, Err, arith}
+use Rattle.std.proofs.Common.{◌≡◌, true, not, Result, Ok, Err, arith}
 use Rattle.std.specs.Prelude.{OnOk}
 use Rattle.std.proofs.lemmas.Bool.{leb-true}
 use Rattle.std.proofs.lemmas.Grind.{common_steps}
@@ -38,4 +38,4 @@ returns-clause-counted c =
     let told : tokens_read c.args.self.now.draft no_fields (places_of c.in_ok-form.form) (tokens_in c.in-Some.rest.now) ≡ Ok c.in_ok-fields.fields = rw (← c.places_of.ensures) c.in_ok-fields.ensures in
     let fields = line_sound c.args.self.now.draft c.in_ok-form.form (tokens_in c.in-Some.rest.now) c.in_ok-fields.fields told in
     counted_from c.add.result c.add.new.self (limited (with_line c.args.self.now.draft c.in_ok-form.form c.in_ok-fields.fields)) c.add.ensures.draft c.add.ensures.totals
-      (λ h. line_kept c.args.self.now.draft c.add.new.self.draft c.in_ok-form.form c.in_ok-fields.fields c.requires.sound stands fields h)
+    (λ h. line_kept c.args.self.now.draft c.add.new.self.draft c.in_ok-form.form c.in_ok-fields.fields c.requires.sound stands fields h)
