@@ -8,6 +8,7 @@ use Rattle.rma_types.specs.declared.calls.Call.TheVariants.{Barrier, Put, Post}
 use Rattle.rma_types.specs.declared.dtypes.Dtype.TheVariants.{Int8}
 use Rattle.script_language.specs.Calls.{no_asserts}
 use Rattle.script_language.specs.Drafts.{repeated}
+
 -- a number past its range
 abbrev pub LimitsOfNumbers : Type 0
 LimitsOfNumbers = Fail (
@@ -50,10 +51,10 @@ abbrev pub LimitsOfGroups : Type 0
 LimitsOfGroups =
     Say (codes "ranks 2" ∷ codes "rank 0" ∷ (codes "post w31" ++ sixteen) ∷ []) (script ((Post 31 (replicate 16 (pos 1)) no_asserts ∷ []) ∷ [] ∷ []))
     × Fail (
-        call_fails (codes "post w0" ++ sixteen ++ codes " 1") Limit
-        ∷ call_fails (codes "start w0" ++ sixteen ++ codes " 1x nocheck") Limit
-        ∷ call_fails (codes "start w0" ++ sixteen ++ codes " x") Word
-        ∷ [])
+    call_fails (codes "post w0" ++ sixteen ++ codes " 1") Limit
+    ∷ call_fails (codes "start w0" ++ sixteen ++ codes " 1x nocheck") Limit
+    ∷ call_fails (codes "start w0" ++ sixteen ++ codes " x") Word
+    ∷ [])
 
 abbrev pub many_values : List ℕ
 many_values = copies 256 (codes " 0")

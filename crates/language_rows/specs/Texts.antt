@@ -168,10 +168,10 @@ BlocksAndRepeatsAreSaid = Say
     ∷ codes "complete w3"
     ∷ [])
     (script (
-        (Barrier ∷ Free 1 ∷ Sync 2 ∷ Free 1 ∷ Sync 2 ∷ Free 1 ∷ Sync 2 ∷ Complete 3 ∷ [])
-        ∷ []
-        ∷ (Barrier ∷ Free 1 ∷ Sync 2 ∷ Free 1 ∷ Sync 2 ∷ Free 1 ∷ Sync 2 ∷ [])
-        ∷ []))
+    (Barrier ∷ Free 1 ∷ Sync 2 ∷ Free 1 ∷ Sync 2 ∷ Free 1 ∷ Sync 2 ∷ Complete 3 ∷ [])
+    ∷ []
+    ∷ (Barrier ∷ Free 1 ∷ Sync 2 ∷ Free 1 ∷ Sync 2 ∷ Free 1 ∷ Sync 2 ∷ [])
+    ∷ []))
 
 -- assertions are read in any order and as often as they stand; the canonical text has each once
 abbrev pub AssertionsAreSaid : Type 0

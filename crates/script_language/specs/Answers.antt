@@ -12,4 +12,3 @@ abbrev pub ◌>>=◌ : {A B E : Type 0} → Result A E → (A → Result B E) �
 abbrev pub found_or : {A : Type 0} → FaultKind → Option A → Result A FaultKind
 found_or kind (Some x) = Ok x
 found_or kind None = Err kind
-
