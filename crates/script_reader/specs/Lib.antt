@@ -1,0 +1,8 @@
+-- What the parts of the reader give.
+pub mod Lexing
+pub mod Answers
+pub mod Telling
+pub mod Sound
+pub mod Totals
+pub mod Counted
+pub mod Parsing
