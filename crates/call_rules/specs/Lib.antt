@@ -1,6 +1,7 @@
 -- What each call is, the memory that a script asks for, and what a transfer does to an element of it.
 pub mod Actions
 pub mod Elements
+pub mod Kinds
 pub mod Layout
 pub mod Numbers
 pub mod Pieces
