@@ -1,6 +1,7 @@
 -- What each call is: MPI 3.1, sections 11.2, 11.3 and 11.5. One table says it of all calls, and every other definition
 -- goes by what a call is.
 use Rattle.std.specs.Prelude.{ℕ, Bool, true, false, List, [], ◌∷◌, length, Option, Some, None, ℤ, pos}
+use Rattle.std.specs.Option.{option_map_or}
 use Rattle.rma_types.specs.declared.accesses.Kind.{Kind}
 use Rattle.rma_types.specs.declared.accesses.Kind.TheVariants.{Get as GetKind, Put as PutKind, Acc as AccKind, Cas as CasKind, Load as LoadKind, Store as StoreKind}
 use Rattle.rma_types.specs.declared.calls.Asserts.{Asserts}
@@ -240,3 +241,18 @@ synchronisation_in (EndsRequest req) = None
 
 abbrev pub synchronisation_of : Call → Option Synchronisation
 synchronisation_of call = synchronisation_in (action_of call)
+
+abbrev pub tests_in : Synchronisation → Bool
+tests_in (Fences asserts) = false
+tests_in (Posts group asserts) = false
+tests_in (Starts group asserts) = false
+tests_in Completes = false
+tests_in (Waits tests) = tests
+tests_in (Locks kind target asserts) = false
+tests_in (Unlocks target) = false
+tests_in (Flushes target local) = false
+tests_in Syncs = false
+
+-- the call is a testwin
+abbrev pub is_testwin : Call → Bool
+is_testwin call = option_map_or tests_in (synchronisation_of call) false

@@ -17,11 +17,19 @@ numbers_from first (suc count) = first ∷ numbers_from (first + 1) count
 abbrev pub first_cell : Layout → ℕ → ℕ
 first_cell layout rank = option_map_or (λ (part : MemoryPart). part.first_cell) (slice_get layout.parts rank) 0
 
+-- where the byte at an address lies in its cell
+abbrev pub byte_in_cell : ℕ → ℕ
+byte_in_cell address = address % 4
+
 -- where the byte at an address of a rank's memory lies
 abbrev pub piece_at : Layout → ℕ → ℕ → Piece
-piece_at layout rank address = record { cell = first_cell layout rank + address / 4; first_byte = address % 4 }
+piece_at layout rank address = record { cell = first_cell layout rank + address / 4; first_byte = byte_in_cell address }
+
+-- the address of an element of an access
+abbrev pub element_address : Access → Dtype → ℕ → ℕ
+element_address access dtype element = access.lo + element * size_of dtype
 
 -- where the elements of an access lie, the first element first
 abbrev pub pieces : Layout → Access → Dtype → List Piece
 pieces layout access dtype =
-    map (λ element. piece_at layout access.target (access.lo + element * size_of dtype)) (numbers_from 0 (access.len / size_of dtype))
+    map (λ element. piece_at layout access.target (element_address access dtype element)) (numbers_from 0 (access.len / size_of dtype))

@@ -1,0 +1,4 @@
+-- The report on a run, and the exit status.
+pub mod Answers
+pub mod Report
+pub mod Status
