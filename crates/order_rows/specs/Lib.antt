@@ -1,0 +1,3 @@
+-- The order of small runs, computed.
+pub mod Judged
+pub mod Locks

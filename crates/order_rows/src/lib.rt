@@ -1,0 +1,6 @@
+//! The order of small runs, computed.
+#![tactic(auto)]
+
+mod locks;
+
+pub use locks::two_puts_in_a_lock;
