@@ -1,3 +1,7 @@
--- The order of small runs, computed.
+-- The findings, points and ordered reads of small runs.
+pub mod Deliveries
+pub mod Exchanges
 pub mod Judged
 pub mod Locks
+pub mod Posts
+pub mod Requests
