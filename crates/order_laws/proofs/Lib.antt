@@ -1,0 +1,3 @@
+-- Laws of the order of a run.
+pub mod Edges
+pub mod Members

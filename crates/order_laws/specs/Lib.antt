@@ -1,0 +1,2 @@
+-- Laws of the order of a run, of its vector clocks and of its findings.
+pub mod OrderLaws
