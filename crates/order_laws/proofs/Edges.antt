@@ -32,7 +32,7 @@ naming_append rank xs ys = sum_by-append (λ x. cond (is_member rank x) 1 0) xs 
 
 take_append : {X : Type 0} (n : ℕ) (xs ys : List X) → take n (xs ++ ys) ≡ take n xs ++ take (n - length xs) ys
 take_append zero xs ys = let none : zero - length xs ≡ zero = omega arith in sym (ap (λ k. take k ys) none)
-take_append (suc n) [] ys = refl
+take_append (suc n) [] ys = let all : suc n - 0 ≡ suc n = omega arith in sym (ap (λ k. take k ys) all)
 take_append (suc n) (x ∷ xs) ys =
     let same : suc n - suc (length xs) ≡ n - length xs = omega arith in
     ap (λ l. x ∷ l) (take_append n xs ys ∙ ap (λ k. take n xs ++ take k ys) (sym same))
@@ -42,8 +42,8 @@ naming_take rank zero more xs = omega arith
 naming_take rank (suc n) more [] = omega arith
 naming_take rank (suc n) more (x ∷ xs) =
     let on : suc n + more ≡ suc (n + more) = omega arith in
-    let a : naming rank (x ∷ take n xs) ≡ cond (is_member rank x) 1 0 + naming rank (take n xs) = sum_by-cons _ _ _ in
-    let b : naming rank (x ∷ take (n + more) xs) ≡ cond (is_member rank x) 1 0 + naming rank (take (n + more) xs) = sum_by-cons _ _ _ in
+    let a : naming rank (x ∷ take n xs) ≡ cond (is_member rank x) 1 0 + naming rank (take n xs) = sum_by-cons (λ (g : List ℕ). cond (is_member rank g) 1 0) x (take n xs) in
+    let b : naming rank (x ∷ take (n + more) xs) ≡ cond (is_member rank x) 1 0 + naming rank (take (n + more) xs) = sum_by-cons (λ (g : List ℕ). cond (is_member rank g) 1 0) x (take (n + more) xs) in
     let c = naming_take rank n more xs in
     let d : naming rank (take (suc n + more) (x ∷ xs)) ≡ naming rank (x ∷ take (n + more) xs) = ap (λ k. naming rank (take k (x ∷ xs))) on in
     omega arith
@@ -60,8 +60,8 @@ arrivals_grow xs ys c rank window =
     let call : Act → Call = λ act. act.row.call in
     let apart = filter-append test xs ys in
     let all : length (arrivals (xs ++ ys) c rank window) ≡ length (filter test xs) + length (filter test ys) =
-        length-map call (filter test (xs ++ ys)) ∙ ap length apart ∙ length-append (filter test xs) (filter test ys) in
-    let some : length (arrivals xs c rank window) ≡ length (filter test xs) = length-map call (filter test xs) in
+        length-map (filter test (xs ++ ys)) call ∙ ap length apart ∙ length-append (filter test xs) (filter test ys) in
+    let some : length (arrivals xs c rank window) ≡ length (filter test xs) = length-map (filter test xs) call in
     omega arith
 
 -- what is counted of a list of synchronisations, and of a longer one
@@ -228,39 +228,40 @@ waited_ascends qa qb more pa pb entries window has h =
 
 -- ---- synchronisations of step One
 
-one_ascends : (qa qb : Question) (more : List Act) (pa pb : ℕ) (first second : Synchronisation) → qa.entries ≡ qb.entries ++ more → qa.window ≡ qb.window → pb ≤ pa →
-    may_synchronise_now qb second ≡ true →
-    is_edge_by (record { place = pa; step = One; asked = qa }) (record { place = pb; step = One; asked = qb }) first second ≡ true → ⊥
-one_ascends qa qb more pa pb first second entries window late may h =
-    let a : Event = record { place = pa; step = One; asked = qa } in
-    let b : Event = record { place = pb; step = One; asked = qb } in
-    elim (or_cases _ _ h) [
-      | inl early ↦ elim (or_cases _ _ early) [
-        | inl started ↦ starts_after a b started
-        | inr waited ↦ waits_after a b waited
-      ]
-      | inr locked ↦ locks_after a b locked
-    ]
-  where
-    starts_after : (a b : Event) → list_any (λ posted. list_any (is_started_by (record { place = pa; step = One; asked = qa }) posted (record { place = pb; step = One; asked = qb })) (group_of_start second)) (group_of_post first) ≡ true → ⊥
-    starts_after a b started =
-        let posted = any_in (λ posted. list_any (is_started_by (record { place = pa; step = One; asked = qa }) posted (record { place = pb; step = One; asked = qb })) (group_of_start second)) (group_of_post first) started in
-        let group = any_in (is_started_by (record { place = pa; step = One; asked = qa }) posted.0 (record { place = pb; step = One; asked = qb })) (group_of_start second) posted.2 in
-        let is = start_of second group.0 group.1 in
-        let has : start_has_posts qb (members_of is.0) ≡ true = subst (λ s. may_synchronise_now qb s ≡ true) is.2 may in
-        started_ascends qa qb more pa pb posted.0 group.0 entries window (subst (λ g. start_has_posts qb g ≡ true) (sym is.3) has) group.2
-    waits_after : (a b : Event) → (is_complete first && is_wait second && is_waited_for_by (record { place = pa; step = One; asked = qa }) (record { place = pb; step = One; asked = qb })) ≡ true → ⊥
-    waits_after a b waited =
-        let two = and_parts _ _ waited in
-        let is = wait_of second (and_parts _ _ two.0).1 in
-        let has : wait_has_completes qb ≡ true = subst (λ s. may_synchronise_now qb s ≡ true) is.1 may in
-        waited_ascends qa qb more pa pb entries window has two.1
-    locks_after : (a b : Event) → option_map_or (λ unlocked. option_map_or (is_locked_after (record { place = pa; step = One; asked = qa }) unlocked (record { place = pb; step = One; asked = qb })) (lock_of second) false) (unlock_of first) false ≡ true → ⊥
-    locks_after a b locked =
-        let unlocked = some_of (λ unlocked. option_map_or (is_locked_after (record { place = pa; step = One; asked = qa }) unlocked (record { place = pb; step = One; asked = qb })) (lock_of second) false) (unlock_of first) locked in
-        let lock = some_of (is_locked_after (record { place = pa; step = One; asked = qa }) unlocked.0 (record { place = pb; step = One; asked = qb })) (lock_of second) unlocked.2 in
-        let above : pa < pb = ltb-true pa pb (and_parts _ _ lock.2).0 in
-        omega arith
+module _ (qa qb : Question) (more : List Act) (pa pb : ℕ) (first second : Synchronisation) (entries : qa.entries ≡ qb.entries ++ more) (window : qa.window ≡ qb.window) (may : may_synchronise_now qb second ≡ true) where
+  abbrev first_event : Event
+  first_event = record { place = pa; step = One; asked = qa }
+
+  abbrev second_event : Event
+  second_event = record { place = pb; step = One; asked = qb }
+
+  starts_after : list_any (λ posted. list_any (is_started_by first_event posted second_event) (group_of_start second)) (group_of_post first) ≡ true → ⊥
+  starts_after started =
+      let posted = any_in (λ posted. list_any (is_started_by first_event posted second_event) (group_of_start second)) (group_of_post first) started in
+      let group = any_in (is_started_by first_event posted.0 second_event) (group_of_start second) posted.2 in
+      let is = start_of second group.0 group.1 in
+      let has : start_has_posts qb (members_of is.0) ≡ true = subst (λ s. may_synchronise_now qb s ≡ true) is.2 may in
+      started_ascends qa qb more pa pb posted.0 group.0 entries window (subst (λ g. start_has_posts qb g ≡ true) (sym is.3) has) group.2
+
+  waits_after : (is_complete first && is_wait second && is_waited_for_by first_event second_event) ≡ true → ⊥
+  waits_after waited =
+      let two = and_parts (is_complete first && is_wait second) (is_waited_for_by first_event second_event) waited in
+      let is = wait_of second (and_parts (is_complete first) (is_wait second) two.0).1 in
+      let has : wait_has_completes qb ≡ true = subst (λ s. may_synchronise_now qb s ≡ true) is.1 may in
+      waited_ascends qa qb more pa pb entries window has two.1
+
+  locks_after : pb ≤ pa → option_map_or (λ unlocked. option_map_or (is_locked_after first_event unlocked second_event) (lock_of second) false) (unlock_of first) false ≡ true → ⊥
+  locks_after late locked =
+      let unlocked = some_of (λ unlocked. option_map_or (is_locked_after first_event unlocked second_event) (lock_of second) false) (unlock_of first) locked in
+      let lock = some_of (is_locked_after first_event unlocked.0 second_event) (lock_of second) unlocked.2 in
+      let above : pa < pb = ltb-true pa pb (and_parts _ _ lock.2).0 in
+      omega arith
+
+  one_ascends : pb ≤ pa → is_edge_by first_event second_event first second ≡ true → ⊥
+  one_ascends late h = elim (or_cases _ _ h) [
+    | inl early ↦ elim (or_cases _ _ early) [ inl started ↦ starts_after started | inr waited ↦ waits_after waited ]
+    | inr locked ↦ locks_after late locked
+  ]
 
 -- an entry that is allowed has no edge from an entry that is not before it
 pub no_edge_back : (qa qb : Question) (more : List Act) (pa pb : ℕ) (sa sb : Step) → qa.entries ≡ qb.entries ++ more → qa.rank < qb.ranks → pb ≤ pa → decision qb sb ≡ Allow →
@@ -279,7 +280,7 @@ no_edge_back qa qb more pa pb sa sb entries within late allowed h =
     by_steps One One allowed single window =
         let first = some_of (λ first. option_map_or (is_edge_by (record { place = pa; step = One; asked = qa }) (record { place = pb; step = One; asked = qb }) first) (synchronisation_of qb.call) false) (synchronisation_of qa.call) single in
         let second = some_of (is_edge_by (record { place = pa; step = One; asked = qa }) (record { place = pb; step = One; asked = qb }) first.0) (synchronisation_of qb.call) first.2 in
-        one_ascends qa qb more pa pb first.0 second.0 entries window late (may_now qb second.0 allowed second.1) second.2
+        one_ascends qa qb more pa pb first.0 second.0 entries window (may_now qb second.0 allowed second.1) late second.2
     by_steps One Arrive allowed single window = absurd (false≢true single)
     by_steps One Leave allowed single window = absurd (false≢true single)
     by_steps Arrive sb allowed single window = absurd (false≢true single)

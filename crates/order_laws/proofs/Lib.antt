@@ -1,3 +1,8 @@
 -- Laws of the order of a run.
+pub mod Decide
+pub mod Delays
 pub mod Edges
+pub mod Events
 pub mod Members
+pub mod Order
+pub mod Pairs

@@ -55,16 +55,16 @@ in_filter p (there {y} {xs} m) e = elim (cases_Bool (p y)) [
   | inr fails ↦ rw fails (in_filter p m e)
 ]
 
+kept_in : {X : Type 0} (p : X → Bool) (y : X) (ys : List X) {x : X} → p y ≡ true → (In x (filter p ys) → In x ys × (p x ≡ true)) → In x (y ∷ filter p ys) → In x (y ∷ ys) × (p x ≡ true)
+kept_in p y ys passes rest here = (here, passes)
+kept_in p y ys passes rest (there m) = let one = rest m in (there one.0, one.1)
+
 pub filter_in : {X : Type 0} (p : X → Bool) (xs : List X) {x : X} → In x (filter p xs) → In x xs × (p x ≡ true)
 filter_in p [] m = elim m [ ]
 filter_in p (y ∷ ys) {x} m = elim (cases_Bool (p y)) [
-  | inl passes ↦ first passes (rw passes at m)
+  | inl passes ↦ kept_in p y ys passes (filter_in p ys) (rw passes at m)
   | inr fails ↦ let rest = filter_in p ys (rw fails at m) in (there rest.0, rest.1)
 ]
-  where
-    first : p y ≡ true → In x (y ∷ filter p ys) → In x (y ∷ ys) × (p x ≡ true)
-    first passes here = (here, passes)
-    first passes (there k) = let rest = filter_in p ys k in (there rest.0, rest.1)
 
 pub flat_map_in : {X Y : Type 0} (f : X → List Y) (xs : List X) {y : Y} → In y (flat_map f xs) → (x : X) × In x xs × In y (f x)
 flat_map_in f [] m = elim m [ ]

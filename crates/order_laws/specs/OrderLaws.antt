@@ -2,6 +2,7 @@
 use Rattle.std.specs.Prelude.{◌≡◌, ◌≤◌, ◌<◌, ◌↔◌, IsTrue, Contains}
 use Rattle.rma_types.specs.declared.accesses.Id.{Id}
 use Rattle.rma_types.specs.declared.schedules.Delay.{Delay}
+use Rattle.rma_types.specs.declared.schedules.Delay.TheVariants.{Seeded}
 use Rattle.rma_types.specs.declared.scripts.Script.{Script}
 use Rattle.rma_record.specs.declared.runs.Run.{Run}
 use Rattle.lawful_runs.specs.LawfulRun.{IsLawful}
@@ -21,3 +22,7 @@ abbrev pub EdgesAscend : Type 0
 EdgesAscend = (script : Script) (delay : Delay) (run : Run) → IsLawful script delay run →
     (a b : NamedEvent) → Contains (events_in script run) a → Contains (events_in script run) b →
     IsTrue (is_edge_between a b) → a.event.place < b.event.place
+
+-- a run that is lawful with any delay is lawful where accesses may be touched at drawn moments
+abbrev pub DelaysAreDrawn : Type 0
+DelaysAreDrawn = (script : Script) (delay : Delay) (run : Run) → IsLawful script delay run → IsLawful script Seeded run

@@ -3,12 +3,30 @@
 //! Each function does nothing: its clauses are the theorems, whose statements stand in `specs/`.
 #![tactic(auto)]
 
-ghost use Rattle.order_laws.specs.OrderLaws.{IsTransitive, AgreesWithLogs, EdgesAscend};
+ghost use Rattle.order_laws.specs.ClockLaws.{ClocksDecide};
+ghost use Rattle.order_laws.specs.FindingLaws.{ReadsAreNoPair, PartnersAreLeast, EachPairIsFound};
+ghost use Rattle.order_laws.specs.OrderLaws.{IsTransitive, AgreesWithLogs, EdgesAscend, DelaysAreDrawn};
 
 /// The order of a run is transitive. In a lawful run it agrees with the order of each log, and each edge leads to an entry
-/// of a greater place (MPI 3.1, section 11.7, in this project's profile).
+/// of a greater place (MPI 3.1, section 11.7, in this project's profile). What is lawful with any delay is lawful where
+/// accesses may be touched at drawn moments.
 pub fn order_of_a_run()
     ensures transitive { IsTransitive }
     ensures logs { AgreesWithLogs }
     ensures ascending { EdgesAscend }
+    ensures drawn { DelaysAreDrawn }
+{}
+
+/// Clocks of the entries of a lawful run decide its order, where each counts its own entry, counts what the entries count
+/// that directly precede it, and counts nothing else.
+pub fn clocks_of_a_run()
+    ensures decide { ClocksDecide }
+{}
+
+/// Two accesses of which neither is an update are no forbidden pair. Each finding has the least partner, and each access
+/// that forms a forbidden pair with one of a smaller name has a finding (MPI 3.1, section 11.7, in this project's profile).
+pub fn findings_of_a_run()
+    ensures reads { ReadsAreNoPair }
+    ensures least { PartnersAreLeast }
+    ensures complete { EachPairIsFound }
 {}
