@@ -201,8 +201,8 @@ wait_of Syncs h = absurd (false≢true h)
 started_ascends : (qa qb : Question) (more : List Act) (pa pb : ℕ) (posted group : List ℕ) → qa.entries ≡ qb.entries ++ more → qa.window ≡ qb.window → start_has_posts qb group ≡ true →
     is_started_by (record { place = pa; step = One; asked = qa }) posted (record { place = pb; step = One; asked = qb }) group ≡ true → ⊥
 started_ascends qa qb more pa pb posted group entries window has h =
-    let two = and_parts _ _ h in
-    let named = and_parts _ _ two.0 in
+    let two = and_parts (is_member qb.rank posted && is_member qa.rank group) (naming qb.rank (posts qa qa.rank) == naming qa.rank (starts qb qb.rank)) h in
+    let named = and_parts (is_member qb.rank posted) (is_member qa.rank group) two.0 in
     let counts : naming qb.rank (posts qa qa.rank) ≡ naming qa.rank (starts qb qb.rank) = eqb-true _ _ two.1 in
     let below : naming qa.rank (starts qb qb.rank) < naming qb.rank (posts qb qa.rank) =
         ltb-true _ _ (all_in (λ member. nat_lt (naming member (starts qb qb.rank)) (naming qb.rank (posts qb member))) has (member_in qa.rank group named.1)) in
@@ -215,8 +215,9 @@ started_ascends qa qb more pa pb posted group entries window has h =
 waited_ascends : (qa qb : Question) (more : List Act) (pa pb : ℕ) → qa.entries ≡ qb.entries ++ more → qa.window ≡ qb.window → wait_has_completes qb ≡ true →
     is_waited_for_by (record { place = pa; step = One; asked = qa }) (record { place = pb; step = One; asked = qb }) ≡ true → ⊥
 waited_ascends qa qb more pa pb entries window has h =
-    let two = and_parts _ _ h in
-    let named = and_parts _ _ two.0 in
+    let group = group_completed (record { place = pa; step = One; asked = qa }) in
+    let two = and_parts (is_member qb.rank group && is_member qa.rank (last_posted qb)) (naming qb.rank (completed qa qa.rank) + 1 == naming qa.rank (posts qb qb.rank)) h in
+    let named = and_parts (is_member qb.rank group) (is_member qa.rank (last_posted qb)) two.0 in
     let counts : naming qb.rank (completed qa qa.rank) + 1 ≡ naming qa.rank (posts qb qb.rank) = eqb-true _ _ two.1 in
     let equal : naming qb.rank (completed qb qa.rank) ≡ naming qa.rank (posts qb qb.rank) =
         eqb-true _ _ (all_in (λ member. naming qb.rank (completed qb member) == naming member (posts qb qb.rank)) has (member_in qa.rank (last_posted qb) named.1)) in

@@ -28,7 +28,7 @@ use Rattle.order_laws.proofs.Members.{In, here, there, append_in, in_append_righ
 -- ---- lists
 
 -- what holds of each element and its place, where the first has this place
-pub AllFrom : {X : Type 0} → (ℕ → X → Type 0) → ℕ → List X → Type 0
+unfoldable pub AllFrom : {X : Type 0} → (ℕ → X → Type 0) → ℕ → List X → Type 0
 AllFrom P at [] = Unit {0}
 AllFrom P at (x ∷ xs) = P at x × AllFrom P (at + 1) xs
 

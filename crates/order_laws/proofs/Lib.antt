@@ -1,4 +1,5 @@
 -- Laws of the order of a run.
+pub mod Ascending
 pub mod Decide
 pub mod Delays
 pub mod Edges
@@ -6,3 +7,4 @@ pub mod Events
 pub mod Members
 pub mod Order
 pub mod Pairs
+pub mod Stamps

@@ -26,9 +26,6 @@ joined_at (x ∷ xs) [] rank = omega arith
 joined_at (x ∷ xs) (y ∷ ys) zero = refl
 joined_at (x ∷ xs) (y ∷ ys) (suc rank) = joined_at xs ys rank
 
-joined_step : List ℕ → Bool → List ℕ → List ℕ
-joined_step counts test rest = if test then joined counts rest else rest
-
 step_rest : (counts rest : List ℕ) (test : Bool) (rank : ℕ) → slice_index rest rank ≤ slice_index (if test then joined counts rest else rest) rank
 step_rest counts rest true rank = let at = joined_at counts rest rank in omega arith
 step_rest counts rest false rank = omega arith
@@ -50,11 +47,11 @@ with_own (s ∷ stamps) entry counts rank =
     let more = step_rest s.counts (joined_with stamps entry counts) (precedes s.entry entry) rank in
     omega arith
 
-with_stamp : (stamps : List Stamp) (entry : NamedEvent) (counts : List ℕ) (rank : ℕ) (s : Stamp) → In s stamps → precedes s.entry entry ≡ true → count_in s rank ≤ slice_index (joined_with stamps entry counts) rank
-with_stamp [] entry counts rank s m h = elim m [ ]
-with_stamp (s ∷ stamps) entry counts rank s here h = step_counts s.counts (joined_with stamps entry counts) (precedes s.entry entry) rank h
-with_stamp (u ∷ stamps) entry counts rank s (there m) h =
-    let rest = with_stamp stamps entry counts rank s m h in
+with_stamp : (stamps : List Stamp) (entry : NamedEvent) (counts : List ℕ) (rank : ℕ) {s : Stamp} → In s stamps → precedes s.entry entry ≡ true → count_in s rank ≤ slice_index (joined_with stamps entry counts) rank
+with_stamp [] entry counts rank m h = elim m [ ]
+with_stamp (s ∷ stamps) entry counts rank here h = step_counts s.counts (joined_with stamps entry counts) (precedes s.entry entry) rank h
+with_stamp (u ∷ stamps) entry counts rank (there m) h =
+    let rest = with_stamp stamps entry counts rank m h in
     let more = step_rest u.counts (joined_with stamps entry counts) (precedes u.entry entry) rank in
     omega arith
 
@@ -68,8 +65,8 @@ with_from (s ∷ stamps) entry counts rank n below = elim (step_from s.counts (j
 
 own_at : (ranks : ℕ) (id : Id) → id.rank < ranks → slice_index (own_counts ranks id) id.rank ≡ id.index + 1
 own_at ranks id within =
-    let long : length (replicate ranks 0) ≡ ranks = length-replicate ranks 0 in
-    get_or-set_same (replicate ranks 0) id.rank (id.index + 1) 0 (omega arith)
+    let long : length (replicate {A = ℕ} ranks 0) ≡ ranks = length-replicate {A = ℕ} ranks 0 in
+    get_or-set_same (replicate {A = ℕ} ranks 0) id.rank (id.index + 1) 0 (omega (arith, long, within))
 
 none_at : (ranks rank : ℕ) → slice_index (replicate ranks 0) rank ≡ 0
 none_at zero rank = refl
@@ -193,7 +190,7 @@ module _ (script : Script) (delay : Delay) (run : Run) (lawful : IsLawful script
   joins : (s t : Stamp) → In s (stamps_in script run) → In t (stamps_in script run) → precedes s.entry t.entry ≡ true → (rank : ℕ) → count_in s rank ≤ count_in t rank
   joins s t of_s of_t h rank =
       let counts = counts_of t of_t rank in
-      let more = with_stamp (stamped t of_t).before t.entry (own_counts script.ranks t.entry.id) rank s (stamped_before s t of_s of_t h) h in
+      let more = with_stamp (stamped t of_t).before t.entry (own_counts script.ranks t.entry.id) rank (stamped_before s t of_s of_t h) h in
       omega arith
 
   cause : (t : Stamp) → In t (stamps_in script run) → (a : Id) → a.index < count_in t a.rank → IsCountedFrom (stamps_in script run) t.entry a
