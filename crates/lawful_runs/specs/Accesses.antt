@@ -17,7 +17,7 @@ use Rattle.call_rules.specs.Layout.{layout}
 use Rattle.call_rules.specs.Pieces.{pieces, numbers_from}
 use Rattle.call_rules.specs.Transfers.{change_of}
 use Rattle.lawful_runs.specs.Logs.{Named, named_in, log_of, calls_of}
-use Rattle.rank_rules.specs.Pending.{PendingAccess}
+use Rattle.rank_rules.specs.declared.pending.PendingAccess.{PendingAccess}
 
 -- the transfer that the call of this number makes
 abbrev pub transfer_at : List Call → ℕ → Option Transfer

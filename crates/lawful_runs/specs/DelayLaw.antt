@@ -11,7 +11,8 @@ use Rattle.lawful_runs.specs.Accesses.{issued_at}
 use Rattle.lawful_runs.specs.Items.{is_touch}
 use Rattle.lawful_runs.specs.Stages.{RankOfRun, calls_here}
 use Rattle.lawful_runs.specs.TouchLaw.{FollowsDirectly, issued_in, is_local, pieces_here, touched_by, waits_at}
-use Rattle.rank_rules.specs.Pending.{PendingAccess, way}
+use Rattle.rank_rules.specs.Pending.{way}
+use Rattle.rank_rules.specs.declared.pending.PendingAccess.{PendingAccess}
 
 -- the access is not yet touched whole by these items
 abbrev pub is_unfinished : RankOfRun → List Item → PendingAccess → Bool

@@ -13,7 +13,8 @@ use Rattle.call_rules.specs.Actions.{transfer_of}
 use Rattle.lawful_runs.specs.Accesses.{issued_at, issued_from, pieces_of}
 use Rattle.lawful_runs.specs.Items.{is_ended, is_own_refusal, number_in, belongs_to}
 use Rattle.lawful_runs.specs.Stages.{RankOfRun, calls_here, known_at}
-use Rattle.rank_rules.specs.Pending.{PendingAccess, gives_way, must_wait}
+use Rattle.rank_rules.specs.Pending.{gives_way, must_wait}
+use Rattle.rank_rules.specs.declared.pending.PendingAccess.{PendingAccess}
 
 -- the element and the cell of each touch of the access whose Issue has this index
 abbrev pub touch_of : ℕ → Item → List (ℕ × ℕ)

@@ -1,6 +1,6 @@
 -- What a rank knows at a place of its log, as the fold of its accepted calls, and the class that it gives a call by that
 -- alone: MPI 3.1, sections 8.4, 11.2, 11.3.5, 11.5 and 11.6, in this project's order.
-use Rattle.std.specs.Prelude.{ℕ, Bool, true, false, List, [], Option, Some, None, slice_get, is_none, if◌then◌else◌}
+use Rattle.std.specs.Prelude.{ℕ, Bool, true, false, List, Option, Some, None, slice_get, is_none, if◌then◌else◌}
 use Rattle.std.specs.List.{fold}
 use Rattle.std.specs.Option.{option_map_or}
 use Rattle.rma_types.specs.declared.accesses.Step.{Step}
@@ -14,7 +14,7 @@ use Rattle.call_rules.specs.Actions.{action_of, transfer_of}
 use Rattle.rank_rules.specs.Classes.{least_class}
 use Rattle.rank_rules.specs.Epochs.{Epochs, first_epochs, epochs_after}
 use Rattle.rank_rules.specs.EpochTests.{epoch_class}
-use Rattle.rank_rules.specs.Requests.{LiveRequest, requests_after, request_class}
+use Rattle.rank_rules.specs.Requests.{Requests, no_requests, requests_after, request_class}
 use Rattle.rank_rules.specs.Windows.{RankWindows, no_windows, windows_after}
 use Rattle.rank_rules.specs.WindowTests.{window_class}
 
@@ -22,12 +22,12 @@ use Rattle.rank_rules.specs.WindowTests.{window_class}
 pub record Knowledge : Type 0 where
   pub windows : RankWindows
   pub epochs : List Epochs
-  pub requests : List LiveRequest
+  pub requests : Requests
 
 -- what a rank knows before its first call
 abbrev pub nothing_known : (rank : ℕ) → (ranks : ℕ) → (space : ℕ) → Knowledge
 nothing_known rank ranks space =
-    record { windows = no_windows rank ranks space; epochs = first_epochs; requests = [] }
+    record { windows = no_windows rank ranks space; epochs = first_epochs; requests = no_requests }
 
 -- the class that the rank gives the call by its own tests, or none: the least, by number, of those of three subjects
 abbrev pub own_class : Knowledge → Call → Option Class

@@ -1,21 +1,18 @@
 -- Which accesses are pending, and which a call must wait for: this project's profile of MPI 3.1, section 11.7.
-use Rattle.std.specs.Prelude.{ℕ, zero, suc, ◌+◌, ◌/◌, ◌%◌, Bool, true, false, ◌&&◌, ◌==◌, nat_lt, List, take, Option, Some, None, slice_get, ℤ}
-use Rattle.std.specs.List.{list_any, position}
+use Rattle.std.specs.Prelude.{ℕ, zero, suc, ◌+◌, ◌/◌, ◌%◌, Bool, true, false, ◌&&◌, ◌==◌, nat_lt, if◌then◌else◌, List, [], ◌∷◌, take, Option, Some, None, slice_get, ℤ}
+use Rattle.std.specs.List.{position}
 use Rattle.std.specs.Option.{option_map_or}
 use Rattle.rma_types.specs.declared.accesses.Access.{Access}
 use Rattle.rma_types.specs.declared.calls.Call.{Call}
 use Rattle.call_rules.specs.Actions.{Action, Creates, Frees, Attaches, Detaches, Synchronises, Meets, Moves, EndsRequest, Synchronisation, Fences, Posts, Starts, Completes, Waits, Locks, Unlocks, Flushes, Syncs, action_of}
 use Rattle.call_rules.specs.Ranks.{natural}
 use Rattle.call_rules.specs.Transfers.{is_ordered_kind}
-use Rattle.rank_rules.specs.Requests.{LiveRequest}
+use Rattle.rank_rules.specs.Requests.{Requests, maker_of}
+use Rattle.rank_rules.specs.declared.pending.PendingAccess.{PendingAccess}
 
--- an access that is issued and not yet touched: the index of its Issue in the log, the number of its call, the access, and
--- whether its call fetches
-pub record PendingAccess : Type 0 where
-  pub index : ℕ
-  pub number : ℕ
-  pub access : Access
-  pub fetches : Bool
+-- an access without bytes has no touch, and is never pending
+abbrev pub made_pending : PendingAccess → List PendingAccess
+made_pending one = if nat_lt 0 one.access.len then one ∷ [] else []
 
 -- the two accesses reach a common cell, of 4 bytes, of one rank's memory
 abbrev pub share_cell : Access → Access → Bool
@@ -65,12 +62,11 @@ completes_access (Flushes target true) one = is_towards target one && one.fetche
 completes_access Syncs one = false
 
 -- the access is that of the live request of this name
-abbrev pub is_requested_by : List LiveRequest → ℕ → PendingAccess → Bool
-is_requested_by requests name one =
-    list_any (λ (live : LiveRequest). live.name == name && live.number == one.number) requests
+abbrev pub is_requested_by : Requests → ℕ → PendingAccess → Bool
+is_requested_by requests name one = option_map_or (λ number. number == one.number) (maker_of requests name) false
 
 -- an action must wait for the pending access
-abbrev pub waits_for : List LiveRequest → Action → PendingAccess → Bool
+abbrev pub waits_for : Requests → Action → PendingAccess → Bool
 waits_for requests (Creates creation) one = false
 waits_for requests (Frees win) one = false
 waits_for requests (Attaches win base bytes) one = false
@@ -81,10 +77,10 @@ waits_for requests (Moves t) one = false
 waits_for requests (EndsRequest req) one = one.fetches && is_requested_by requests req one
 
 -- the call must wait for the pending access before its first item
-abbrev pub must_wait : List LiveRequest → Call → PendingAccess → Bool
+abbrev pub must_wait : Requests → Call → PendingAccess → Bool
 must_wait requests call one = waits_for requests (action_of call) one
 
 -- the place of the pending access that must be delivered next before the call's first item, after giving way
-abbrev pub awaited : List LiveRequest → Call → List PendingAccess → Option ℕ
+abbrev pub awaited : Requests → Call → List PendingAccess → Option ℕ
 awaited requests call pending =
     option_map_or (λ at. Some (way pending at)) (position (must_wait requests call) pending) None

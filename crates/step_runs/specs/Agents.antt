@@ -10,7 +10,8 @@ use Rattle.call_rules.specs.Actions.{transfer_of}
 use Rattle.lawful_runs.specs.Stages.{Stage, calls_at, first_knowledge}
 use Rattle.rank_rules.specs.Courses.{course_of, has_entry}
 use Rattle.rank_rules.specs.Knowledge.{Knowledge, learn, own_class}
-use Rattle.rank_rules.specs.Pending.{PendingAccess, awaited}
+use Rattle.rank_rules.specs.Pending.{awaited}
+use Rattle.rank_rules.specs.declared.pending.PendingAccess.{PendingAccess}
 use Rattle.step_runs.specs.Generator.{seeded, delivery_stream}
 
 -- A rank: its number; its log; what it knows; the number of the first call that does not have all its items; whether that

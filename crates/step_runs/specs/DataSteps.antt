@@ -1,6 +1,6 @@
 -- A step of a rank without the board: a draw, a refusal by the rank, an item of its own, or the delivery of an access. This
 -- project's profile of MPI 3.1, section 11.7.
-use Rattle.std.specs.Prelude.{ℕ, ◌/◌, ◌%◌, Bool, true, ◌==◌, if◌then◌else◌, List, [], ◌∷◌, ◌++◌, length, slice_get, remove, nat_lt, Option, Some, None}
+use Rattle.std.specs.Prelude.{ℕ, ◌/◌, ◌%◌, Bool, true, ◌==◌, if◌then◌else◌, List, [], ◌∷◌, ◌++◌, length, slice_get, remove, Option, Some, None}
 use Rattle.std.specs.Option.{option_map_or}
 use Rattle.rma_types.specs.declared.accesses.Access.{Access}
 use Rattle.rma_types.specs.declared.calls.Call.{Call}
@@ -19,7 +19,9 @@ use Rattle.lawful_runs.specs.Stages.{Stage, calls_at}
 use Rattle.lawful_runs.specs.TouchLaw.{is_local}
 use Rattle.rank_rules.specs.Courses.{Course, OneNull, OneIssue, LookUpAndIssue, OneFlush, OneRequest, ArriveAndLeave, EntryOrTested, OneEntry, course_of, access_of}
 use Rattle.rank_rules.specs.Knowledge.{own_class}
-use Rattle.rank_rules.specs.Pending.{PendingAccess, way}
+use Rattle.rank_rules.specs.Pending.{way}
+use Rattle.rank_rules.specs.declared.pending.PendingAccess.{PendingAccess}
+pub use Rattle.rank_rules.specs.Pending.{made_pending}
 use Rattle.step_runs.specs.Agents.{Agent, kept, finished, next_call, must_draw, awaited_by, has_pending}
 use Rattle.step_runs.specs.Generator.{stirred, drawn_from}
 
@@ -74,10 +76,6 @@ abbrev pub is_at_once : Delay → Access → Bool
 is_at_once NoDelay access = true
 is_at_once EndDelay access = is_local access.kind
 is_at_once SeededDelay access = is_local access.kind
-
--- an access without bytes has no touch, and is never pending
-abbrev pub made_pending : PendingAccess → List PendingAccess
-made_pending one = if nat_lt 0 one.access.len then one ∷ [] else []
 
 -- the Issue of an access, which is pending from then on
 abbrev pub with_issue : Stage → Agent → Access → Transfer → Agent
