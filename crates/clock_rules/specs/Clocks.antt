@@ -71,7 +71,8 @@ is_counted stamps a b = (a.rank == b.rank && nat_le a.index b.index) || list_any
 abbrev pub IsCountedFrom : List Stamp → NamedEvent → Id → Type 0
 IsCountedFrom stamps entry a =
     ((a.rank ≡ entry.id.rank) × (a.index ≤ entry.id.index))
-    ⊎ ((earlier : Stamp) × Contains stamps earlier × IsTrue (precedes earlier.entry entry) × (a.index < count_in earlier a.rank))
+    ⊎ ((earlier : Stamp) × Contains stamps earlier
+        × IsTrue (precedes earlier.entry entry) × (a.index < count_in earlier a.rank))
 
 -- the clocks of the entries of a run, made in any way
 pub record KeepClockLaws (script : Script) (run : Run) (stamps : List Stamp) : Type 0 where

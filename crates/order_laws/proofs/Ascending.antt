@@ -11,7 +11,7 @@ use Rattle.rma_types.specs.declared.scripts.Script.{Script}
 use Rattle.rma_record.specs.declared.runs.Run.{Run}
 use Rattle.call_rules.specs.Actions.{Transfer}
 use Rattle.call_rules.specs.Pieces.{numbers_from}
-use Rattle.rank_rules.specs.Pending.{PendingAccess}
+use Rattle.rank_rules.specs.declared.pending.PendingAccess.{PendingAccess}
 use Rattle.lawful_runs.specs.Accesses.{EachPair, transfer_at, issued_by, issued_from}
 use Rattle.lawful_runs.specs.Logs.{log_of, calls_of}
 use Rattle.order_rules.specs.CallSteps.{IssuedAccess, issued_access, accesses_of, accesses_in}

@@ -5,6 +5,7 @@ pub mod Delays
 pub mod Edges
 pub mod Events
 pub mod Members
+pub mod OneList
 pub mod Order
 pub mod Pairs
 pub mod Stamps

@@ -5,10 +5,12 @@ use Rattle.rma_types.specs.declared.accesses.Id.{Id}
 use Rattle.rma_types.specs.declared.findings.Finding.{Finding}
 use Rattle.rma_types.specs.declared.findings.Model.{Model}
 use Rattle.rma_types.specs.declared.findings.Rule.{Rule}
+use Rattle.rma_types.specs.declared.schedules.Delay.{Delay}
 use Rattle.rma_types.specs.declared.scripts.Script.{Script}
 use Rattle.rma_record.specs.declared.runs.Run.{Run}
 use Rattle.lawful_runs.specs.Accesses.{EachPair}
-use Rattle.order_rules.specs.Findings.{judged_accesses, forbidden, findings}
+use Rattle.lawful_runs.specs.LawfulRun.{IsLawful}
+use Rattle.order_rules.specs.Findings.{judged_accesses, forbidden, findings, AreFindings}
 use Rattle.order_rules.specs.Ordered.{JudgedAccess, role_in}
 use Rattle.order_rules.specs.Roles.{Role, RmaUpdate, RmaRead, Store, Load}
 
@@ -33,7 +35,8 @@ AccessesAscend = (script : Script) (run : Run) (model : Model) (before : Id → 
     EachPair (λ (a b : JudgedAccess). IsSmaller a.id b.id) (judged_accesses script run model before)
 
 -- the finding is of an access and the first one before it with which it is a forbidden pair
-pub record IsFirstPair (model : Model) (before : Id → Id → Bool) (accesses : List JudgedAccess) (finding : Finding) : Type 0 where
+pub record IsFirstPair (model : Model) (before : Id → Id → Bool)
+    (accesses : List JudgedAccess) (finding : Finding) : Type 0 where
   pub earlier : List JudgedAccess
   pub second : JudgedAccess
   pub later : List JudgedAccess
@@ -59,3 +62,9 @@ EachPairIsFound = (script : Script) (run : Run) (model : Model) (before : Id →
     judged_accesses script run model before ≡ earlier ++ second ∷ later →
     (first : JudgedAccess) → Contains earlier first → (rule : Rule) → forbidden model before first second ≡ Some rule →
     (finding : Finding) × Contains (findings script run model before) finding × (finding.second ≡ second.id)
+
+-- a lawful run has one list of findings
+abbrev pub FindingsAreOneList : Type 0
+FindingsAreOneList = (script : Script) (delay : Delay) (run : Run) → IsLawful script delay run → (model : Model) →
+    (found : List Finding) × AreFindings script run model found
+    × ((other : List Finding) → AreFindings script run model other → other ≡ found)

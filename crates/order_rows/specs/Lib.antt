@@ -3,5 +3,6 @@ pub mod Deliveries
 pub mod Exchanges
 pub mod Judged
 pub mod Locks
+pub mod Points
 pub mod Posts
 pub mod Requests

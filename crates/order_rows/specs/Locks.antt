@@ -52,7 +52,8 @@ FindsTheStore = Finds store_beside_a_put (plain_run store_beside_a_put) (pair S3
 
 abbrev pub FindsNoStoreWhereUnified : Type 0
 FindsNoStoreWhereUnified =
-    findings store_beside_a_put (plain_run store_beside_a_put) Unified (order_of store_beside_a_put (plain_run store_beside_a_put)) ≡ []
+    let run = plain_run store_beside_a_put in
+    findings store_beside_a_put run Unified (order_of store_beside_a_put run) ≡ []
 
 -- ---- two locks
 

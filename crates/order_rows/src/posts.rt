@@ -7,8 +7,8 @@ pub fn findings_of_a_post()
     ensures completed { FindsTheGetBeforeTheWait }
 {}
 
-/// In two rounds of posts and waits each put is done at the wait of its own round, and the second post orders what stands
-/// before it before the second put (MPI 3.1, section 11.5.2).
+/// In two rounds of posts and waits each put is done at the wait of its own round, and the second post orders what
+/// stands before it before the second put (MPI 3.1, section 11.5.2).
 pub fn findings_of_two_rounds()
     ensures rounds { FindsNoneInTwoRounds }
     ensures done { IsDoneAtItsOwnWait }

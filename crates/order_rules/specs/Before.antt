@@ -1,5 +1,5 @@
--- The order of a run: MPI 3.1, section 11.7, in this project's profile. An item is before another where the order of a log
--- or an edge between two entries leads from the one to the other, directly or through others.
+-- The order of a run: MPI 3.1, section 11.7, in this project's profile. An item is before another where the order of
+-- a log or an edge between two entries leads from the one to the other, directly or through others.
 use Rattle.std.specs.Prelude.{◌≡◌, ◌<◌, ◌↔◌, Bool, ◌&&◌, ◌==◌, IsTrue, List, map}
 use Rattle.std.specs.List.{filter, list_any, zip}
 use Rattle.rma_types.specs.declared.accesses.Id.{Id}
@@ -34,7 +34,8 @@ is_edge_between a b = is_edge a.event b.event
 
 -- an edge leads from the entry of the first name to that of the second
 abbrev pub leads_to : List NamedEvent → Id → Id → Bool
-leads_to events a b = list_any (λ first. list_any (is_edge_between first) (events_named events b)) (events_named events a)
+leads_to events a b =
+    list_any (λ first. list_any (is_edge_between first) (events_named events b)) (events_named events a)
 
 abbrev pub IsEdge : Script → Run → Id → Id → Type 0
 IsEdge script run a b = IsTrue (leads_to (events_in script run) a b)

@@ -1,5 +1,5 @@
--- The accesses of a run and the steps of its synchronising calls, each with what its rank knew before it: this project's
--- record of a run.
+-- The accesses of a run and the steps of its synchronising calls, each with what its rank knew before it: this
+-- project's record of a run.
 use Rattle.std.specs.Prelude.{ℕ, ◌&&◌, ◌==◌, nat_lt, Bool, false, List, [], ◌∷◌, map, take, slice_get, Option, Some, None}
 use Rattle.std.specs.List.{flat_map}
 use Rattle.std.specs.Option.{option_map_or}
@@ -16,7 +16,7 @@ use Rattle.call_rules.specs.Actions.{Transfer, window_named}
 use Rattle.call_rules.specs.Pieces.{numbers_from}
 use Rattle.rank_rules.specs.Epochs.{AccessEpoch, Idle, epochs_at}
 use Rattle.rank_rules.specs.Knowledge.{Knowledge}
-use Rattle.rank_rules.specs.Pending.{PendingAccess}
+use Rattle.rank_rules.specs.declared.pending.PendingAccess.{PendingAccess}
 use Rattle.rank_rules.specs.Windows.{Window, window_of_name}
 use Rattle.lawful_runs.specs.Accesses.{transfer_at, issued_from}
 use Rattle.lawful_runs.specs.LawfulRun.{rank_in}
@@ -50,7 +50,8 @@ step_by Ended = None
 
 abbrev pub call_step : Script → Run → Id → (ℕ × Step) → List CallStep
 call_step script run id (number, step) = option_map_or
-    (λ call. record { id = id; call = call; step = step; known = known_before script run id } ∷ []) (slice_get (calls_of script id.rank) number) []
+    (λ call. record { id = id; call = call; step = step; known = known_before script run id } ∷ [])
+    (slice_get (calls_of script id.rank) number) []
 
 abbrev pub steps_of_item : Script → Run → Named → List CallStep
 steps_of_item script run one = option_map_or (call_step script run one.id) (step_by one.item) []
@@ -83,11 +84,13 @@ epoch_for known transfer = option_map_or (λ (t : Transfer). (epochs_at known.ep
 abbrev pub issued_access : Script → Run → ℕ → PendingAccess → IssuedAccess
 issued_access script run rank issued =
     let id : Id = record { rank = rank; index = issued.index } in
-    record { id = id; issued = issued; epoch = epoch_for (known_before script run id) (transfer_at (calls_of script rank) issued.number) }
+    let transfer = transfer_at (calls_of script rank) issued.number in
+    record { id = id; issued = issued; epoch = epoch_for (known_before script run id) transfer }
 
 -- the accesses of a rank
 abbrev pub accesses_of : Script → Run → ℕ → List IssuedAccess
-accesses_of script run rank = map (issued_access script run rank) (issued_from (calls_of script rank) 0 (log_of run rank))
+accesses_of script run rank =
+    map (issued_access script run rank) (issued_from (calls_of script rank) 0 (log_of run rank))
 
 -- the accesses of a run, in the order of their names
 abbrev pub accesses_in : Script → Run → List IssuedAccess

@@ -7,7 +7,8 @@ use Rattle.rma_types.specs.declared.scripts.Script.{Script}
 use Rattle.rma_record.specs.declared.runs.Run.{Run}
 use Rattle.call_rules.specs.Actions.{Action, Creates, Frees, Attaches, Detaches, Synchronises, Meets, Moves, EndsRequest, Synchronisation, Fences, Posts, Starts, Completes, Waits, Locks, Unlocks, Flushes, Syncs, action_of, synchronisation_of}
 use Rattle.rank_rules.specs.Epochs.{AccessEpoch, Idle, FenceUnused, FenceUsed, StartTo, LocksAt, LockAll}
-use Rattle.rank_rules.specs.Pending.{PendingAccess, is_towards, is_requested_by}
+use Rattle.rank_rules.specs.declared.pending.PendingAccess.{PendingAccess}
+use Rattle.rank_rules.specs.Pending.{is_towards, is_requested_by}
 use Rattle.board_rules.specs.Entries.{Fence, is_arrive, is_collective}
 use Rattle.board_rules.specs.Posts.{is_complete}
 use Rattle.order_rules.specs.Before.{NamedEvent, leads_to, events_in, is_same_id}

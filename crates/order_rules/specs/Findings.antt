@@ -1,5 +1,5 @@
--- The findings of a run: its pairs of accesses that a rule forbids and no recorded synchronisation orders. After MPI 3.1,
--- section 11.7, in this project's profile.
+-- The findings of a run: its pairs of accesses that a rule forbids and no recorded synchronisation orders. After MPI
+-- 3.1, section 11.7, in this project's profile.
 use Rattle.std.specs.Prelude.{◌≡◌, Bool, ◌||◌, if◌then◌else◌, List, [], ◌∷◌, ◌++◌, map, Option, Some, None}
 use Rattle.std.specs.Option.{option_map_or}
 use Rattle.rma_types.specs.declared.accesses.Id.{Id}
@@ -40,7 +40,8 @@ forbidden model before a b =
 abbrev pub first_finding : Model → (Id → Id → Bool) → List JudgedAccess → JudgedAccess → Option Finding
 first_finding model before [] b = None
 first_finding model before (a ∷ rest) b =
-    option_map_or (λ rule. Some (record { first = a.id; second = b.id; rule = rule })) (forbidden model before a b) (first_finding model before rest b)
+    option_map_or (λ rule. Some (record { first = a.id; second = b.id; rule = rule })) (forbidden model before a b)
+    (first_finding model before rest b)
 
 -- for each of some accesses, the forbidden pair with the first one before it that forms one
 abbrev pub findings_after : Model → (Id → Id → Bool) → List JudgedAccess → List JudgedAccess → List Finding
@@ -49,8 +50,8 @@ findings_after model before earlier (b ∷ rest) =
     option_map_or (λ finding. finding ∷ []) (first_finding model before earlier b) []
     ++ findings_after model before (earlier ++ b ∷ []) rest
 
--- the findings of a run, where the test decides its order: for each access, in the order of their names, the forbidden pair
--- with the least partner of a smaller name
+-- the findings of a run, where the test decides its order: for each access, in the order of their names, the
+-- forbidden pair with the least partner of a smaller name
 unfoldable pub findings : Script → Run → Model → (Id → Id → Bool) → List Finding
 findings script run model before = findings_after model before [] (judged_accesses script run model before)
 

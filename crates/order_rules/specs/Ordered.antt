@@ -1,4 +1,5 @@
--- Which of two accesses at one target is ordered before the other: after MPI 3.1, section 11.7, in this project's profile.
+-- Which of two accesses at one target is ordered before the other: after MPI 3.1, section 11.7, in this project's
+-- profile.
 use Rattle.std.specs.Prelude.{Bool, List, [], ◌∷◌}
 use Rattle.std.specs.List.{list_any}
 use Rattle.rma_types.specs.declared.accesses.Access.{Access}

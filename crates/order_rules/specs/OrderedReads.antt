@@ -1,5 +1,5 @@
--- What the updates that are ordered before a read leave, and how touches keep the order of the run: after MPI 3.1, section
--- 11.7, in this project's profile.
+-- What the updates that are ordered before a read leave, and how touches keep the order of the run: after MPI 3.1,
+-- section 11.7, in this project's profile.
 use Rattle.std.specs.Prelude.{ℕ, ◌≡◌, ◌≢◌, Bool, true, false, ◌==◌, IsTrue, Contains, List, [], length, map}
 use Rattle.std.specs.List.{filter, flat_map, zip, AllByRecursion}
 use Rattle.std.specs.Option.{option_map_or}
@@ -70,7 +70,8 @@ element_touched dtype (piece, touch) = element_in touch.bits piece.first_byte dt
 -- the elements that an access read, in the bits of its touches
 abbrev pub elements_read : Script → Run → IssuedAccess → List ℕ
 elements_read script run f = option_map_or
-    (λ (t : Transfer). map (element_touched t.dtype) (zip (pieces_of (layout script) (calls_of script f.id.rank) f.issued) (touches_by script run f)))
+    (λ (t : Transfer). map (element_touched t.dtype)
+        (zip (pieces_of (layout script) (calls_of script f.id.rank) f.issued) (touches_by script run f)))
     (transfer_at (calls_of script f.id.rank) f.issued.number) []
 
 -- a get or a load
@@ -85,5 +86,6 @@ is_get_or_load Store = false
 -- each get and each load reads what the updates before its Issue leave
 abbrev pub ReadsInOrder : Script → Run → (Id → Id → Bool) → Type 0
 ReadsInOrder script run before = AllByRecursion
-    (λ (f : IssuedAccess). IsTrue (is_get_or_load f.issued.access.kind) → elements_read script run f ≡ ordered_read script run before f)
+    (λ (f : IssuedAccess). IsTrue (is_get_or_load f.issued.access.kind) →
+        elements_read script run f ≡ ordered_read script run before f)
     (accesses_in script run)

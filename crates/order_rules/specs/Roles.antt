@@ -1,4 +1,5 @@
--- The roles of accesses: MPI 3.1, sections 11.3 and 11.7. A load or a store is local; every other access is an RMA access.
+-- The roles of accesses: MPI 3.1, sections 11.3 and 11.7. A load or a store is local; every other access is an RMA
+-- access.
 use Rattle.std.specs.Prelude.{Bool, true, false, if◌then◌else◌}
 use Rattle.rma_types.specs.declared.accesses.Kind.{Kind}
 use Rattle.rma_types.specs.declared.accesses.Kind.TheVariants.{Get, Put, Acc, Cas, Load as LoadKind, Store as StoreKind}

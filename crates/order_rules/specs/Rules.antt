@@ -1,5 +1,5 @@
--- The rules that forbid a pair of accesses which are not ordered: after MPI 3.1, section 11.7, rules S1 to S3, with one name
--- for each pair, as this project gives it.
+-- The rules that forbid a pair of accesses which are not ordered: after MPI 3.1, section 11.7, rules S1 to S3, with
+-- one name for each pair, as this project gives it.
 use Rattle.std.specs.Prelude.{ℕ, Bool, true, false, not, ◌&&◌, ◌||◌, ◌==◌, nat_lt, if◌then◌else◌, Option, Some, None}
 use Rattle.std.specs.Option.{option_map_or}
 use Rattle.rma_types.specs.declared.accesses.Access.{Access}
@@ -39,7 +39,8 @@ are_alike one_origin (first, a) (second, b) = is_same_dtype first second && may_
 -- both are accumulates or cas of one datatype on one window, which may overlap
 abbrev pub are_excepted : Access → Access → (one_origin : Bool) → Bool
 are_excepted a b one_origin = a.window == b.window
-    && option_map_or (λ x. option_map_or (are_alike one_origin x) (accumulation_of b.kind) false) (accumulation_of a.kind) false
+    && option_map_or
+        (λ x. option_map_or (are_alike one_origin x) (accumulation_of b.kind) false) (accumulation_of a.kind) false
 
 -- ---- the rules
 
@@ -97,8 +98,8 @@ pair_of model a b one_origin = record {
   is_excepted = are_excepted a b one_origin;
 }
 
--- The rule that forbids two accesses with their origins, where neither is ordered before the other: at one target, each of
--- at least one byte.
+-- The rule that forbids two accesses with their origins, where neither is ordered before the other: at one target,
+-- each of at least one byte.
 abbrev pub forbidden_kind : Access → ℕ → Access → ℕ → Model → Option Rule
 forbidden_kind a origin_a b origin_b model =
     if a.target == b.target && nat_lt 0 a.len && nat_lt 0 b.len
