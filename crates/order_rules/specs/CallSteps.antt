@@ -1,7 +1,7 @@
 -- The accesses of a run and the steps of its synchronising calls, each with what its rank knew before it: this
 -- project's record of a run.
 use Rattle.std.specs.Prelude.{ℕ, ◌&&◌, ◌==◌, nat_lt, Bool, false, List, [], ◌∷◌, map, take, slice_get, Option, Some, None}
-use Rattle.std.specs.List.{flat_map}
+use Rattle.std.specs.List.{filter, flat_map}
 use Rattle.std.specs.Option.{option_map_or}
 use Rattle.rma_types.specs.declared.accesses.Id.{Id}
 use Rattle.rma_types.specs.declared.accesses.Step.{Step}
@@ -22,6 +22,7 @@ use Rattle.lawful_runs.specs.Accesses.{transfer_at, issued_from}
 use Rattle.lawful_runs.specs.LawfulRun.{rank_in}
 use Rattle.lawful_runs.specs.Logs.{Named, log_of, calls_of, named_items}
 use Rattle.lawful_runs.specs.Stages.{known_at}
+use Rattle.order_rules.specs.Before.{is_same_id}
 
 -- what the rank of the item of this name knew before it
 abbrev pub known_before : Script → Run → Id → Knowledge
@@ -95,6 +96,10 @@ accesses_of script run rank =
 -- the accesses of a run, in the order of their names
 abbrev pub accesses_in : Script → Run → List IssuedAccess
 accesses_in script run = flat_map (accesses_of script run) (numbers_from 0 script.ranks)
+
+-- the accesses of this name: one, where the item of this name is an Issue
+abbrev pub accesses_named : Script → Run → Id → List IssuedAccess
+accesses_named script run id = filter (λ (a : IssuedAccess). is_same_id a.id id) (accesses_in script run)
 
 -- the step stands after the access in the log of its origin
 abbrev pub is_later_at_origin : IssuedAccess → CallStep → Bool

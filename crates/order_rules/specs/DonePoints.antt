@@ -11,8 +11,8 @@ use Rattle.rank_rules.specs.declared.pending.PendingAccess.{PendingAccess}
 use Rattle.rank_rules.specs.Pending.{is_towards, is_requested_by}
 use Rattle.board_rules.specs.Entries.{Fence, is_arrive, is_collective}
 use Rattle.board_rules.specs.Posts.{is_complete}
-use Rattle.order_rules.specs.Before.{NamedEvent, leads_to, events_in, is_same_id}
-use Rattle.order_rules.specs.CallSteps.{CallStep, IssuedAccess, steps_in, accesses_in, is_later_at_origin, is_later_on_window}
+use Rattle.order_rules.specs.Before.{NamedEvent, leads_to, events_in}
+use Rattle.order_rules.specs.CallSteps.{CallStep, IssuedAccess, steps_in, accesses_named, is_later_at_origin, is_later_on_window}
 use Rattle.order_rules.specs.Roles.{is_rma_read, role_of}
 
 -- the entries of a run and the steps of its calls, among which points are looked for
@@ -114,10 +114,6 @@ ids_of steps = map (λ (x : CallStep). x.id) steps
 -- the done points of an RMA access, in the order of their names
 abbrev pub done_points : Timeline → IssuedAccess → List Id
 done_points timeline a = ids_of (filter (is_done_at timeline a) timeline.steps)
-
--- the accesses of this name: one, where the item of this name is an Issue
-abbrev pub accesses_named : Script → Run → Id → List IssuedAccess
-accesses_named script run id = filter (λ (a : IssuedAccess). is_same_id a.id id) (accesses_in script run)
 
 -- the done points of the RMA access of this name
 abbrev pub done_points_of : Script → Run → Id → List Id

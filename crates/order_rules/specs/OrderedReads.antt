@@ -17,8 +17,7 @@ use Rattle.lawful_runs.specs.Accesses.{Touching, touches_of, all_touches, on_cel
 use Rattle.lawful_runs.specs.Cells.{state, KeepsOrder}
 use Rattle.lawful_runs.specs.Logs.{calls_of}
 use Rattle.order_rules.specs.Before.{Before}
-use Rattle.order_rules.specs.CallSteps.{IssuedAccess, accesses_in}
-use Rattle.order_rules.specs.DonePoints.{accesses_named}
+use Rattle.order_rules.specs.CallSteps.{IssuedAccess, accesses_in, accesses_named}
 
 -- ---- touches
 
