@@ -11,7 +11,7 @@ use Rattle.rma_types.specs.declared.findings.Model.TheVariants.{Separate, Unifie
 use Rattle.rma_types.specs.declared.findings.Rule.{Rule}
 use Rattle.rma_types.specs.declared.findings.Rule.TheVariants.{S1, S2, S3}
 use Rattle.rma_types.specs.declared.ops.Op.{Op}
-use Rattle.call_rules.specs.Kinds.{is_same_dtype, is_same_op}
+use Rattle.call_rules.specs.Sameness.{is_same_dtype, is_same_op}
 use Rattle.call_rules.specs.Transfers.{is_no_op}
 use Rattle.rank_rules.specs.Ranges.{Range, do_overlap}
 use Rattle.order_rules.specs.Roles.{Role, RmaUpdate, RmaRead, Store, Load, role_of}
