@@ -72,7 +72,7 @@ abbrev pub IsCountedFrom : List Stamp → NamedEvent → Id → Type 0
 IsCountedFrom stamps entry a =
     ((a.rank ≡ entry.id.rank) × (a.index ≤ entry.id.index))
     ⊎ ((earlier : Stamp) × Contains stamps earlier
-        × IsTrue (precedes earlier.entry entry) × (a.index < count_in earlier a.rank))
+    × IsTrue (precedes earlier.entry entry) × (a.index < count_in earlier a.rank))
 
 -- the clocks of the entries of a run, made in any way
 pub record KeepClockLaws (script : Script) (run : Run) (stamps : List Stamp) : Type 0 where

@@ -1,5 +1,5 @@
 -- The accesses that are judged stand in the order of their names.
-use Rattle.std.proofs.Common.{◌≡◌, ℕ, zero, suc, ◌+◌, ◌<◌, ◌≤◌, ◌⊎◌, inl, inr, List, [], ◌∷◌, ◌++◌, Option, Some, None, refl, ap, sym, ◌∙◌, arith}
+use Rattle.std.proofs.Common.{◌≡◌, ℕ, zero, suc, ◌+◌, ◌<◌, ◌≤◌, ◌⊎◌, inl, inr, List, [], ◌∷◌, ◌++◌, Option, Some, None, refl, ap, ◌∙◌, arith}
 use Rattle.std.specs.Prelude.{map}
 use Rattle.std.specs.List.{flat_map, AllByRecursion}
 use Rattle.std.specs.Option.{option_map_or}
@@ -80,9 +80,10 @@ one_more index rest None all kind = (each_turned (λ (one : PendingAccess). inde
 one_more index rest (Some x) all (inl none) = absurd (cc none)
 one_more index rest (Some x) all (inr some) =
     let same : x ≡ some.0 = cc some.1 in
-    let at : x.index ≡ index = ap (λ (one : PendingAccess). one.index) same ∙ some.2 in
-    ((omega (arith, at), each_turned (λ (one : PendingAccess). index + 1 ≤ one.index) (λ (one : PendingAccess). index ≤ one.index) (λ one low. omega (arith, low)) rest all.0),
-     (each_turned (λ (one : PendingAccess). index + 1 ≤ one.index) (λ (one : PendingAccess). x.index < one.index) (λ one low. omega (arith, low, at)) rest all.0, all.1))
+    let at : x.index ≡ index = ap (λ (one : PendingAccess). one.index) same ∙ some.2 in (
+      (omega (arith, at), each_turned (λ (one : PendingAccess). index + 1 ≤ one.index) (λ (one : PendingAccess). index ≤ one.index) (λ one low. omega (arith, low)) rest all.0),
+      (each_turned (λ (one : PendingAccess). index + 1 ≤ one.index) (λ (one : PendingAccess). x.index < one.index) (λ one low. omega (arith, low, at)) rest all.0, all.1),
+    )
 
 issued_ascend : (calls : List Call) (index : ℕ) (items : List Item) → AreFrom index (issued_from calls index items)
 unfolding AreFrom
@@ -98,7 +99,7 @@ module _ (script : Script) (run : Run) where
       EachPair (λ (a b : IssuedAccess). IsSmaller a.id b.id) (map (issued_access script run rank) ones)
   in_one rank ones all = pair_mapped (λ (a b : IssuedAccess). IsSmaller a.id b.id) (issued_access script run rank) ones
       (pair_turned (λ (a b : PendingAccess). a.index < b.index) (λ (a b : PendingAccess). IsSmaller (issued_access script run rank a).id (issued_access script run rank b).id)
-        (λ a b below. inr (refl, below)) ones all)
+      (λ a b below. inr (refl, below)) ones all)
 
   of_rank : (rank : ℕ) (ones : List PendingAccess) → AllByRecursion (λ (a : IssuedAccess). a.id.rank ≡ rank) (map (issued_access script run rank) ones)
   of_rank rank [] = tt
@@ -108,9 +109,9 @@ module _ (script : Script) (run : Run) where
   above_rank first zero = tt
   above_rank first (suc count) = each_joined (λ (a : IssuedAccess). first ≤ a.id.rank) (accesses_of script run first) (flat_map (accesses_of script run) (numbers_from (first + 1) count))
       (each_turned (λ (a : IssuedAccess). a.id.rank ≡ first) (λ (a : IssuedAccess). first ≤ a.id.rank) (λ a is. omega (arith, is)) (accesses_of script run first)
-        (of_rank first (issued_from (calls_of script first) 0 (log_of run first))))
+      (of_rank first (issued_from (calls_of script first) 0 (log_of run first))))
       (each_turned (λ (a : IssuedAccess). first + 1 ≤ a.id.rank) (λ (a : IssuedAccess). first ≤ a.id.rank) (λ a low. omega (arith, low)) (flat_map (accesses_of script run) (numbers_from (first + 1) count))
-        (above_rank (first + 1) count))
+      (above_rank (first + 1) count))
 
   ranks_ascend : (first count : ℕ) → EachPair (λ (a b : IssuedAccess). IsSmaller a.id b.id) (flat_map (accesses_of script run) (numbers_from first count))
   unfolding AreFrom
@@ -122,8 +123,8 @@ module _ (script : Script) (run : Run) where
       (in_one first log (issued_ascend (calls_of script first) 0 (log_of run first)).1)
       (ranks_ascend (first + 1) count)
       (each_turned (λ (a : IssuedAccess). a.id.rank ≡ first) (λ (a : IssuedAccess). AllByRecursion (λ (b : IssuedAccess). IsSmaller a.id b.id) rest)
-        (λ a is. each_turned (λ (b : IssuedAccess). first + 1 ≤ b.id.rank) (λ (b : IssuedAccess). IsSmaller a.id b.id) (λ b low. inl (omega (arith, low, is))) rest (above_rank (first + 1) count))
-        (accesses_of script run first) (of_rank first log))
+      (λ a is. each_turned (λ (b : IssuedAccess). first + 1 ≤ b.id.rank) (λ (b : IssuedAccess). IsSmaller a.id b.id) (λ b low. inl (omega (arith, low, is))) rest (above_rank (first + 1) count))
+      (accesses_of script run first) (of_rank first log))
 
 pub ascend : AccessesAscend
 ascend script run model before =

@@ -1,18 +1,17 @@
 -- Clocks that keep their laws decide the order of a lawful run.
-use Rattle.std.proofs.Common.{◌≡◌, ℕ, zero, suc, ◌+◌, ◌<◌, ◌≤◌, ◌⊎◌, inl, inr, Bool, true, false, List, [], ◌∷◌, ◌++◌, refl, ap, sym, subst, ◌∙◌, arith}
-use Rattle.std.specs.Prelude.{◌&&◌, ◌||◌, ◌==◌, nat_lt, nat_le, map}
+use Rattle.std.proofs.Common.{◌≡◌, ℕ, zero, suc, ◌<◌, ◌≤◌, ◌⊎◌, inl, inr, true, List, refl, ap, sym, subst, ◌∙◌, arith}
+use Rattle.std.specs.Prelude.{◌&&◌, ◌==◌, nat_lt, nat_le}
 use Rattle.std.specs.List.{list_any}
 use Rattle.std.proofs.lemmas.Bool.{and_parts, and_from, or_cases, or_left, or_right, cases_lt, eqb-true, eq-eqb, ltb-true, lt-ltb, leb-true, le-leb}
 use Rattle.rma_types.specs.declared.accesses.Id.{Id}
 use Rattle.rma_types.specs.declared.schedules.Delay.{Delay}
 use Rattle.rma_types.specs.declared.scripts.Script.{Script}
 use Rattle.rma_record.specs.declared.runs.Run.{Run}
-use Rattle.board_rules.specs.Edges.{Event}
 use Rattle.lawful_runs.specs.LawfulRun.{IsLawful}
-use Rattle.order_rules.specs.Before.{NamedEvent, events_in, is_edge_between, leads_to, IsEdge, StandsBefore, Before, Same, InLog, Across}
+use Rattle.order_rules.specs.Before.{NamedEvent, events_in, is_edge_between, StandsBefore, Before, Same, InLog, Across}
 use Rattle.clock_rules.specs.Clocks.{Stamp, count_in, stands_before, precedes, is_counted_by, is_counted, KeepClockLaws}
 use Rattle.order_laws.specs.ClockLaws.{ClocksDecide}
-use Rattle.order_laws.proofs.Members.{In, here, there, any_in, in_any, in_map, map_in, contains_in, in_contains}
+use Rattle.order_laws.proofs.Members.{In, here, any_in, in_any, in_map, map_in, contains_in, in_contains}
 use Rattle.order_laws.proofs.Order.{edge_between, edge_from, edge_ascends, log_ascends, log_before, same_event, same_place}
 
 -- an item that stands before another in its log
@@ -46,13 +45,13 @@ module _ (script : Script) (delay : Delay) (run : Run) (lawful : IsLawful script
   counted_before (suc n) t m below a counts = elim (laws.cause t (in_contains m) a counts) [
     | inl near ↦ log_before script delay run lawful a t.entry.id near.0 near.1
     | inr far ↦
-      let of_s = contains_in stamps far.0 far.1 in
-      let up = precedes_ascends script delay run lawful far.0.entry t.entry (entry_in far.0 of_s) (entry_in t m) far.2 in
-      let earlier = counted_before n far.0 of_s (omega (arith, below, up)) a far.3 in
-      elim (or_cases (stands_before far.0.entry.id t.entry.id) (is_edge_between far.0.entry t.entry) far.2) [
-        | inl log ↦ InLog earlier (stands far.0.entry.id t.entry.id log)
-        | inr edge ↦ Across earlier (edge_from (events_in script run) far.0.entry t.entry (entry_in far.0 of_s) (entry_in t m) edge)
-      ]
+        let of_s = contains_in stamps far.0 far.1 in
+        let up = precedes_ascends script delay run lawful far.0.entry t.entry (entry_in far.0 of_s) (entry_in t m) far.2 in
+        let earlier = counted_before n far.0 of_s (omega (arith, below, up)) a far.3 in
+        elim (or_cases (stands_before far.0.entry.id t.entry.id) (is_edge_between far.0.entry t.entry) far.2) [
+          | inl log ↦ InLog earlier (stands far.0.entry.id t.entry.id log)
+          | inr edge ↦ Across earlier (edge_from (events_in script run) far.0.entry t.entry (entry_in far.0 of_s) (entry_in t m) edge)
+        ]
   ]
 
   -- ---- what is before is counted
@@ -73,28 +72,28 @@ module _ (script : Script) (delay : Delay) (run : Run) (lawful : IsLawful script
       let x_rank : s.0.entry.id.rank ≡ b.rank = ap (λ (e : NamedEvent). e.id.rank) s.2 ∙ ap (λ (i : Id). i.rank) x_is in
       let x_index : s.0.entry.id.index ≡ b.index = ap (λ (e : NamedEvent). e.id.index) s.2 ∙ ap (λ (i : Id). i.index) x_is in
       let direct : (u : Stamp) → u.entry ≡ x → precedes u.entry t.0.entry ≡ true =
-          λ u is. or_right (stands_before u.entry.id t.0.entry.id) (is_edge_between u.entry t.0.entry)
-          (subst (λ e. is_edge_between u.entry e ≡ true) (sym t.2) (subst (λ e. is_edge_between e y ≡ true) (sym is) edge)) in
+      λ u is. or_right (stands_before u.entry.id t.0.entry.id) (is_edge_between u.entry t.0.entry)
+      (subst (λ e. is_edge_between u.entry e ≡ true) (sym t.2) (subst (λ e. is_edge_between e y ≡ true) (sym is) edge)) in
       let join = laws.joins s.0 t.0 (in_contains s.1) (in_contains t.1) (direct s.0 s.2) a.rank in
       elim counted [
         | inl near ↦
-          let own = laws.own s.0 (in_contains s.1) in
-          let here : s.0.entry.id.index < count_in s.0 a.rank = subst (λ r. s.0.entry.id.index < count_in s.0 r) (x_rank ∙ sym near.0) own in
-          inr (t.0, t.1, y_rank, omega (arith, y_index), omega (arith, near.1, x_index, here, join))
+            let own = laws.own s.0 (in_contains s.1) in
+            let here : s.0.entry.id.index < count_in s.0 a.rank = subst (λ r. s.0.entry.id.index < count_in s.0 r) (x_rank ∙ sym near.0) own in
+            inr (t.0, t.1, y_rank, omega (arith, y_index), omega (arith, near.1, x_index, here, join))
         | inr far ↦ elim (cases_lt far.0.entry.id.index s.0.entry.id.index) [
           | inl earlier ↦
-            let log = or_left (stands_before far.0.entry.id s.0.entry.id) (is_edge_between far.0.entry s.0.entry) (is_standing far.0.entry.id s.0.entry.id (far.2 ∙ sym x_rank) earlier) in
-            let more = laws.joins far.0 s.0 (in_contains far.1) (in_contains s.1) log a.rank in
-            inr (t.0, t.1, y_rank, omega (arith, y_index), omega (arith, far.4, more, join))
+              let log = or_left (stands_before far.0.entry.id s.0.entry.id) (is_edge_between far.0.entry s.0.entry) (is_standing far.0.entry.id s.0.entry.id (far.2 ∙ sym x_rank) earlier) in
+              let more = laws.joins far.0 s.0 (in_contains far.1) (in_contains s.1) log a.rank in
+              inr (t.0, t.1, y_rank, omega (arith, y_index), omega (arith, far.4, more, join))
           | inr later ↦
-            let u_rank : far.0.entry.id.rank ≡ x.id.rank = far.2 ∙ sym (ap (λ (i : Id). i.rank) x_is) in
-            let u_index : far.0.entry.id.index ≡ x.id.index =
-                let at : x.id.index ≡ b.index = ap (λ (i : Id). i.index) x_is in omega (arith, far.3, later, x_index, at) in
-            let of_u = entry_in far.0 far.1 in
-            let place = same_place script delay run lawful far.0.entry x of_u of_x u_rank u_index in
-            let is = same_event script delay run lawful far.0.entry x of_u of_x place in
-            let more = laws.joins far.0 t.0 (in_contains far.1) (in_contains t.1) (direct far.0 is) a.rank in
-            inr (t.0, t.1, y_rank, omega (arith, y_index), omega (arith, far.4, more))
+              let u_rank : far.0.entry.id.rank ≡ x.id.rank = far.2 ∙ sym (ap (λ (i : Id). i.rank) x_is) in
+              let u_index : far.0.entry.id.index ≡ x.id.index =
+              let at : x.id.index ≡ b.index = ap (λ (i : Id). i.index) x_is in omega (arith, far.3, later, x_index, at) in
+              let of_u = entry_in far.0 far.1 in
+              let place = same_place script delay run lawful far.0.entry x of_u of_x u_rank u_index in
+              let is = same_event script delay run lawful far.0.entry x of_u of_x place in
+              let more = laws.joins far.0 t.0 (in_contains far.1) (in_contains t.1) (direct far.0 is) a.rank in
+              inr (t.0, t.1, y_rank, omega (arith, y_index), omega (arith, far.4, more))
         ]
       ]
 
@@ -115,26 +114,26 @@ module _ (script : Script) (delay : Delay) (run : Run) (lawful : IsLawful script
   unfolding Counted
   to_test a b counted = elim counted [
     | inl near ↦ or_left (a.rank == b.rank && nat_le a.index b.index) (list_any (is_counted_by a b) stamps)
-      (and_from (a.rank == b.rank) (nat_le a.index b.index) (eq-eqb a.rank b.rank near.0) (le-leb a.index b.index near.1))
+        (and_from (a.rank == b.rank) (nat_le a.index b.index) (eq-eqb a.rank b.rank near.0) (le-leb a.index b.index near.1))
     | inr far ↦ or_right (a.rank == b.rank && nat_le a.index b.index) (list_any (is_counted_by a b) stamps)
-      (in_any (is_counted_by a b) far.1
+        (in_any (is_counted_by a b) far.1
         (and_from (far.0.entry.id.rank == b.rank && nat_le far.0.entry.id.index b.index) (nat_lt a.index (count_in far.0 a.rank))
-          (and_from (far.0.entry.id.rank == b.rank) (nat_le far.0.entry.id.index b.index) (eq-eqb far.0.entry.id.rank b.rank far.2) (le-leb far.0.entry.id.index b.index far.3))
-          (lt-ltb a.index (count_in far.0 a.rank) far.4)))
+        (and_from (far.0.entry.id.rank == b.rank) (nat_le far.0.entry.id.index b.index) (eq-eqb far.0.entry.id.rank b.rank far.2) (le-leb far.0.entry.id.index b.index far.3))
+        (lt-ltb a.index (count_in far.0 a.rank) far.4)))
   ]
 
   from_test : (a b : Id) → is_counted stamps a b ≡ true → Before script run a b
   from_test a b h = elim (or_cases (a.rank == b.rank && nat_le a.index b.index) (list_any (is_counted_by a b) stamps) h) [
     | inl near ↦
-      let two = and_parts (a.rank == b.rank) (nat_le a.index b.index) near in
-      log_before script delay run lawful a b (eqb-true a.rank b.rank two.0) (leb-true a.index b.index two.1)
+        let two = and_parts (a.rank == b.rank) (nat_le a.index b.index) near in
+        log_before script delay run lawful a b (eqb-true a.rank b.rank two.0) (leb-true a.index b.index two.1)
     | inr far ↦
-      let one = any_in (is_counted_by a b) stamps far in
-      let t = one.0 in
-      let parts = and_parts (t.entry.id.rank == b.rank && nat_le t.entry.id.index b.index) (nat_lt a.index (count_in t a.rank)) one.2 in
-      let two = and_parts (t.entry.id.rank == b.rank) (nat_le t.entry.id.index b.index) parts.0 in
-      let first = counted_before (suc t.entry.event.place) t one.1 (omega arith) a (ltb-true a.index (count_in t a.rank) parts.1) in
-      onwards t first (eqb-true t.entry.id.rank b.rank two.0) (leb-true t.entry.id.index b.index two.1)
+        let one = any_in (is_counted_by a b) stamps far in
+        let t = one.0 in
+        let parts = and_parts (t.entry.id.rank == b.rank && nat_le t.entry.id.index b.index) (nat_lt a.index (count_in t a.rank)) one.2 in
+        let two = and_parts (t.entry.id.rank == b.rank) (nat_le t.entry.id.index b.index) parts.0 in
+        let first = counted_before (suc t.entry.event.place) t one.1 (omega arith) a (ltb-true a.index (count_in t a.rank) parts.1) in
+        onwards t first (eqb-true t.entry.id.rank b.rank two.0) (leb-true t.entry.id.index b.index two.1)
   ]
     where
       onwards : (t : Stamp) → Before script run a t.entry.id → t.entry.id.rank ≡ b.rank → t.entry.id.index ≤ b.index → Before script run a b

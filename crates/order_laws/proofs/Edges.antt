@@ -1,11 +1,11 @@
 -- An edge leads to an entry of a greater place: each entry that is allowed came after those that it waits for.
-use Rattle.std.proofs.Common.{◌≡◌, ℕ, zero, suc, ◌+◌, ◌-◌, ◌<◌, ◌≤◌, ◌⊎◌, inl, inr, Bool, true, false, List, [], ◌∷◌, ◌++◌, length, take, Option, Some, None, refl, ap, sym, subst, ◌∙◌, arith, length-append, append_assoc}
-use Rattle.std.specs.Prelude.{◌&&◌, ◌||◌, ◌==◌, cond, map, nat_le, nat_lt, if◌then◌else◌, ℤ}
-use Rattle.std.specs.List.{list_any, list_all, filter, flat_map, count_by}
+use Rattle.std.proofs.Common.{◌≡◌, ℕ, zero, suc, ◌+◌, ◌-◌, ◌<◌, ◌≤◌, inl, inr, Bool, true, false, List, [], ◌∷◌, ◌++◌, length, take, Option, Some, None, refl, ap, sym, subst, ◌∙◌, arith, length-append}
+use Rattle.std.specs.Prelude.{◌&&◌, ◌==◌, cond, nat_le, nat_lt, ℤ}
+use Rattle.std.specs.List.{list_any, filter, flat_map, count_by}
 use Rattle.std.specs.Option.{option_map_or}
 use Rattle.std.proofs.lemmas.Bool.{false≢true, or_cases, and_parts, eqb-true, ltb-true, leb-true}
 use Rattle.std.proofs.lemmas.Grind.{flat_map-append}
-use Rattle.std.proofs.lemmas.List.{map-append, length-map}
+use Rattle.std.proofs.lemmas.List.{length-map}
 use Rattle.std.proofs.lemmas.List.Elements.{filter-append}
 use Rattle.std.proofs.lemmas.List.Sums.{sum_by-append, sum_by-cons}
 use Rattle.rma_types.specs.declared.accesses.Step.{Step}
@@ -14,13 +14,12 @@ use Rattle.rma_types.specs.declared.calls.Asserts.{Asserts}
 use Rattle.rma_types.specs.declared.calls.Call.{Call}
 use Rattle.rma_types.specs.declared.classes.Class.{Class}
 use Rattle.call_rules.specs.Actions.{Action, Creates, Frees, Attaches, Detaches, Synchronises, Meets, Moves, EndsRequest, Synchronisation, Fences, Posts, Starts, Completes, Waits, Locks, Unlocks, Flushes, Syncs, action_of, synchronisation_of, synchronisation_in}
-use Rattle.call_rules.specs.Pieces.{numbers_from}
 use Rattle.call_rules.specs.Ranks.{members_of, is_member}
-use Rattle.board_rules.specs.Board.{Decision, Refuse, Allow, NotYet, decision, decision_by, refusal, is_allowed_now, may_enter_now, may_synchronise_now}
-use Rattle.board_rules.specs.Edges.{Event, is_edge, is_arrive_to_leave, are_of_one_round, is_matched_one, is_edge_by, is_started_by, is_waited_for_by, is_locked_after, group_completed, are_on_one_window}
-use Rattle.board_rules.specs.Entries.{Row, Act, acts, acts_after, window_of, Collective, Creation, Freeing, Fence, Barrier, collective_of, is_collective, is_same_collective, arrivals, is_by_on, is_arrive, synchronisations}
+use Rattle.board_rules.specs.Board.{Allow, decision, decision_by, refusal, may_enter_now, may_synchronise_now}
+use Rattle.board_rules.specs.Edges.{Event, is_edge, is_arrive_to_leave, are_of_one_round, is_matched_one, is_edge_by, is_started_by, is_waited_for_by, is_locked_after, group_completed}
+use Rattle.board_rules.specs.Entries.{Act, Collective, Creation, Freeing, Fence, Barrier, collective_of, is_collective, is_same_collective, arrivals, is_by_on, is_arrive, synchronisations}
 use Rattle.board_rules.specs.Locks.{lock_of, unlock_of}
-use Rattle.board_rules.specs.Posts.{group_of_post, group_of_start, is_complete, is_wait, naming, posts, starts, completes, completed, last_posted, made_by, start_has_posts, wait_has_completes}
+use Rattle.board_rules.specs.Posts.{group_of_post, group_of_start, is_complete, is_wait, naming, posts, starts, completed, last_posted, start_has_posts, wait_has_completes}
 use Rattle.board_rules.specs.Questions.{Question}
 use Rattle.board_rules.specs.Rounds.{arrivals_of, rounds_begun, all_arrived}
 use Rattle.order_laws.proofs.Members.{In, here, there, any_in, all_in, in_numbers, some_of}
@@ -60,7 +59,7 @@ arrivals_grow xs ys c rank window =
     let call : Act → Call = λ act. act.row.call in
     let apart = filter-append test xs ys in
     let all : length (arrivals (xs ++ ys) c rank window) ≡ length (filter test xs) + length (filter test ys) =
-        length-map (filter test (xs ++ ys)) call ∙ ap length apart ∙ length-append (filter test xs) (filter test ys) in
+    length-map (filter test (xs ++ ys)) call ∙ ap length apart ∙ length-append (filter test xs) (filter test ys) in
     let some : length (arrivals xs c rank window) ≡ length (filter test xs) = length-map (filter test xs) call in
     omega arith
 
@@ -82,12 +81,12 @@ completed_grows xs ys rank window named =
     let few = count_by is_complete (synchronisations xs rank window) in
     let more = count_by is_complete (synchronisations ys rank window) in
     let counted : count_by is_complete (synchronisations (xs ++ ys) rank window) ≡ few + more =
-        ap (count_by is_complete) (synchronisations_append xs ys rank window) ∙ sum_by-append (λ s. cond (is_complete s) 1 0) (synchronisations xs rank window) (synchronisations ys rank window) in
+    ap (count_by is_complete) (synchronisations_append xs ys rank window) ∙ sum_by-append (λ s. cond (is_complete s) 1 0) (synchronisations xs rank window) (synchronisations ys rank window) in
     let groups = groups_append group_of_start xs ys rank window in
     let whole : naming named (take (count_by is_complete (synchronisations (xs ++ ys) rank window)) (flat_map group_of_start (synchronisations (xs ++ ys) rank window))) ≡ naming named (take (few + more) (front ++ back)) =
-        ap (λ n. naming named (take n (flat_map group_of_start (synchronisations (xs ++ ys) rank window)))) counted ∙ ap (λ g. naming named (take (few + more) g)) groups in
+    ap (λ n. naming named (take n (flat_map group_of_start (synchronisations (xs ++ ys) rank window)))) counted ∙ ap (λ g. naming named (take (few + more) g)) groups in
     let cut : naming named (take (few + more) (front ++ back)) ≡ naming named (take (few + more) front) + naming named (take (few + more - length front) back) =
-        ap (naming named) (take_append (few + more) front back) ∙ naming_append named (take (few + more) front) (take (few + more - length front) back) in
+    ap (naming named) (take_append (few + more) front back) ∙ naming_append named (take (few + more) front) (take (few + more - length front) back) in
     let grown = naming_take named few more front in
     omega arith
 
@@ -156,12 +155,12 @@ collective_ascends qa qb more pa pb sa sb entries within allowed h =
     let of_a : collective_of qa.call ≡ Some c = first.1 in
     let all : all_arrived qb ≡ true = allowed_now None (all_arrived qb) allowed in
     let here_b : rounds_begun qb ≤ length (arrivals_of qb qa.rank) =
-        leb-true _ _ (all_in (λ rank. nat_le (rounds_begun qb) (length (arrivals_of qb rank))) all (in_numbers 0 qb.ranks qa.rank (omega arith) (omega (arith, within)))) in
+    leb-true _ _ (all_in (λ rank. nat_le (rounds_begun qb) (length (arrivals_of qb rank))) all (in_numbers 0 qb.ranks qa.rank (omega arith) (omega (arith, within)))) in
     let a_counts : rounds_begun qa ≡ length (arrivals (qb.entries ++ more) c qa.rank qb.window) =
-        ap (λ o. length (option_map_or (λ collective. arrivals qa.entries collective qa.rank qa.window) o [])) of_a
-        ∙ ap (λ e. length (arrivals e c qa.rank qa.window)) entries ∙ ap (λ w. length (arrivals (qb.entries ++ more) c qa.rank w)) window in
+    ap (λ o. length (option_map_or (λ collective. arrivals qa.entries collective qa.rank qa.window) o [])) of_a
+    ∙ ap (λ e. length (arrivals e c qa.rank qa.window)) entries ∙ ap (λ w. length (arrivals (qb.entries ++ more) c qa.rank w)) window in
     let b_counts : length (arrivals_of qb qa.rank) ≡ length (arrivals qb.entries c qa.rank qb.window) =
-        ap (λ o. length (option_map_or (λ collective. arrivals qb.entries collective qa.rank qb.window) o [])) of_b in
+    ap (λ o. length (option_map_or (λ collective. arrivals qb.entries collective qa.rank qb.window) o [])) of_b in
     let grown = arrivals_grow qb.entries more c qa.rank qb.window in
     omega arith
 
@@ -205,11 +204,11 @@ started_ascends qa qb more pa pb posted group entries window has h =
     let named = and_parts (is_member qb.rank posted) (is_member qa.rank group) two.0 in
     let counts : naming qb.rank (posts qa qa.rank) ≡ naming qa.rank (starts qb qb.rank) = eqb-true _ _ two.1 in
     let below : naming qa.rank (starts qb qb.rank) < naming qb.rank (posts qb qa.rank) =
-        ltb-true _ _ (all_in (λ member. nat_lt (naming member (starts qb qb.rank)) (naming qb.rank (posts qb member))) has (member_in qa.rank group named.1)) in
+    ltb-true _ _ (all_in (λ member. nat_lt (naming member (starts qb qb.rank)) (naming qb.rank (posts qb member))) has (member_in qa.rank group named.1)) in
     let grown = naming_grows group_of_post qb.entries more qa.rank qb.window qb.rank in
     let same : naming qb.rank (posts qa qa.rank) ≡ naming qb.rank (flat_map group_of_post (synchronisations (qb.entries ++ more) qa.rank qb.window)) =
-        ap (λ e. naming qb.rank (flat_map group_of_post (synchronisations e qa.rank qa.window))) entries
-        ∙ ap (λ w. naming qb.rank (flat_map group_of_post (synchronisations (qb.entries ++ more) qa.rank w))) window in
+    ap (λ e. naming qb.rank (flat_map group_of_post (synchronisations e qa.rank qa.window))) entries
+    ∙ ap (λ w. naming qb.rank (flat_map group_of_post (synchronisations (qb.entries ++ more) qa.rank w))) window in
     omega arith
 
 waited_ascends : (qa qb : Question) (more : List Act) (pa pb : ℕ) → qa.entries ≡ qb.entries ++ more → qa.window ≡ qb.window → wait_has_completes qb ≡ true →
@@ -220,11 +219,11 @@ waited_ascends qa qb more pa pb entries window has h =
     let named = and_parts (is_member qb.rank group) (is_member qa.rank (last_posted qb)) two.0 in
     let counts : naming qb.rank (completed qa qa.rank) + 1 ≡ naming qa.rank (posts qb qb.rank) = eqb-true _ _ two.1 in
     let equal : naming qb.rank (completed qb qa.rank) ≡ naming qa.rank (posts qb qb.rank) =
-        eqb-true _ _ (all_in (λ member. naming qb.rank (completed qb member) == naming member (posts qb qb.rank)) has (member_in qa.rank (last_posted qb) named.1)) in
+    eqb-true _ _ (all_in (λ member. naming qb.rank (completed qb member) == naming member (posts qb qb.rank)) has (member_in qa.rank (last_posted qb) named.1)) in
     let grown = completed_grows qb.entries more qa.rank qb.window qb.rank in
     let f : List Act → ℕ → ℕ = λ e w. naming qb.rank (take (count_by is_complete (synchronisations e qa.rank w)) (flat_map group_of_start (synchronisations e qa.rank w))) in
     let same : naming qb.rank (completed qa qa.rank) ≡ f (qb.entries ++ more) qb.window =
-        ap (λ e. f e qa.window) entries ∙ ap (f (qb.entries ++ more)) window in
+    ap (λ e. f e qa.window) entries ∙ ap (f (qb.entries ++ more)) window in
     omega arith
 
 -- ---- synchronisations of step One
@@ -271,9 +270,9 @@ no_edge_back qa qb more pa pb sa sb entries within late allowed h =
     let two = and_parts _ _ h in
     elim (or_cases _ _ two.1) [
       | inl collective ↦
-        let parts = and_parts _ _ collective in
-        let leaving : sb ≡ Leave = leaves_after sa sb parts.0 in
-        collective_ascends qa qb more pa pb sa sb entries within (subst (λ s. decision qb s ≡ Allow) leaving allowed) parts.1
+          let parts = and_parts _ _ collective in
+          let leaving : sb ≡ Leave = leaves_after sa sb parts.0 in
+          collective_ascends qa qb more pa pb sa sb entries within (subst (λ s. decision qb s ≡ Allow) leaving allowed) parts.1
       | inr single ↦ by_steps sa sb allowed single (eqb-true _ _ two.0)
     ]
   where

@@ -1,11 +1,10 @@
 -- The entries of a lawful run as events: each with its item, its row and the board's answer.
-use Rattle.std.proofs.Common.{◌≡◌, ℕ, zero, suc, ◌+◌, ◌<◌, ◌≤◌, ◌⊎◌, inl, inr, Bool, true, false, List, [], ◌∷◌, ◌++◌, length, Option, Some, None, refl, ap, sym, subst, ◌∙◌, arith, length-append, append_assoc}
-use Rattle.std.specs.Prelude.{◌&&◌, ◌==◌, cond, map, slice_get, slice_index_or, nat_lt, if◌then◌else◌}
+use Rattle.std.proofs.Common.{◌≡◌, ℕ, zero, suc, ◌+◌, ◌<◌, inl, inr, Bool, true, false, List, [], ◌∷◌, ◌++◌, length, Some, refl, ap, sym, subst, ◌∙◌, arith, length-append, append_assoc}
+use Rattle.std.specs.Prelude.{cond, map, slice_get, slice_index_or, nat_lt}
 use Rattle.std.specs.List.{find, flat_map, count_by, zip, AllByRecursion}
 use Rattle.std.specs.Option.{option_map_or}
-use Rattle.std.proofs.lemmas.Bool.{false≢true, cases_Bool, cases_lt, eqb-true, cond-true, cond-false, lt-ltb}
+use Rattle.std.proofs.lemmas.Bool.{false≢true, cases_Bool, eqb-true, cond-true, cond-false, lt-ltb}
 use Rattle.std.proofs.lemmas.List.Sums.{sum_by-cons}
-use Rattle.rma_types.specs.declared.accesses.Id.{Id}
 use Rattle.rma_types.specs.declared.accesses.Step.{Step}
 use Rattle.rma_types.specs.declared.calls.Call.{Call}
 use Rattle.rma_types.specs.declared.schedules.Delay.{Delay}
@@ -15,11 +14,11 @@ use Rattle.rma_record.specs.declared.items.Item.TheVariants.{Issue, Null, Touch,
 use Rattle.rma_record.specs.declared.runs.Run.{Run}
 use Rattle.call_rules.specs.Pieces.{numbers_from}
 use Rattle.board_rules.specs.Board.{Allow, decide}
-use Rattle.board_rules.specs.Edges.{Event, events_after}
+use Rattle.board_rules.specs.Edges.{events_after}
 use Rattle.board_rules.specs.Entries.{Row}
 use Rattle.board_rules.specs.Questions.{question}
 use Rattle.lawful_runs.specs.Accesses.{EachPair}
-use Rattle.lawful_runs.specs.BoardLaw.{AreAllowed, HasEntries, NamesItsCall, NamesCallOf, Moment, EntryAt, LookAfter, IsBefore, moment_by, moments_in}
+use Rattle.lawful_runs.specs.BoardLaw.{AreAllowed, HasEntries, NamesItsCall, NamesCallOf, EntryAt, IsBefore, moment_by, moments_in}
 use Rattle.lawful_runs.specs.LawfulRun.{IsLawful}
 use Rattle.lawful_runs.specs.Logs.{Named, log_of, calls_of, named_from, named_in, named_logs, named_items, is_entry_at, is_named_entry_at, is_some_entry, entry_at, entries_of, row_by, row_of, rows_of}
 use Rattle.order_rules.specs.Before.{NamedEvent, named_event, events_in}
@@ -63,10 +62,10 @@ found p [] some = absurd (omega arith)
 found p (x ∷ xs) some = elim (cases_Bool (p x)) [
   | inl passes ↦ (x, cond-true (p x) (Some x) (find p xs) passes, here, passes)
   | inr fails ↦
-    let more : count_by p (x ∷ xs) ≡ cond (p x) 1 0 + count_by p xs = sum_by-cons (λ y. cond (p y) 1 0) x xs in
-    let none : ◌≡◌ {A = ℕ} (cond (p x) 1 0) 0 = cond-false (p x) 1 0 fails in
-    let rest = found p xs (omega (arith, some, more, none)) in
-    (rest.0, cond-false (p x) (Some x) (find p xs) fails ∙ rest.1, there rest.2, rest.3)
+      let more : count_by p (x ∷ xs) ≡ cond (p x) 1 0 + count_by p xs = sum_by-cons (λ y. cond (p y) 1 0) x xs in
+      let none : ◌≡◌ {A = ℕ} (cond (p x) 1 0) 0 = cond-false (p x) 1 0 fails in
+      let rest = found p xs (omega (arith, some, more, none)) in
+      (rest.0, cond-false (p x) (Some x) (find p xs) fails ∙ rest.1, there rest.2, rest.3)
 ]
 
 -- ---- items and their names
@@ -81,11 +80,11 @@ named_logs_in : (rank : ℕ) (logs : List (List Item)) {x : Named} → In x (nam
 named_logs_in rank [] m = elim m [ ]
 named_logs_in rank (log ∷ logs) {x} m = elim (append_in (named_in rank log) m) [
   | inl first ↦
-    let one = named_from_in rank 0 log first in
-    let same : one.0 ≡ x.id.index = omega (arith, one.1) in
-    (0, omega (arith, one.3), omega arith, subst (λ k. slice_get log k ≡ Some x.item) same one.2)
+      let one = named_from_in rank 0 log first in
+      let same : one.0 ≡ x.id.index = omega (arith, one.1) in
+      (0, omega (arith, one.3), omega arith, subst (λ k. slice_get log k ≡ Some x.item) same one.2)
   | inr rest ↦
-    let later = named_logs_in (rank + 1) logs rest in (suc later.0, omega (arith, later.1), omega (arith, later.2), later.3)
+      let later = named_logs_in (rank + 1) logs rest in (suc later.0, omega (arith, later.1), omega (arith, later.2), later.3)
 ]
 
 -- a named item stands in the log of its rank, at its index
@@ -146,9 +145,9 @@ entries_placed script run ranks has =
     let total = count_by is_some_entry items in
     entries_from script run items (entry_of script run ranks has.calls) 0 total
     (λ place below.
-      let one : count_by (is_named_entry_at place) items ≡ 1 =
-          has.places place ∙ cond-true (nat_lt place total) 1 0 (lt-ltb place total (omega (arith, below))) in
-      omega (arith, one))
+    let one : count_by (is_named_entry_at place) items ≡ 1 =
+    has.places place ∙ cond-true (nat_lt place total) 1 0 (lt-ltb place total (omega (arith, below))) in
+    omega (arith, one))
 
 -- ---- events
 
@@ -176,24 +175,26 @@ one_zipped : (script : Script) (run : Run) (rows before : List Row) (place : ℕ
     rows ≡ before ++ (record { rank = x.id.rank; number = e.number; call = e.call; step = e.step } ∷ rest) →
     AreAllowed script.ranks before (record { rank = x.id.rank; number = e.number; call = e.call; step = e.step } ∷ rest) →
     ((longer : List Row) → length longer ≡ place + 1 → rows ≡ longer ++ rest → AreAllowed script.ranks longer rest →
-      AllFrom (IsEventAt script run rows) (place + 1) (map named_event (zip es (events_after script.ranks (place + 1) longer rest)))) →
+    AllFrom (IsEventAt script run rows) (place + 1) (map named_event (zip es (events_after script.ranks (place + 1) longer rest)))) →
     AllFrom (IsEventAt script run rows) place (map named_event (zip (x ∷ es) (events_after script.ranks place before (record { rank = x.id.rank; number = e.number; call = e.call; step = e.step } ∷ rest))))
 unfolding AllFrom
 one_zipped script run rows before place x es e rest long split allowed others =
-    let row : Row = record { rank = x.id.rank; number = e.number; call = e.call; step = e.step } in
-    (record {
-      number = e.number;
-      logged = e.logged ∙ ap Some e.is;
-      within = e.within;
-      before = before;
-      row = row;
-      rest = rest;
-      rank = refl;
-      split = split;
-      long = long;
-      event = refl;
-      allowed = allowed.0;
-    }, others (before ++ row ∷ []) (length-append before (row ∷ []) ∙ ap (λ n. n + 1) long) (split ∙ sym (append_assoc before (row ∷ []) rest)) allowed.1)
+    let row : Row = record { rank = x.id.rank; number = e.number; call = e.call; step = e.step } in (
+      record {
+        number = e.number;
+        logged = e.logged ∙ ap Some e.is;
+        within = e.within;
+        before = before;
+        row = row;
+        rest = rest;
+        rank = refl;
+        split = split;
+        long = long;
+        event = refl;
+        allowed = allowed.0;
+      },
+      others (before ++ row ∷ []) (length-append before (row ∷ []) ∙ ap (λ n. n + 1) long) (split ∙ sym (append_assoc before (row ∷ []) rest)) allowed.1,
+    )
 
 events_zipped : (script : Script) (run : Run) (rows before : List Row) (place : ℕ) (es : List Named) → length before ≡ place →
     rows ≡ before ++ flat_map (row_of script) es → AllFrom (IsEntryOf script run) place es → AreAllowed script.ranks before (flat_map (row_of script) es) →
@@ -202,10 +203,10 @@ unfolding AllFrom
 events_zipped script run rows before place [] long split all allowed = tt
 events_zipped script run rows before place (x ∷ es) long split all allowed =
     subst (λ rs. rows ≡ before ++ (rs ++ flat_map (row_of script) es) → AreAllowed script.ranks before (rs ++ flat_map (row_of script) es) →
-      AllFrom (IsEventAt script run rows) place (map named_event (zip (x ∷ es) (events_after script.ranks place before (rs ++ flat_map (row_of script) es)))))
+    AllFrom (IsEventAt script run rows) place (map named_event (zip (x ∷ es) (events_after script.ranks place before (rs ++ flat_map (row_of script) es)))))
     (sym (row_is script run place x all.0))
     (λ split allowed. one_zipped script run rows before place x es all.0 (flat_map (row_of script) es) long split allowed
-      (λ longer long split allowed. events_zipped script run rows longer (place + 1) es long split all.1 allowed))
+    (λ longer long split allowed. events_zipped script run rows longer (place + 1) es long split all.1 allowed))
     split allowed
 
 -- the events of a lawful run

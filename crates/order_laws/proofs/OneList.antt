@@ -1,8 +1,7 @@
 -- A lawful run has one list of findings.
-use Rattle.std.proofs.Common.{◌≡◌, Bool, true, false, List, refl, ap, sym, ◌∙◌}
+use Rattle.std.proofs.Common.{◌≡◌, Bool, true, false, refl, ap, ◌∙◌}
 use Rattle.std.proofs.lemmas.Bool.{false≢true}
 use Rattle.rma_types.specs.declared.accesses.Id.{Id}
-use Rattle.rma_types.specs.declared.findings.Model.{Model}
 use Rattle.rma_types.specs.declared.scripts.Script.{Script}
 use Rattle.rma_record.specs.declared.runs.Run.{Run}
 use Rattle.order_rules.specs.Before.{IsOrder}
@@ -26,6 +25,8 @@ same_order script run one other first second =
 pub one_list : FindingsAreOneList
 one_list script delay run lawful model =
     let before : Id → Id → Bool = is_counted (stamps_in script run) in
-    let decides : IsOrder script run before = clocks_decide script delay run lawful (stamps_in script run) (keep_laws script delay run lawful) in
-    (findings script run model before, (before, decides, refl),
-     λ other are. are.2 ∙ ap (findings script run model) (same_order script run are.0 before are.1 decides))
+    let decides : IsOrder script run before = clocks_decide script delay run lawful (stamps_in script run) (keep_laws script delay run lawful) in (
+      findings script run model before,
+      (before, decides, refl),
+      λ other are. are.2 ∙ ap (findings script run model) (same_order script run are.0 before are.1 decides),
+    )

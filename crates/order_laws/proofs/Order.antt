@@ -1,25 +1,23 @@
 -- The order of a lawful run: edges lead to greater places, and the order agrees with each log.
-use Rattle.std.proofs.Common.{◌≡◌, ℕ, zero, suc, ◌+◌, ◌<◌, ◌≤◌, ◌⊎◌, inl, inr, Bool, true, false, List, [], ◌∷◌, ◌++◌, length, Option, Some, None, refl, ap, sym, subst, ◌∙◌, arith, length-append}
-use Rattle.std.specs.Prelude.{◌&&◌, ◌==◌, Contains, slice_get}
-use Rattle.std.specs.List.{filter, list_any}
-use Rattle.std.proofs.lemmas.Bool.{and_parts, and_from, cases_lt, cases_order, eqb-true, eq-eqb}
+use Rattle.std.proofs.Common.{◌≡◌, ◌+◌, ◌<◌, ◌≤◌, ◌⊎◌, inl, inr, true, List, [], ◌∷◌, ◌++◌, length, Some, refl, ap, sym, subst, ◌∙◌, arith}
+use Rattle.std.specs.Prelude.{◌==◌, slice_get}
+use Rattle.std.specs.List.{list_any}
+use Rattle.std.proofs.lemmas.Bool.{and_parts, and_from, cases_lt, eqb-true, eq-eqb}
 use Rattle.rma_types.specs.declared.accesses.Id.{Id}
 use Rattle.rma_types.specs.declared.schedules.Delay.{Delay}
 use Rattle.rma_types.specs.declared.scripts.Script.{Script}
-use Rattle.rma_record.specs.declared.items.Item.{Item}
 use Rattle.rma_record.specs.declared.items.Item.TheVariants.{Entry}
 use Rattle.rma_record.specs.declared.runs.Run.{Run}
-use Rattle.board_rules.specs.Board.{Allow, decide}
 use Rattle.board_rules.specs.Edges.{Event, is_edge}
 use Rattle.board_rules.specs.Entries.{Row, Act, acts, acts_after, window_of}
 use Rattle.board_rules.specs.Questions.{question}
 use Rattle.lawful_runs.specs.LawfulRun.{IsLawful}
 use Rattle.lawful_runs.specs.Logs.{log_of, rows_of}
-use Rattle.order_rules.specs.Before.{NamedEvent, events_in, is_same_id, events_named, is_edge_between, leads_to, IsEdge, StandsBefore, Before, Same, InLog, Across}
+use Rattle.order_rules.specs.Before.{NamedEvent, events_in, is_same_id, events_named, is_edge_between, leads_to, Before, Same, InLog, Across}
 use Rattle.order_laws.specs.OrderLaws.{IsTransitive, AgreesWithLogs, EdgesAscend}
 use Rattle.order_laws.proofs.Edges.{no_edge_back}
 use Rattle.order_laws.proofs.Events.{AllFrom, from_in, IsEventAt, events_placed, places_ascend}
-use Rattle.order_laws.proofs.Members.{In, here, there, any_in, in_any, in_filter, filter_in, contains_in}
+use Rattle.order_laws.proofs.Members.{In, any_in, in_any, in_filter, filter_in, contains_in}
 
 -- ---- transitive
 
@@ -102,12 +100,12 @@ module _ (script : Script) (delay : Delay) (run : Run) (lawful : IsLawful script
       elim (cases_lt a.event.place b.event.place) [
         | inl below ↦ below
         | inr late ↦
-          let more = prefix x.before x.row x.rest y.before y.row y.rest (sym x.split ∙ y.split) (omega (arith, late, x.long, y.long)) in
-          let grown = acts_more [] y.before more.0 in
-          let entries : acts x.before ≡ acts y.before ++ grown.0 = ap acts more.1 ∙ grown.1 in
-          let edge : is_edge (record { place = a.event.place; step = x.row.step; asked = question script.ranks x.before x.row }) (record { place = b.event.place; step = y.row.step; asked = question script.ranks y.before y.row }) ≡ true =
-              sym (λ k. is_edge (x.event k) (y.event k)) ∙ h in
-          absurd (no_edge_back (question script.ranks x.before x.row) (question script.ranks y.before y.row) grown.0 a.event.place b.event.place x.row.step y.row.step
+            let more = prefix x.before x.row x.rest y.before y.row y.rest (sym x.split ∙ y.split) (omega (arith, late, x.long, y.long)) in
+            let grown = acts_more [] y.before more.0 in
+            let entries : acts x.before ≡ acts y.before ++ grown.0 = ap acts more.1 ∙ grown.1 in
+            let edge : is_edge (record { place = a.event.place; step = x.row.step; asked = question script.ranks x.before x.row }) (record { place = b.event.place; step = y.row.step; asked = question script.ranks y.before y.row }) ≡ true =
+            sym (λ k. is_edge (x.event k) (y.event k)) ∙ h in
+            absurd (no_edge_back (question script.ranks x.before x.row) (question script.ranks y.before y.row) grown.0 a.event.place b.event.place x.row.step y.row.step
             entries (omega (arith, x.rank, x.within)) late y.allowed edge)
       ]
 
@@ -118,7 +116,7 @@ module _ (script : Script) (delay : Delay) (run : Run) (lawful : IsLawful script
       let y = event_at b of_b in
       let looks = lawful.board.looks b.id.rank y.within in
       let first : slice_get (log_of run b.id.rank) a.id.index ≡ Some (Entry x.number a.event.place a.event.step) =
-          subst (λ r. slice_get (log_of run r) a.id.index ≡ Some (Entry x.number a.event.place a.event.step)) rank x.logged in
+      subst (λ r. slice_get (log_of run r) a.id.index ≡ Some (Entry x.number a.event.place a.event.step)) rank x.logged in
       places_ascend (log_of run b.id.rank) a.id.index b.id.index x.number y.number a.event.place b.event.place a.event.step b.event.step
       looks.moments first y.logged before
 
@@ -128,8 +126,8 @@ module _ (script : Script) (delay : Delay) (run : Run) (lawful : IsLawful script
       let x = event_at a of_a in
       let y = event_at b of_b in
       let first : slice_get (log_of run b.id.rank) b.id.index ≡ Some (Entry x.number a.event.place a.event.step) =
-          subst (λ i. slice_get (log_of run b.id.rank) i ≡ Some (Entry x.number a.event.place a.event.step)) index
-          (subst (λ r. slice_get (log_of run r) a.id.index ≡ Some (Entry x.number a.event.place a.event.step)) rank x.logged) in
+      subst (λ i. slice_get (log_of run b.id.rank) i ≡ Some (Entry x.number a.event.place a.event.step)) index
+      (subst (λ r. slice_get (log_of run r) a.id.index ≡ Some (Entry x.number a.event.place a.event.step)) rank x.logged) in
       let both : Some (Entry x.number a.event.place a.event.step) ≡ Some (Entry y.number b.event.place b.event.step) = sym first ∙ y.logged in
       cc both
 
@@ -140,7 +138,7 @@ module _ (script : Script) (delay : Delay) (run : Run) (lawful : IsLawful script
   Reached a b =
       ((a.rank ≡ b.rank) × (a.index ≤ b.index))
       ⊎ ((x y : NamedEvent) × In x (events_in script run) × In y (events_in script run)
-        × (x.id.rank ≡ a.rank) × (a.index ≤ x.id.index) × (y.id.rank ≡ b.rank) × (y.id.index ≤ b.index) × (x.event.place < y.event.place))
+      × (x.id.rank ≡ a.rank) × (a.index ≤ x.id.index) × (y.id.rank ≡ b.rank) × (y.id.index ≤ b.index) × (x.event.place < y.event.place))
 
   reached : (a b : Id) → Before script run a b → Reached a b
   unfolding Reached
@@ -159,15 +157,15 @@ module _ (script : Script) (delay : Delay) (run : Run) (lawful : IsLawful script
       elim (reached a b rest) [
         | inl near ↦ inr (ends.0, ends.1, ends.2, ends.3, first_rank ∙ sym near.0, omega (arith, near.1, first_index), last_rank, omega (arith, last_index), up)
         | inr far ↦
-          let along : far.1.event.place ≤ ends.0.event.place = elim (cases_lt far.1.id.index ends.0.id.index) [
-            | inl earlier ↦
-              let step = log_ascends far.1 ends.0 far.3 ends.2 (far.6 ∙ sym first_rank) earlier in omega (arith, step)
-            | inr later ↦
-              let at : far.1.id.index ≡ ends.0.id.index = omega (arith, later, far.7, first_index) in
-              let one : far.1.event.place ≡ ends.0.event.place = same_place far.1 ends.0 far.3 ends.2 (far.6 ∙ sym first_rank) at in
-              omega (arith, one)
-          ] in
-          inr (far.0, ends.1, far.2, ends.3, far.4, far.5, last_rank, omega (arith, last_index), omega (arith, far.8, along, up))
+            let along : far.1.event.place ≤ ends.0.event.place = elim (cases_lt far.1.id.index ends.0.id.index) [
+              | inl earlier ↦
+                  let step = log_ascends far.1 ends.0 far.3 ends.2 (far.6 ∙ sym first_rank) earlier in omega (arith, step)
+              | inr later ↦
+                  let at : far.1.id.index ≡ ends.0.id.index = omega (arith, later, far.7, first_index) in
+                  let one : far.1.event.place ≡ ends.0.event.place = same_place far.1 ends.0 far.3 ends.2 (far.6 ∙ sym first_rank) at in
+                  omega (arith, one)
+            ] in
+            inr (far.0, ends.1, far.2, ends.3, far.4, far.5, last_rank, omega (arith, last_index), omega (arith, far.8, along, up))
       ]
 
   -- an item that stands later in a log is after
@@ -185,9 +183,9 @@ module _ (script : Script) (delay : Delay) (run : Run) (lawful : IsLawful script
       | inl below ↦ omega (arith, far.5, far.7, below)
       | inr above ↦ elim (cases_lt far.1.id.index far.0.id.index) [
         | inl strictly ↦
-          let down = log_ascends far.1 far.0 far.3 far.2 (far.6 ∙ sym (far.4 ∙ rank)) strictly in absurd (omega (arith, down, far.8))
+            let down = log_ascends far.1 far.0 far.3 far.2 (far.6 ∙ sym (far.4 ∙ rank)) strictly in absurd (omega (arith, down, far.8))
         | inr no_more ↦
-          let one = same_place far.0 far.1 far.2 far.3 (far.4 ∙ rank ∙ sym far.6) (omega (arith, above, no_more)) in absurd (omega (arith, one, far.8))
+            let one = same_place far.0 far.1 far.2 far.3 (far.4 ∙ rank ∙ sym far.6) (omega (arith, above, no_more)) in absurd (omega (arith, one, far.8))
       ]
     ]
   ]

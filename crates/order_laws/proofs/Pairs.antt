@@ -1,6 +1,6 @@
 -- Findings: no pair of reads, the least partner, and no pair left out.
-use Rattle.std.proofs.Common.{◌≡◌, ℕ, zero, suc, ◌+◌, ◌<◌, ◌≤◌, ◌⊎◌, inl, inr, Bool, true, false, List, [], ◌∷◌, ◌++◌, Option, Some, None, refl, ap, sym, subst, ◌∙◌, arith, append_assoc}
-use Rattle.std.specs.Prelude.{Contains, if◌then◌else◌}
+use Rattle.std.proofs.Common.{◌≡◌, ◌+◌, ◌⊎◌, inl, inr, Bool, true, false, List, [], ◌∷◌, ◌++◌, Option, Some, None, refl, ap, sym, subst, ◌∙◌, append_assoc}
+use Rattle.std.specs.Prelude.{if◌then◌else◌}
 use Rattle.std.specs.List.{AllByRecursion}
 use Rattle.std.specs.Option.{option_map_or}
 use Rattle.std.proofs.lemmas.Bool.{false≢true}
@@ -9,12 +9,10 @@ use Rattle.rma_types.specs.declared.accesses.Id.{Id}
 use Rattle.rma_types.specs.declared.findings.Finding.{Finding}
 use Rattle.rma_types.specs.declared.findings.Model.{Model}
 use Rattle.rma_types.specs.declared.findings.Rule.{Rule}
-use Rattle.rma_types.specs.declared.scripts.Script.{Script}
-use Rattle.rma_record.specs.declared.runs.Run.{Run}
 use Rattle.order_rules.specs.Findings.{judged_accesses, unless_ordered, forbidden, first_finding, findings_after, findings}
 use Rattle.order_rules.specs.Ordered.{JudgedAccess, role_in}
 use Rattle.order_rules.specs.Roles.{Role, RmaUpdate, RmaRead, Store, Load}
-use Rattle.order_rules.specs.Rules.{Pair, pair_of, rule_for, forbidden_kind}
+use Rattle.order_rules.specs.Rules.{Pair, rule_for, forbidden_kind}
 use Rattle.order_laws.specs.FindingLaws.{is_update, ReadsAreNoPair, IsFirstPair, PartnersAreLeast, EachPairIsFound}
 use Rattle.order_laws.proofs.Members.{In, here, there, append_in, in_append_left, in_append_right, contains_in, in_contains}
 
@@ -69,48 +67,48 @@ module _ (model : Model) (before : Id → Id → Bool) where
   first_is [] b finding h = absurd (cc h)
   first_is (a ∷ rest) b finding h = elim (cases_option (forbidden model before a b)) [
     | inl none ↦
-      let later = first_is rest b finding (sym (ap (λ o. option_map_or (λ rule. Some (made a b rule)) o (first_finding model before rest b)) none) ∙ h) in
-      record {
-        front = a ∷ later.front;
-        first = later.first;
-        back = later.back;
-        partner = ap (λ l. a ∷ l) later.partner;
-        names = later.names;
-        forbids = later.forbids;
-        least = (none, later.least);
-      }
+        let later = first_is rest b finding (sym (ap (λ o. option_map_or (λ rule. Some (made a b rule)) o (first_finding model before rest b)) none) ∙ h) in
+        record {
+          front = a ∷ later.front;
+          first = later.first;
+          back = later.back;
+          partner = ap (λ l. a ∷ l) later.partner;
+          names = later.names;
+          forbids = later.forbids;
+          least = (none, later.least);
+        }
     | inr some ↦
-      let is : made a b some.0 ≡ finding = cc (sym (ap (λ o. option_map_or (λ rule. Some (made a b rule)) o (first_finding model before rest b)) some.1) ∙ h) in
-      let rule : some.0 ≡ finding.rule = ap (λ (f : Finding). f.rule) is in
-      record {
-        front = [];
-        first = a;
-        back = rest;
-        partner = refl;
-        names = sym is ∙ ap (made a b) rule;
-        forbids = some.1 ∙ ap Some rule;
-        least = tt;
-      }
+        let is : made a b some.0 ≡ finding = cc (sym (ap (λ o. option_map_or (λ rule. Some (made a b rule)) o (first_finding model before rest b)) some.1) ∙ h) in
+        let rule : some.0 ≡ finding.rule = ap (λ (f : Finding). f.rule) is in
+        record {
+          front = [];
+          first = a;
+          back = rest;
+          partner = refl;
+          names = sym is ∙ ap (made a b) rule;
+          forbids = some.1 ∙ ap Some rule;
+          least = tt;
+        }
   ]
 
   after_is : (accesses earlier later : List JudgedAccess) (finding : Finding) → accesses ≡ earlier ++ later → In finding (findings_after model before earlier later) → IsFirstPair model before accesses finding
   after_is accesses earlier [] finding split m = elim m [ ]
   after_is accesses earlier (b ∷ rest) finding split m = elim (append_in (option_map_or (λ f. f ∷ []) (first_finding model before earlier b) []) m) [
     | inl here_ ↦
-      let one = first_is earlier b finding (single (first_finding model before earlier b) here_) in
-      record {
-        earlier = earlier;
-        second = b;
-        later = rest;
-        of_run = split;
-        front = one.front;
-        first = one.first;
-        back = one.back;
-        partner = one.partner;
-        names = one.names;
-        forbids = one.forbids;
-        least = one.least;
-      }
+        let one = first_is earlier b finding (single (first_finding model before earlier b) here_) in
+        record {
+          earlier = earlier;
+          second = b;
+          later = rest;
+          of_run = split;
+          front = one.front;
+          first = one.first;
+          back = one.back;
+          partner = one.partner;
+          names = one.names;
+          forbids = one.forbids;
+          least = one.least;
+        }
     | inr there_ ↦ after_is accesses (earlier ++ b ∷ []) rest finding (split ∙ sym (append_assoc earlier (b ∷ []) rest)) there_
   ]
     where
@@ -130,8 +128,8 @@ module _ (model : Model) (before : Id → Id → Bool) where
   some_first (a ∷ rest) b first rule m h = elim (cases_option (forbidden model before a b)) [
     | inr some ↦ (made a b some.0, ap (λ o. option_map_or (λ rule. Some (made a b rule)) o (first_finding model before rest b)) some.1, refl)
     | inl none ↦
-      let later = some_first rest b first rule (in_rest a rest first none h m) h in
-      (later.0, ap (λ o. option_map_or (λ rule. Some (made a b rule)) o (first_finding model before rest b)) none ∙ later.1, later.2)
+        let later = some_first rest b first rule (in_rest a rest first none h m) h in
+        (later.0, ap (λ o. option_map_or (λ rule. Some (made a b rule)) o (first_finding model before rest b)) none ∙ later.1, later.2)
   ]
     where
       in_rest : (a : JudgedAccess) (rest : List JudgedAccess) (first : JudgedAccess) → forbidden model before a b ≡ None → forbidden model before first b ≡ Some rule → In first (a ∷ rest) → In first rest

@@ -1,8 +1,8 @@
 -- The clocks that are computed keep their laws.
 use Rattle.std.proofs.Common.{◌≡◌, ℕ, zero, suc, ◌+◌, ◌<◌, ◌≤◌, ◌⊎◌, inl, inr, Bool, true, false, List, [], ◌∷◌, ◌++◌, length, refl, ap, sym, subst, ◌∙◌, arith, append_assoc}
-use Rattle.std.specs.Prelude.{max, map, replicate, slice_index, slice_set, Contains, cond, if◌then◌else◌}
-use Rattle.std.proofs.lemmas.Bool.{cases_Bool, cases_eq, cases_lt, cond-true, cond-false}
-use Rattle.std.proofs.lemmas.List.{append-nil, map-append, get_or-set_same, get_or-set_other, get_or-replicate, length-replicate}
+use Rattle.std.specs.Prelude.{max, map, replicate, slice_index, if◌then◌else◌}
+use Rattle.std.proofs.lemmas.Bool.{cases_eq, cases_lt}
+use Rattle.std.proofs.lemmas.List.{append-nil, map-append, get_or-set_same, get_or-set_other, length-replicate}
 use Rattle.rma_types.specs.declared.accesses.Id.{Id}
 use Rattle.rma_types.specs.declared.schedules.Delay.{Delay}
 use Rattle.rma_types.specs.declared.scripts.Script.{Script}
@@ -11,11 +11,11 @@ use Rattle.board_rules.specs.Edges.{Event}
 use Rattle.lawful_runs.specs.LawfulRun.{IsLawful}
 use Rattle.lawful_runs.specs.Logs.{rows_of}
 use Rattle.order_rules.specs.Before.{NamedEvent, events_in}
-use Rattle.clock_rules.specs.Clocks.{Stamp, count_in, precedes, joined, own_counts, joined_with, stamp_after, stamps_after, stamps_in, IsCountedFrom, KeepClockLaws}
+use Rattle.clock_rules.specs.Clocks.{Stamp, count_in, precedes, joined, own_counts, joined_with, stamp_after, stamps_after, stamps_in, IsCountedFrom}
 use Rattle.order_laws.specs.ClockLaws.{StampsKeepLaws}
 use Rattle.order_laws.proofs.Decide.{precedes_ascends}
 use Rattle.order_laws.proofs.Events.{AllFrom, from_in, IsEventAt, events_placed}
-use Rattle.order_laws.proofs.Members.{In, here, there, append_in, in_append_left, in_append_right, in_map, contains_in, in_contains}
+use Rattle.order_laws.proofs.Members.{In, here, there, append_in, in_append_left, in_map, contains_in, in_contains}
 use Rattle.order_laws.proofs.Order.{event_at}
 
 -- ---- joins
@@ -76,11 +76,11 @@ none_at (suc ranks) (suc rank) = none_at ranks rank
 own_from : (ranks : ℕ) (id : Id) (rank n : ℕ) → id.rank < ranks → n < slice_index (own_counts ranks id) rank → (rank ≡ id.rank) × (n ≤ id.index)
 own_from ranks id rank n within below = elim (cases_eq rank id.rank) [
   | inl same ↦
-    let at : slice_index (own_counts ranks id) rank ≡ id.index + 1 = ap (slice_index (own_counts ranks id)) same ∙ own_at ranks id within in
-    (same, omega arith)
+      let at : slice_index (own_counts ranks id) rank ≡ id.index + 1 = ap (slice_index (own_counts ranks id)) same ∙ own_at ranks id within in
+      (same, omega arith)
   | inr other ↦
-    let at : slice_index (own_counts ranks id) rank ≡ 0 = get_or-set_other (replicate ranks 0) id.rank rank (id.index + 1) 0 other ∙ none_at ranks rank in
-    absurd (omega arith)
+      let at : slice_index (own_counts ranks id) rank ≡ 0 = get_or-set_other (replicate ranks 0) id.rank rank (id.index + 1) 0 other ∙ none_at ranks rank in
+      absurd (omega arith)
 ]
 
 -- ---- the stamps of a list of entries
@@ -120,15 +120,15 @@ each_stamped ranks stamps (entry ∷ entries) t m =
       | inl early ↦ elim (append_in stamps early) [
         | inl old ↦ inl old
         | inr new ↦
-          let same : one ≡ t = only new in
-          let rest = stamps_grow ranks (stamps ++ one ∷ []) entries in
-          let split : stamps_after ranks (stamps ++ one ∷ []) entries ≡ stamps ++ one ∷ rest.0 = rest.1 ∙ append_assoc stamps (one ∷ []) rest.0 in
-          inr (record {
-            before = stamps;
-            after = rest.0;
-            split = split ∙ ap (λ s. stamps ++ s ∷ rest.0) same;
-            is = sym same ∙ ap (λ (s : Stamp). stamp_after ranks stamps s.entry) same;
-          })
+            let same : one ≡ t = only new in
+            let rest = stamps_grow ranks (stamps ++ one ∷ []) entries in
+            let split : stamps_after ranks (stamps ++ one ∷ []) entries ≡ stamps ++ one ∷ rest.0 = rest.1 ∙ append_assoc stamps (one ∷ []) rest.0 in
+            inr (record {
+              before = stamps;
+              after = rest.0;
+              split = split ∙ ap (λ s. stamps ++ s ∷ rest.0) same;
+              is = sym same ∙ ap (λ (s : Stamp). stamp_after ranks stamps s.entry) same;
+            })
       ]
     ]
 
@@ -171,9 +171,9 @@ module _ (script : Script) (delay : Delay) (run : Run) (lawful : IsLawful script
       not_late s t made up here = omega arith
       not_late s t made up (there m) =
           let whole : events_in script run ≡ map (λ (u : Stamp). u.entry) made.before ++ t.entry ∷ map (λ (u : Stamp). u.entry) made.after =
-              sym entries ∙ ap (map (λ (u : Stamp). u.entry)) made.split ∙ map-append (λ (u : Stamp). u.entry) made.before (t ∷ made.after) in
+          sym entries ∙ ap (map (λ (u : Stamp). u.entry)) made.split ∙ map-append (λ (u : Stamp). u.entry) made.before (t ∷ made.after) in
           let down = later_place script run 0 (map (λ (u : Stamp). u.entry) made.before) t.entry (map (λ (u : Stamp). u.entry) made.after) s.entry
-              (subst (AllFrom (IsEventAt script run (rows_of script run)) 0) whole (events_placed script delay run lawful)) (in_map (λ (u : Stamp). u.entry) m) in
+          (subst (AllFrom (IsEventAt script run (rows_of script run)) 0) whole (events_placed script delay run lawful)) (in_map (λ (u : Stamp). u.entry) m) in
           omega arith
 
   counts_of : (t : Stamp) (of_t : In t (stamps_in script run)) (rank : ℕ) → count_in t rank ≡ slice_index (joined_with (stamped t of_t).before t.entry (own_counts script.ranks t.entry.id)) rank

@@ -70,7 +70,7 @@ element_touched dtype (piece, touch) = element_in touch.bits piece.first_byte dt
 abbrev pub elements_read : Script → Run → IssuedAccess → List ℕ
 elements_read script run f = option_map_or
     (λ (t : Transfer). map (element_touched t.dtype)
-        (zip (pieces_of (layout script) (calls_of script f.id.rank) f.issued) (touches_by script run f)))
+    (zip (pieces_of (layout script) (calls_of script f.id.rank) f.issued) (touches_by script run f)))
     (transfer_at (calls_of script f.id.rank) f.issued.number) []
 
 -- a get or a load
@@ -86,5 +86,5 @@ is_get_or_load Store = false
 abbrev pub ReadsInOrder : Script → Run → (Id → Id → Bool) → Type 0
 ReadsInOrder script run before = AllByRecursion
     (λ (f : IssuedAccess). IsTrue (is_get_or_load f.issued.access.kind) →
-        elements_read script run f ≡ ordered_read script run before f)
+    elements_read script run f ≡ ordered_read script run before f)
     (accesses_in script run)

@@ -40,7 +40,7 @@ are_alike one_origin (first, a) (second, b) = is_same_dtype first second && may_
 abbrev pub are_excepted : Access → Access → (one_origin : Bool) → Bool
 are_excepted a b one_origin = a.window == b.window
     && option_map_or
-        (λ x. option_map_or (are_alike one_origin x) (accumulation_of b.kind) false) (accumulation_of a.kind) false
+    (λ x. option_map_or (are_alike one_origin x) (accumulation_of b.kind) false) (accumulation_of a.kind) false
 
 -- ---- the rules
 
