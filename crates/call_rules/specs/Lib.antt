@@ -5,6 +5,7 @@ pub mod Layout
 pub mod Numbers
 pub mod Pieces
 pub mod Ranks
+pub mod Sameness
 pub mod Text
 pub mod Touches
 pub mod Transfers

@@ -1,0 +1,11 @@
+-- Laws of the order of a run.
+pub mod Ascending
+pub mod Decide
+pub mod Delays
+pub mod Edges
+pub mod Events
+pub mod Members
+pub mod OneList
+pub mod Order
+pub mod Pairs
+pub mod Stamps
