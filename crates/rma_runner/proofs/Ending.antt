@@ -10,8 +10,9 @@ use Rattle.rma_model.specs.Report.{all_ended, is_refused}
 use Rattle.rma_model.specs.Status.{status}
 use Rattle.rma_streams.specs.Faults.{Rose}
 use Rattle.rma_streams.specs.Moves.{Took, AtEnd, Wrote, WrotePrefix}
-use Rattle.rank_script.specs.declared.faults.Fault.{Fault}
-use Rattle.rank_script.specs.Accepting.{IsTextOf, word_fault}
+use Rattle.script_language.specs.declared.faults.Fault.{Fault}
+use Rattle.rma_runner.specs.Scripts.{IsTextOf}
+use Rattle.rma_runner.proofs.Texts.{text_is_short, is_no_text}
 use Rattle.rma_runner.specs.declared.options.Options.{Options}
 use Rattle.rma_runner.specs.declared.outcomes.Outcome.{Outcome}
 use Rattle.rma_runner.specs.Answers.{IsInput, ReadsAs, ReadsAsNone, IsRunOf, Reported, ReportedInPart, Refused, RefusedInPart, IsNoText, report_on}
@@ -54,9 +55,9 @@ pub data Case (options : Options) (left_before left_after before after : Option 
       Wrote before (report_on script run) after → Case options left_before left_after before after outcome
   Part : (script : Script) (run : Run) → ReadsAs left_before left_after script → IsRunOf options script run → outcome ≡ record { status = 5; run = Some run } →
       WrotePrefix before (report_on script run) after → Case options left_before left_after before after outcome
-  NoScript : ReadsAsNone left_before left_after → outcome ≡ record { status = 3; run = None } → Wrote before (fault_line word_fault) after →
+  NoScript : (fault : Fault) → ReadsAsNone left_before left_after fault → outcome ≡ record { status = 3; run = None } → Wrote before (fault_line fault) after →
       Case options left_before left_after before after outcome
-  NoScriptPart : ReadsAsNone left_before left_after → outcome ≡ record { status = 5; run = None } → WrotePrefix before (fault_line word_fault) after →
+  NoScriptPart : (fault : Fault) → ReadsAsNone left_before left_after fault → outcome ≡ record { status = 5; run = None } → WrotePrefix before (fault_line fault) after →
       Case options left_before left_after before after outcome
   NotRead : outcome ≡ record { status = 4; run = None } → after ≡ before → Case options left_before left_after before after outcome
   NoRoom : outcome ≡ record { status = 6; run = None } → after ≡ before → Case options left_before left_after before after outcome
@@ -68,15 +69,15 @@ by_script options lb la before after outcome script reads (inl (run, is, inr (in
 by_script options lb la before after outcome script reads (inl (run, is, inr (inr room))) = NoRoom room.0 room.1
 by_script options lb la before after outcome script reads (inr room) = NoRoom room.0 room.1
 
-by_fault : (options : Options) (lb la before after : Option (List ℕ)) (outcome : Outcome) → ReadsAsNone lb la → EndsFault word_fault before after outcome → Case options lb la before after outcome
-by_fault options lb la before after outcome none (inl whole) = NoScript none whole.0 whole.1
-by_fault options lb la before after outcome none (inr (inl part)) = NoScriptPart none part.0 part.1
-by_fault options lb la before after outcome none (inr (inr room)) = NoRoom room.0 room.1
+by_fault : (options : Options) (lb la before after : Option (List ℕ)) (outcome : Outcome) (fault : Fault) → ReadsAsNone lb la fault → EndsFault fault before after outcome → Case options lb la before after outcome
+by_fault options lb la before after outcome fault none (inl whole) = NoScript fault none whole.0 whole.1
+by_fault options lb la before after outcome fault none (inr (inl part)) = NoScriptPart fault none part.0 part.1
+by_fault options lb la before after outcome fault none (inr (inr room)) = NoRoom room.0 room.1
 
 pub case_of : (options : Options) (lb la before after : Option (List ℕ)) (outcome : Outcome) → StepEnds options lb la before after outcome → Case options lb la before after outcome
 case_of options lb la before after outcome (inl (script, reads, ends)) = by_script options lb la before after outcome script reads ends
-case_of options lb la before after outcome (inr (inl (fault, is, none, ends))) =
-    by_fault options lb la before after outcome none (subst (λ (f : Fault). EndsFault f before after outcome) is ends)
+case_of options lb la before after outcome (inr (inl (fault, none, ends))) =
+    by_fault options lb la before after outcome fault none ends
 case_of options lb la before after outcome (inr (inr (inl unread))) = NotRead unread.0 unread.1
 case_of options lb la before after outcome (inr (inr (inr room))) = NoRoom room.0 room.1
 
@@ -94,8 +95,8 @@ reported options lb la before after outcome (Whole script run reads is e text) c
   status_is = ap (λ (o : Outcome). o.status) e;
 }
 reported options lb la before after outcome (Part script run reads is e text) code = absurd (is_not_5 outcome.status code (ap (λ (o : Outcome). o.status) e))
-reported options lb la before after outcome (NoScript none e text) code = absurd (is_not_3 outcome.status code (ap (λ (o : Outcome). o.status) e))
-reported options lb la before after outcome (NoScriptPart none e text) code = absurd (is_not_5 outcome.status code (ap (λ (o : Outcome). o.status) e))
+reported options lb la before after outcome (NoScript fault none e text) code = absurd (is_not_3 outcome.status code (ap (λ (o : Outcome). o.status) e))
+reported options lb la before after outcome (NoScriptPart fault none e text) code = absurd (is_not_5 outcome.status code (ap (λ (o : Outcome). o.status) e))
 reported options lb la before after outcome (NotRead e same) code = absurd (is_not_4 outcome.status code (ap (λ (o : Outcome). o.status) e))
 reported options lb la before after outcome (NoRoom e same) code = absurd (is_not_6 outcome.status code (ap (λ (o : Outcome). o.status) e))
 
@@ -105,8 +106,8 @@ HandedBy outcome = IfSome outcome.run (λ run. (outcome.status ≡ status run []
 pub handed : (options : Options) (lb la before after : Option (List ℕ)) (outcome : Outcome) → Case options lb la before after outcome → HandedBy outcome
 handed options lb la before after outcome (Whole script run reads is e text) = subst HandedBy (sym e) (inl refl)
 handed options lb la before after outcome (Part script run reads is e text) = subst HandedBy (sym e) (inr refl)
-handed options lb la before after outcome (NoScript none e text) = subst HandedBy (sym e) tt
-handed options lb la before after outcome (NoScriptPart none e text) = subst HandedBy (sym e) tt
+handed options lb la before after outcome (NoScript fault none e text) = subst HandedBy (sym e) tt
+handed options lb la before after outcome (NoScriptPart fault none e text) = subst HandedBy (sym e) tt
 handed options lb la before after outcome (NotRead e same) = subst HandedBy (sym e) tt
 handed options lb la before after outcome (NoRoom e same) = subst HandedBy (sym e) tt
 
@@ -118,8 +119,8 @@ pub refused : (options : Options) (lb la before after : Option (List ℕ)) (outc
     Refused lb la before after outcome.run
 refused options lb la before after outcome (Whole script run reads is e text) h = absurd (is_not_3 (status run []) (run_status run) (code_of outcome _ 3 e h))
 refused options lb la before after outcome (Part script run reads is e text) h = let k = code_of outcome _ 3 e h in absurd (omega arith)
-refused options lb la before after outcome (NoScript none e text) h = record { reads = none; none = ap (λ (o : Outcome). o.run) e; text = text }
-refused options lb la before after outcome (NoScriptPart none e text) h = let k = code_of outcome _ 3 e h in absurd (omega arith)
+refused options lb la before after outcome (NoScript fault none e text) h = record { fault = fault; reads = none; none = ap (λ (o : Outcome). o.run) e; text = text }
+refused options lb la before after outcome (NoScriptPart fault none e text) h = let k = code_of outcome _ 3 e h in absurd (omega arith)
 refused options lb la before after outcome (NotRead e same) h = let k = code_of outcome _ 3 e h in absurd (omega arith)
 refused options lb la before after outcome (NoRoom e same) h = let k = code_of outcome _ 3 e h in absurd (omega arith)
 
@@ -127,8 +128,8 @@ pub unread : (options : Options) (lb la before after : Option (List ℕ)) (outco
     (after ≡ before) × (outcome.run ≡ None)
 unread options lb la before after outcome (Whole script run reads is e text) h = absurd (is_not_4 (status run []) (run_status run) (code_of outcome _ 4 e h))
 unread options lb la before after outcome (Part script run reads is e text) h = let k = code_of outcome _ 4 e h in absurd (omega arith)
-unread options lb la before after outcome (NoScript none e text) h = let k = code_of outcome _ 4 e h in absurd (omega arith)
-unread options lb la before after outcome (NoScriptPart none e text) h = let k = code_of outcome _ 4 e h in absurd (omega arith)
+unread options lb la before after outcome (NoScript fault none e text) h = let k = code_of outcome _ 4 e h in absurd (omega arith)
+unread options lb la before after outcome (NoScriptPart fault none e text) h = let k = code_of outcome _ 4 e h in absurd (omega arith)
 unread options lb la before after outcome (NotRead e same) h = (same, ap (λ (o : Outcome). o.run) e)
 unread options lb la before after outcome (NoRoom e same) h = let k = code_of outcome _ 4 e h in absurd (omega arith)
 
@@ -136,8 +137,8 @@ pub no_memory : (options : Options) (lb la before after : Option (List ℕ)) (ou
     (after ≡ before) × (outcome.run ≡ None)
 no_memory options lb la before after outcome (Whole script run reads is e text) h = absurd (is_not_6 (status run []) (run_status run) (code_of outcome _ 6 e h))
 no_memory options lb la before after outcome (Part script run reads is e text) h = let k = code_of outcome _ 6 e h in absurd (omega arith)
-no_memory options lb la before after outcome (NoScript none e text) h = let k = code_of outcome _ 6 e h in absurd (omega arith)
-no_memory options lb la before after outcome (NoScriptPart none e text) h = let k = code_of outcome _ 6 e h in absurd (omega arith)
+no_memory options lb la before after outcome (NoScript fault none e text) h = let k = code_of outcome _ 6 e h in absurd (omega arith)
+no_memory options lb la before after outcome (NoScriptPart fault none e text) h = let k = code_of outcome _ 6 e h in absurd (omega arith)
 no_memory options lb la before after outcome (NotRead e same) h = let k = code_of outcome _ 6 e h in absurd (omega arith)
 no_memory options lb la before after outcome (NoRoom e same) h = (same, ap (λ (o : Outcome). o.run) e)
 
@@ -146,16 +147,16 @@ pub cut : (options : Options) (lb la before after : Option (List ℕ)) (outcome 
 cut options lb la before after outcome (Whole script run reads is e text) h = absurd (is_not_5 (status run []) (run_status run) (code_of outcome _ 5 e h))
 cut options lb la before after outcome (Part script run reads is e text) h =
     inl (record { script = script; run = run; reads = reads; is_run = is; handed_back = ap (λ (o : Outcome). o.run) e; text = text })
-cut options lb la before after outcome (NoScript none e text) h = let k = code_of outcome _ 5 e h in absurd (omega arith)
-cut options lb la before after outcome (NoScriptPart none e text) h = inr (record { reads = none; none = ap (λ (o : Outcome). o.run) e; text = text })
+cut options lb la before after outcome (NoScript fault none e text) h = let k = code_of outcome _ 5 e h in absurd (omega arith)
+cut options lb la before after outcome (NoScriptPart fault none e text) h = inr (record { fault = fault; reads = none; none = ap (λ (o : Outcome). o.run) e; text = text })
 cut options lb la before after outcome (NotRead e same) h = let k = code_of outcome _ 5 e h in absurd (omega arith)
 cut options lb la before after outcome (NoRoom e same) h = let k = code_of outcome _ 5 e h in absurd (omega arith)
 
 pub statuses : (options : Options) (lb la before after : Option (List ℕ)) (outcome : Outcome) → Case options lb la before after outcome → IsStepStatus outcome.status
 statuses options lb la before after outcome (Whole script run reads is e text) = inl (subst IsRunStatus (sym (ap (λ (o : Outcome). o.status) e)) (run_status run))
 statuses options lb la before after outcome (Part script run reads is e text) = inr (inr (inr (inl (ap (λ (o : Outcome). o.status) e))))
-statuses options lb la before after outcome (NoScript none e text) = inr (inl (ap (λ (o : Outcome). o.status) e))
-statuses options lb la before after outcome (NoScriptPart none e text) = inr (inr (inr (inl (ap (λ (o : Outcome). o.status) e))))
+statuses options lb la before after outcome (NoScript fault none e text) = inr (inl (ap (λ (o : Outcome). o.status) e))
+statuses options lb la before after outcome (NoScriptPart fault none e text) = inr (inr (inr (inl (ap (λ (o : Outcome). o.status) e))))
 statuses options lb la before after outcome (NotRead e same) = inr (inr (inl (ap (λ (o : Outcome). o.status) e)))
 statuses options lb la before after outcome (NoRoom e same) = inr (inr (inr (inr (ap (λ (o : Outcome). o.status) e))))
 
@@ -188,13 +189,10 @@ pub complete : (options : Options) (lb la before after : Option (List ℕ)) (out
     IsRunStatus outcome.status ⊎ (outcome.status ≡ 6)
 complete options lb la before after outcome (Whole s run reads is e t) text script is_text told no4 no5 = inl (subst IsRunStatus (sym (ap (λ (o : Outcome). o.status) e)) (run_status run))
 complete options lb la before after outcome (Part s run reads is e t) text script is_text told no4 no5 = absurd (no5 (ap (λ (o : Outcome). o.status) e))
-complete options lb la before after outcome (NoScript none e t) text script is_text told no4 no5 =
-    let bytes = input_is lb la none.bytes text told (short text script is_text) none.input in
-    absurd (none.none script (subst (λ b. IsTextOf b script) (sym bytes) is_text))
-  where
-    short : (text : List ℕ) (script : Script) → IsTextOf text script → length text ≤ 1048577
-    short text script is_text = let h = is_text.short in omega arith
-complete options lb la before after outcome (NoScriptPart none e t) text script is_text told no4 no5 = absurd (no5 (ap (λ (o : Outcome). o.status) e))
+complete options lb la before after outcome (NoScript fault none e t) text script is_text told no4 no5 =
+    let bytes = input_is lb la none.bytes text told (let low = text_is_short text script is_text in omega arith) none.input in
+    absurd (is_no_text none.bytes fault none.refused script (subst (λ b. IsTextOf b script) (sym bytes) is_text))
+complete options lb la before after outcome (NoScriptPart fault none e t) text script is_text told no4 no5 = absurd (no5 (ap (λ (o : Outcome). o.status) e))
 complete options lb la before after outcome (NotRead e same) text script is_text told no4 no5 = absurd (no4 (ap (λ (o : Outcome). o.status) e))
 complete options lb la before after outcome (NoRoom e same) text script is_text told no4 no5 = inr (ap (λ (o : Outcome). o.status) e)
 
@@ -207,8 +205,8 @@ pub refuses : (options : Options) (lb la before after : Option (List ℕ)) (outc
     (text : List ℕ) → IsNoText text → lb ≡ Some text → (outcome.status ≡ 4 → ⊥) → (outcome.status ≡ 5 → ⊥) → (outcome.status ≡ 3) ⊎ (outcome.status ≡ 6)
 refuses options lb la before after outcome (Whole s run reads is e t) text none told no4 no5 = absurd (none.none s (read_is lb la text s told none.short reads))
 refuses options lb la before after outcome (Part s run reads is e t) text none told no4 no5 = absurd (no5 (ap (λ (o : Outcome). o.status) e))
-refuses options lb la before after outcome (NoScript reads e t) text none told no4 no5 = inl (ap (λ (o : Outcome). o.status) e)
-refuses options lb la before after outcome (NoScriptPart reads e t) text none told no4 no5 = absurd (no5 (ap (λ (o : Outcome). o.status) e))
+refuses options lb la before after outcome (NoScript fault reads e t) text none told no4 no5 = inl (ap (λ (o : Outcome). o.status) e)
+refuses options lb la before after outcome (NoScriptPart fault reads e t) text none told no4 no5 = absurd (no5 (ap (λ (o : Outcome). o.status) e))
 refuses options lb la before after outcome (NotRead e same) text none told no4 no5 = absurd (no4 (ap (λ (o : Outcome). o.status) e))
 refuses options lb la before after outcome (NoRoom e same) text none told no4 no5 = inr (ap (λ (o : Outcome). o.status) e)
 

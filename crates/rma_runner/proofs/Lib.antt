@@ -1,2 +1,3 @@
--- What follows from how the top call ends.
+-- What follows from how the top call ends, and of texts.
 pub mod Ending
+pub mod Texts

@@ -8,7 +8,8 @@ use Rattle.rma_model.specs.Report.{report}
 use Rattle.rma_model.specs.Status.{status}
 use Rattle.rma_model.specs.StepRun.{step_run}
 use Rattle.rma_streams.specs.Moves.{Took, AtEnd, Wrote, WrotePrefix}
-use Rattle.rank_script.specs.Accepting.{IsTextOf, word_fault}
+use Rattle.script_language.specs.declared.faults.Fault.{Fault}
+use Rattle.rma_runner.specs.Scripts.{IsTextOf, IsRefusedBy}
 use Rattle.rma_runner.specs.Lines.{fault_line}
 use Rattle.rma_runner.specs.declared.options.Options.{Options}
 
@@ -24,11 +25,11 @@ pub record ReadsAs (before after : Option (List ℕ)) (script : Script) : Type 0
   pub end : AtEnd after
   pub reads : IsTextOf bytes script
 
--- the bytes taken read as no script
-pub record ReadsAsNone (before after : Option (List ℕ)) : Type 0 where
+-- the bytes taken are refused by the fault
+pub record ReadsAsNone (before after : Option (List ℕ)) (fault : Fault) : Type 0 where
   pub bytes : List ℕ
   pub input : IsInput before after bytes
-  pub none : (script : Script) → IsTextOf bytes script → ⊥
+  pub refused : IsRefusedBy bytes fault
 
 -- the run is the script's run on one thread by these options, and it is lawful
 pub record IsRunOf (options : Options) (script : Script) (run : Run) : Type 0 where
@@ -58,19 +59,21 @@ pub record ReportedInPart (options : Options) (left_before left_after written_be
   pub handed_back : handed ≡ Some run
   pub text : WrotePrefix written_before (report_on script run) written_after
 
--- the bytes taken read as no script, and the line of the refused script was written
+-- the bytes taken are refused by a fault, and its line was written
 pub record Refused (left_before left_after written_before written_after : Option (List ℕ)) (handed : Option Run) : Type 0 where
-  pub reads : ReadsAsNone left_before left_after
+  pub fault : Fault
+  pub reads : ReadsAsNone left_before left_after fault
   pub none : handed ≡ None
-  pub text : Wrote written_before (fault_line word_fault) written_after
+  pub text : Wrote written_before (fault_line fault) written_after
 
 -- the same, and a front of the line was written
 pub record RefusedInPart (left_before left_after written_before written_after : Option (List ℕ)) (handed : Option Run) : Type 0 where
-  pub reads : ReadsAsNone left_before left_after
+  pub fault : Fault
+  pub reads : ReadsAsNone left_before left_after fault
   pub none : handed ≡ None
-  pub text : WrotePrefix written_before (fault_line word_fault) written_after
+  pub text : WrotePrefix written_before (fault_line fault) written_after
 
--- no script has the text, which is no longer than what is read of an input
+-- the text says no script that runs by now, and is no longer than what is read of an input
 pub record IsNoText (text : List ℕ) : Type 0 where
   pub short : length text ≤ 1048577
   pub none : (script : Script) → IsTextOf text script → ⊥

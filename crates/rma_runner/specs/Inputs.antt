@@ -1,19 +1,18 @@
 -- Why no script was read.
-use Rattle.std.specs.Prelude.{ℕ, ◌≡◌, List, Option}
-use Rattle.rma_types.specs.declared.scripts.Script.{Script}
-use Rattle.rank_script.specs.Accepting.{IsTextOf, word_fault}
+use Rattle.std.specs.Prelude.{ℕ, List, Option}
+use Rattle.rma_runner.specs.Scripts.{IsRefusedBy}
 use Rattle.rma_runner.specs.Answers.{ReadsAsNone}
 use Rattle.rma_runner.specs.declared.inputs.NoScript.{NoScript}
 use Rattle.rma_runner.specs.declared.inputs.NoScript.TheVariants.{Failed, NoMemory, Refused}
 
--- the text is refused by its one fault, unless memory ran out
+-- the text is refused by the fault, unless memory ran out
 abbrev pub IsRefusal : List ℕ → NoScript → Type 0
 IsRefusal text Failed = ⊥
 IsRefusal text NoMemory = Unit {0}
-IsRefusal text (Refused fault) = (fault ≡ word_fault) × ((script : Script) → IsTextOf text script → ⊥)
+IsRefusal text (Refused fault) = IsRefusedBy text fault
 
--- the bytes taken are refused by their one fault, unless memory ran out or a read failed
+-- the bytes taken are refused by the fault, unless memory ran out or a read failed
 abbrev pub IsWhy : Option (List ℕ) → Option (List ℕ) → NoScript → Type 0
 IsWhy before after Failed = Unit {0}
 IsWhy before after NoMemory = Unit {0}
-IsWhy before after (Refused fault) = (fault ≡ word_fault) × ReadsAsNone before after
+IsWhy before after (Refused fault) = ReadsAsNone before after fault

@@ -1,9 +1,9 @@
 -- The lines that are written where there is no report: this project's profile.
 use Rattle.std.specs.Prelude.{ℕ, List, [], ◌∷◌, codes}
-use Rattle.rma_model.specs.Text.{line, spaced, number}
-use Rattle.rank_script.specs.declared.faults.Fault.{Fault}
-use Rattle.rank_script.specs.declared.faults.FaultKind.{FaultKind}
-use Rattle.rank_script.specs.declared.faults.FaultKind.TheVariants.{Word, Number, Datatype, Op, Name, Shape, Limit, NoMemory}
+use Rattle.call_rules.specs.Text.{line, spaced, number}
+use Rattle.script_language.specs.declared.faults.Fault.{Fault}
+use Rattle.script_language.specs.declared.faults.FaultKind.{FaultKind}
+use Rattle.script_language.specs.declared.faults.FaultKind.TheVariants.{Word, Number, Datatype, Op, Name, Shape, Limit, NoMemory}
 
 -- the word of a fault's kind
 abbrev pub kind_text : FaultKind → List ℕ

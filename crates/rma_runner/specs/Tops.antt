@@ -4,8 +4,7 @@ use Rattle.rma_types.specs.declared.scripts.Script.{Script}
 use Rattle.rma_record.specs.declared.runs.Run.{Run}
 use Rattle.rma_model.specs.Status.{status, words_refused, script_refused, read_failed, write_failed, out_of_memory}
 use Rattle.rma_streams.specs.Moves.{Wrote, WrotePrefix}
-use Rattle.rank_script.specs.declared.faults.Fault.{Fault}
-use Rattle.rank_script.specs.Accepting.{word_fault}
+use Rattle.script_language.specs.declared.faults.Fault.{Fault}
 use Rattle.rma_runner.specs.Answers.{IsRunOf, ReadsAs, ReadsAsNone, report_on}
 use Rattle.rma_runner.specs.Lines.{fault_line, usage_line}
 use Rattle.rma_runner.specs.declared.options.Options.{Options}
@@ -33,10 +32,10 @@ EndsScript options script before after outcome =
     ((run : Run) × IsRunOf options script run × EndsRun script run before after outcome)
     ⊎ ((outcome ≡ record { status = out_of_memory; run = None }) × (after ≡ before))
 
--- the input was read as a script, which was run; or read as none; or a read failed; or there was no memory for the script
+-- the input was read as a script, which was run; or refused by a fault; or a read failed; or there was no memory for the script
 abbrev pub StepEnds : Options → Option (List ℕ) → Option (List ℕ) → Option (List ℕ) → Option (List ℕ) → Outcome → Type 0
 StepEnds options left_before left_after before after outcome =
     ((script : Script) × ReadsAs left_before left_after script × EndsScript options script before after outcome)
-    ⊎ (((fault : Fault) × (fault ≡ word_fault) × ReadsAsNone left_before left_after × EndsFault fault before after outcome)
+    ⊎ (((fault : Fault) × ReadsAsNone left_before left_after fault × EndsFault fault before after outcome)
     ⊎ (((outcome ≡ record { status = read_failed; run = None }) × (after ≡ before))
     ⊎ ((outcome ≡ record { status = out_of_memory; run = None }) × (after ≡ before))))

@@ -2,13 +2,15 @@
 ghost use Rattle.std.specs.Prelude.{◌≡◌, ◌≤◌, IfOk, IfErr};
 ghost use Rattle.rma_streams.specs.Ends.{NoLateRead};
 ghost use Rattle.rma_streams.specs.Faults.{Rose};
-ghost use Rattle.rank_script.specs.Accepting.{IsTextOf};
+ghost use Rattle.rma_model.specs.BuiltForm.{IsBuilt};
+ghost use Rattle.rma_runner.specs.Scripts.{IsTextOf};
 ghost use Rattle.rma_runner.specs.Answers.{ReadsAs};
 ghost use Rattle.rma_runner.specs.Inputs.{IsRefusal, IsWhy};
 
-use rank_script::{Fault, FaultKind, parse};
+use built_scripts::is_built;
 use rma_streams::{ReadError, Source, read_input};
 use rma_types::Script;
+use script_reader::{Fault, FaultKind, parse};
 use std::alloc::Global;
 
 /// Why no script was read.
@@ -22,12 +24,31 @@ pub enum NoScript {
     Refused(Fault),
 }
 
+/// The answer for a script that does not run yet.
+const NOT_YET_RUN: Fault = Fault {
+    line: 0,
+    kind: FaultKind::Word,
+};
+
+/// A script that was read, where it is one that runs by now.
+fn only_built(script: Script) -> Result<Script, NoScript>
+    ensures built { IfOk result (λ found. (found ≡ script) × IsBuilt script) }
+    ensures other { IfErr result (λ why. (why ≡ NoScript.Refused NOT_YET_RUN) × (IsBuilt script → ⊥)) }
+{
+    if is_built(&script) {
+        Ok(script)
+    } else {
+        Err(NoScript::Refused(NOT_YET_RUN))
+    }
+}
+
+/// The script that a text says, where it is one that runs by now.
 fn script_of(alloc: Global, text: &[u8]) -> Result<Script, NoScript>
     ensures read { IfOk result (IsTextOf text.now) }
     ensures refused { IfErr result (IsRefusal text.now) }
 {
     match parse(alloc, text) {
-        Ok(script) => Ok(script),
+        Ok(script) => only_built(script),
         Err(fault) => match fault.kind {
             FaultKind::NoMemory => Err(NoScript::NoMemory),
             _ => Err(NoScript::Refused(fault)),
@@ -36,6 +57,7 @@ fn script_of(alloc: Global, text: &[u8]) -> Result<Script, NoScript>
 }
 
 /// Reads a script from a source, to the end of its input or to the limit.
+#[tactic(auto, using(crate::proofs::Texts::text_is_short))]
 pub fn read_script<S: Source>(alloc: Global, source: &mut S) -> Result<Script, NoScript>
     ensures read { IfOk result (ReadsAs (S.left source.old) (S.left source.new)) }
     ensures refused { IfErr result (λ why. IsWhy (S.left source.old) (S.left source.new) why) }

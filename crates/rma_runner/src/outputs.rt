@@ -8,12 +8,12 @@ ghost use Rattle.rma_runner.specs.Answers.{report_on};
 ghost use Rattle.rma_runner.specs.Lines.{kind_text, fault_line, usage_line};
 ghost use Rattle.rma_runner.specs.Outputs.{WritesOrStops};
 
-use rank_script::{Fault, FaultKind};
 use rma_model::Mode;
 use rma_record::Run;
 use rma_streams::{Sink, write_output};
 use rma_types::{NoMemory, Script};
 use run_report::report_text;
+use script_reader::{Fault, FaultKind};
 use std::alloc::{AllocError, Global};
 use std::fmt::Write;
 

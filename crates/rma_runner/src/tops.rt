@@ -12,7 +12,7 @@ ghost use Rattle.rma_runner.specs.Tops.{EndsRun, EndsFault, EndsScript, EndsUsag
 ghost use Rattle.rma_runner.specs.Statuses.{IsStepStatus, IsRunStatus};
 ghost use Rattle.rma_model.specs.declared.modes.Mode.TheVariants.{Step as StepMode};
 ghost use Rattle.rma_model.specs.Status.{status as status_of_run};
-ghost use Rattle.rank_script.specs.Accepting.{IsTextOf};
+ghost use Rattle.rma_runner.specs.Scripts.{IsTextOf};
 ghost use Rattle.rma_types.specs.declared.scripts.Script.{Script as ScriptValue};
 ghost use Rattle.rma_runner.specs.Answers.{Reported, ReportedInPart, Refused, RefusedInPart, IsNoText};
 ghost use Rattle.rma_runner.specs.Lines.{usage_line};
@@ -24,11 +24,11 @@ use crate::outcomes::{
 };
 use crate::outputs::{NoText, write_fault, write_report, write_usage};
 use rank_engine::run_steps;
-use rank_script::Fault;
 use rma_record::Run;
 use rma_streams::{Sink, Source};
 use rma_types::{Gate, NoMemory, Script};
 use run_report::status_of;
+use script_reader::Fault;
 use std::alloc::Global;
 
 /// Writes the line of a refused script.
@@ -126,13 +126,13 @@ pub fn step_main<S: Source, K: Sink>(
     requires source_count { S.faults source.old < 2 ^ 64 - 1 }
     requires sink_count { K.faults sink.old < 2 ^ 64 - 1 }
 
-    // The whole input reads as a script; its run on one thread is handed back, which is lawful, and its report was written.
+    // The whole input says a script; its run on one thread is handed back, which is lawful, and its report was written.
     ensures reported { IsRunStatus result.status
         → Reported options.now (S.left source.old) (S.left source.new) (K.written sink.old) (K.written sink.new) result.status result.run }
     // A run is handed back only with its own status, or where a write failed.
     ensures handed { IfSome result.run (λ run. (result.status ≡ status_of_run run []) ⊎ (result.status ≡ WRITE_FAILED)) }
 
-    // The bytes taken read as no script.
+    // The bytes taken are refused by their first fault, or say a script that does not run yet.
     ensures refused { result.status ≡ SCRIPT_REFUSED
         → Refused (S.left source.old) (S.left source.new) (K.written sink.old) (K.written sink.new) result.run }
     // A read failed, and nothing was written.
@@ -191,7 +191,7 @@ pub fn rma_main<S: Source, K: Sink, G: Gate>(
     requires source_count { S.faults source.old < 2 ^ 64 - 1 }
     requires sink_count { K.faults sink.old < 2 ^ 64 - 1 }
 
-    // The whole input reads as a script; its run on one thread is handed back, which is lawful, and its report was written.
+    // The whole input says a script; its run on one thread is handed back, which is lawful, and its report was written.
     ensures reported { IsRunStatus result.status
         → Reported DEFAULT_OPTIONS (S.left source.old) (S.left source.new) (K.written sink.old) (K.written sink.new) result.status result.run }
     // A run is handed back only with its own status, or where a write failed.
@@ -205,7 +205,7 @@ pub fn rma_main<S: Source, K: Sink, G: Gate>(
         → (result.status ≡ WORDS_REFUSED) ⊎ ((result.status ≡ WRITE_FAILED) ⊎ (result.status ≡ OUT_OF_MEMORY)) }
     ensures words_accepted { words.now ≡ [] → IsStepStatus result.status }
 
-    // The bytes taken read as no script.
+    // The bytes taken are refused by their first fault, or say a script that does not run yet.
     ensures refused { result.status ≡ SCRIPT_REFUSED
         → Refused (S.left source.old) (S.left source.new) (K.written sink.old) (K.written sink.new) result.run }
     // A read failed, and nothing was written.
