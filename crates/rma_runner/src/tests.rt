@@ -90,19 +90,58 @@ fn reports_on_scripts(rt: HostRuntime) -> Result<(), Fail> {
 }
 
 #[test]
-fn refuses_other_texts(rt: HostRuntime) -> Result<(), Fail> {
+fn refuses_texts_by_their_first_fault(rt: HostRuntime) -> Result<(), Fail> {
     let alloc = rt.alloc();
-    for text in [
-        "",
-        "ranks 17\n",
-        "ranks 1",
-        "ranks  1\n",
-        "ranks 1\nrank 0\n",
-        "ranks 1\nrank 0\nallocate w0 4 4\nput w0 0 0 int32 01\n",
-        "r\u{e4}nks 1\n",
+    for (text, line) in [
+        ("", "script 1 shape\n"),
+        ("ranks 17\n", "script 1 limit\n"),
+        ("rank 0\n", "script 1 shape\n"),
+        ("r\u{e4}nks 1\n", "script 1 word\n"),
+        ("ranks 2\nrank 0\nallocate w0 4", "script 3 shape\n"),
+        ("ranks 1\nrank 0\nPUT w0 0 0 int32 1\n", "script 3 word\n"),
+        ("ranks 1\nrank 0\nallocate w32 4 4\n", "script 3 name\n"),
+        ("ranks 1\nrank 0\nput w0 0 0 int64 1\n", "script 3 type\n"),
+        (
+            "ranks 1\nrank 0\nacc w0 0 0 int32 plus 1\n",
+            "script 3 op\n",
+        ),
+        (
+            "ranks 1\nrank 0\nput w0 0 0 int32 +5\n",
+            "script 3 number\n",
+        ),
+        (
+            "ranks 1\nrank 0\nrepeat 65536\nbarrier\nend\nbarrier\n",
+            "script 6 limit\n",
+        ),
     ] {
-        gives(&rt, alloc, text, 3, "script 0 word\n")?;
+        gives(&rt, alloc, text, 3, line)?;
     }
+    Ok(())
+}
+
+/// A script that a text says and that does not run yet has the answer of its own.
+#[test]
+fn refuses_a_script_that_does_not_run_yet(rt: HostRuntime) -> Result<(), Fail> {
+    gives(
+        &rt,
+        rt.alloc(),
+        "ranks 1\nrank 0\nbarrier\n",
+        3,
+        "script 0 word\n",
+    )?;
+    Ok(())
+}
+
+/// Comments, blank lines, tabs, a carriage return, a leading zero and a missing last line feed make no difference.
+#[test]
+fn reads_any_spelling(rt: HostRuntime) -> Result<(), Fail> {
+    gives(
+        &rt,
+        rt.alloc(),
+        "# two calls\nranks  1\r\n\n\trank 0 # the only one\nallocate w0 4 4\nfence w0\nput w0 0 0 int32 05",
+        0,
+        "ended\nmemory 0 0 0500000000000000\nsummary accesses 1 touches 1 entries 4 refused 0 findings 0\n",
+    )?;
     Ok(())
 }
 
