@@ -90,10 +90,10 @@ no_elements Uint16 = refl
 no_elements Uint32 = refl
 no_elements Byte = refl
 
-no_pieces : (stage : Stage) (access : Access) (t : Transfer) → access.len ≡ 0 → pieces stage.layout access t.dtype ≡ []
+pub no_pieces : (stage : Stage) (access : Access) (t : Transfer) → access.len ≡ 0 → pieces stage.layout access t.dtype ≡ []
 no_pieces stage access t e = rw e (rw (no_elements t.dtype) refl)
 
-get_last : {X : Type 0} (xs : List X) (x : X) → slice_get (xs ++ x ∷ []) (length xs) ≡ Some x
+pub get_last : {X : Type 0} (xs : List X) (x : X) → slice_get (xs ++ x ∷ []) (length xs) ≡ Some x
 get_last [] x = refl
 get_last (y ∷ ys) x = get_last ys x
 
@@ -101,12 +101,12 @@ get_none : {X : Type 0} (xs : List X) → slice_get (xs ++ []) (length xs) ≡ N
 get_none [] = refl
 get_none (y ∷ ys) = get_none ys
 
-remove_last : {X : Type 0} (xs : List X) (x : X) → remove (xs ++ x ∷ []) (length xs) ≡ xs
+pub remove_last : {X : Type 0} (xs : List X) (x : X) → remove (xs ++ x ∷ []) (length xs) ≡ xs
 remove_last [] x = refl
 remove_last (y ∷ ys) x = ap (λ rest. y ∷ rest) (remove_last ys x)
 
 -- the transfer of the rank's call
-its_transfer : (stage : Stage) (agent : Agent) (call : Call) (t : Transfer) → next_call stage agent ≡ Some call → transfer_of call ≡ Some t → transfer_at (calls_at stage agent.rank) agent.at ≡ Some t
+pub its_transfer : (stage : Stage) (agent : Agent) (call : Call) (t : Transfer) → next_call stage agent ≡ Some call → transfer_of call ≡ Some t → transfer_at (calls_at stage agent.rank) agent.at ≡ Some t
 its_transfer stage agent call t here moves = rw here moves
 
 -- an access that is made pending and then delivered

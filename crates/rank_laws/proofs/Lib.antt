@@ -2,8 +2,10 @@
 pub mod CallKinds
 pub mod DataPaths
 pub mod Histories
+pub mod Inductions
 pub mod Lists
 pub mod Moves
 pub mod Pendings
+pub mod TouchMoves
 pub mod Touching
 pub mod Ways

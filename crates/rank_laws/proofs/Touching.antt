@@ -45,7 +45,7 @@ touch_of_own : (index element cell place bits : ℕ) → touch_of index (Touch i
 touch_of_own index element cell place bits =
     elim (eqb_tells index index) [ inl same ↦ rw same.0 refl | inr not ↦ absurd (not.1 refl) ]
 
-touches_elements : (t : Transfer) (issue element : ℕ) (places : List Piece) (lows : Lows) (items : List Item) (after : Lows) → AreTouches t issue element places lows items after →
+pub touches_elements : (t : Transfer) (issue element : ℕ) (places : List Piece) (lows : Lows) (items : List Item) (after : Lows) → AreTouches t issue element places lows items after →
     touched_by issue items ≡ elements_from element places
 touches_elements t issue element [] lows items after h = ap (touched_by issue) h.0
 touches_elements t issue element (piece ∷ rest) lows items after h =
