@@ -1,6 +1,8 @@
 -- Theorems over assembled runs.
+pub mod AwaitMoves
 pub mod CallKinds
 pub mod DataPaths
+pub mod DirectMoves
 pub mod Histories
 pub mod Inductions
 pub mod Lists

@@ -45,7 +45,7 @@ plain_more stage calls log pending item plain none has =
     subst (HasTouches stage.layout calls (log ++ item ∷ [])) (append-nil pending)
     (item_more stage.layout calls log pending [] item has (record { plain = plain; its = tt; all = λ one e. absurd (cc (sym none ∙ e)); single = tt }))
 
-plain_by_course : (calls : List Call) (index : ℕ) (course : Course) (number : ℕ) (item : Item) → IsPlainItem course number item → (is_touch item ≡ false) × (issued_by calls index item ≡ None)
+pub plain_by_course : (calls : List Call) (index : ℕ) (course : Course) (number : ℕ) (item : Item) → IsPlainItem course number item → (is_touch item ≡ false) × (issued_by calls index item ≡ None)
 plain_by_course calls index OneNull number item e = (ap is_touch e, ap (issued_by calls index) e)
 plain_by_course calls index OneIssue number item e = absurd e
 plain_by_course calls index LookUpAndIssue number item e = absurd e
