@@ -1,5 +1,6 @@
 -- Theorems over assembled runs.
 pub mod AwaitMoves
+pub mod BoardFits
 pub mod CallKinds
 pub mod CellLaws
 pub mod CellOrder
