@@ -1,6 +1,7 @@
 -- Theorems over assembled runs.
 pub mod AwaitMoves
 pub mod BoardFits
+pub mod BoardMoves
 pub mod CallKinds
 pub mod CellLaws
 pub mod CellOrder
