@@ -148,25 +148,29 @@ hits_past : (first count : ℕ) (row : Row) → row.rank < first → hits first 
 unfolding hits
 hits_past first zero row less = refl
 hits_past first (suc count) row less =
-    ap (λ b. cond {A = ℕ} b 1 0 + hits (first + 1) count row) (ne_eqb row.rank first (λ e. omega arith)) ∙ hits_past (first + 1) count row (omega arith)
+    ap (λ b. cond {A = ℕ} b 1 0 + hits (first + 1) count row) (ne_eqb row.rank first (λ e. omega arith)) ∙ ap (λ n. 0 + n) (hits_past (first + 1) count row (omega arith))
 
 hits_once : (first count : ℕ) (row : Row) → first ≤ row.rank → row.rank < first + count → hits first count row ≡ 1
 unfolding hits
 hits_once first zero row low high = absurd (omega arith)
 hits_once first (suc count) row low high = elim (eqb_tells row.rank first) [
   | inl mine ↦ let same = mine.1 in ap (λ b. cond {A = ℕ} b 1 0 + hits (first + 1) count row) mine.0 ∙ ap (λ n. 1 + n) (hits_past (first + 1) count row (omega arith))
-  | inr other ↦ let apart = other.1 in ap (λ b. cond {A = ℕ} b 1 0 + hits (first + 1) count row) other.0 ∙ hits_once (first + 1) count row (omega arith) (omega arith)
+  | inr other ↦ let apart = other.1 in ap (λ b. cond {A = ℕ} b 1 0 + hits (first + 1) count row) other.0 ∙ ap (λ n. 0 + n) (hits_once (first + 1) count row (omega arith) (omega arith))
 ]
 
 total_none : (first count : ℕ) → total first count [] ≡ 0
 unfolding total
 total_none first zero = refl
-total_none first (suc count) = total_none (first + 1) count
+total_none first (suc count) = ap (λ n. 0 + n) (total_none (first + 1) count)
 
 total_all : (count : ℕ) (rows : List Row) → AllByRecursion (λ (row : Row). row.rank < count) rows → total 0 count rows ≡ length rows
 total_all count [] h = total_none 0 count
-total_all count (row ∷ rows) h = let less = h.0 in
-    total_cons 0 count row rows ∙ ap (λ n. n + total 0 count rows) (hits_once 0 count row (omega arith) (omega arith)) ∙ ap suc (total_all count rows h.1)
+total_all count (row ∷ rows) h =
+    let less = h.0 in
+    let sum = total_cons 0 count row rows in
+    let one = hits_once 0 count row (omega arith) (omega arith) in
+    let rest = total_all count rows h.1 in
+    omega arith
 
 amount_from : (first : ℕ) (logs : List (List Item)) (rows : List Row) → ((at : ℕ) (log : List Item) → slice_get logs at ≡ Some log → length (filter is_entry log) ≡ own_of (first + at) rows) →
     length (filter is_some_entry (named_logs first logs)) ≡ total first (length logs) rows

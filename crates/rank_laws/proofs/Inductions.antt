@@ -104,7 +104,7 @@ ended_same stage p call _ _ next (LookUp begins course) = (refl, begins.here)
 ended_same stage p call _ _ next (Arriving begins course) = (refl, begins.here)
 ended_same stage p call _ _ next (Leaving here inside none) = (refl, here)
 
-over_kept : (stage : Stage) → Keeps stage (EndsOver stage)
+pub over_kept : (stage : Stage) → Keeps stage (EndsOver stage)
 over_kept stage p _ h (Learns more others) = h
 over_kept stage p _ h (Rises after rise) = h
 over_kept stage p _ h (Ends past empty going) = λ e. record { past = past; empty = empty }
