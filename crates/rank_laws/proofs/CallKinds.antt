@@ -1,7 +1,6 @@
 -- What the items of a call say of the call.
-use Rattle.std.proofs.Common.{◌≡◌, ℕ, Bool, true, false, cond, Option, Some, None, refl, sym, ◌∙◌, ap}
+use Rattle.std.proofs.Common.{◌≡◌, Bool, true, false, cond, Option, Some, None, refl, sym, ◌∙◌, ap}
 use Rattle.std.specs.Prelude.{is_some}
-use Rattle.rma_types.specs.declared.accesses.Step.{Step}
 use Rattle.rma_types.specs.declared.accesses.Step.TheVariants.{Arrive, One}
 use Rattle.rma_types.specs.declared.calls.Call.{Call}
 use Rattle.board_rules.specs.Entries.{collective_in, fence_or_none, first_step}
@@ -12,11 +11,13 @@ use Rattle.rank_rules.specs.Windows.{RankWindows}
 
 -- ---- the first step
 
-transfer_steps_once : (known : RankWindows) (t : Transfer) (target : Target) (dynamic : Bool) → step_by (cond dynamic LookUpAndIssue OneIssue) ≡ One
+transfer_steps_once : (known : RankWindows) (t : Transfer) (target : Target) (dynamic : Bool) →
+    step_by (cond dynamic LookUpAndIssue OneIssue) ≡ One
 transfer_steps_once known t target true = refl
 transfer_steps_once known t target false = refl
 
-first_step_of_transfer : (known : RankWindows) (t : Transfer) (target : Target) → t.target ≡ target → step_by (course_of_transfer known t) ≡ One
+first_step_of_transfer : (known : RankWindows) (t : Transfer) (target : Target) → t.target ≡ target →
+    step_by (course_of_transfer known t) ≡ One
 first_step_of_transfer known t Own e = rw e refl
 first_step_of_transfer known t Null e = rw e refl
 first_step_of_transfer known t (Named rank) e = rw e (transfer_steps_once known t (Named rank) (is_dynamic known t))
@@ -25,7 +26,8 @@ wait_steps_once : (tests : Bool) → step_by (cond tests EntryOrTested OneEntry)
 wait_steps_once true = refl
 wait_steps_once false = refl
 
-first_step_of_synchronisation : (s : Synchronisation) → step_by (course_of_synchronisation s) ≡ cond (is_some (fence_or_none s)) Arrive One
+first_step_of_synchronisation : (s : Synchronisation) → step_by (course_of_synchronisation s) ≡ cond
+    (is_some (fence_or_none s)) Arrive One
 first_step_of_synchronisation (Fences asserts) = refl
 first_step_of_synchronisation (Posts group asserts) = refl
 first_step_of_synchronisation (Starts group asserts) = refl
@@ -36,7 +38,8 @@ first_step_of_synchronisation (Unlocks target) = refl
 first_step_of_synchronisation (Flushes target local) = refl
 first_step_of_synchronisation Syncs = refl
 
-first_step_of_action : (known : RankWindows) (action : Action) → step_by (course_of_action known action) ≡ cond (is_some (collective_in action)) Arrive One
+first_step_of_action : (known : RankWindows) (action : Action) →
+    step_by (course_of_action known action) ≡ cond (is_some (collective_in action)) Arrive One
 first_step_of_action known (Creates creation) = refl
 first_step_of_action known (Frees win) = refl
 first_step_of_action known (Attaches win base bytes) = refl
@@ -67,7 +70,8 @@ dynamic_is_transfers : (dynamic : Bool) → is_transfers (cond dynamic LookUpAnd
 dynamic_is_transfers true = refl
 dynamic_is_transfers false = refl
 
-transfer_is_transfers : (known : RankWindows) (t : Transfer) (target : Target) → t.target ≡ target → is_transfers (course_of_transfer known t) ≡ true
+transfer_is_transfers : (known : RankWindows) (t : Transfer) (target : Target) → t.target ≡ target →
+    is_transfers (course_of_transfer known t) ≡ true
 transfer_is_transfers known t Own e = rw e refl
 transfer_is_transfers known t Null e = rw e refl
 transfer_is_transfers known t (Named rank) e = rw e (dynamic_is_transfers (is_dynamic known t))
@@ -87,7 +91,8 @@ synchronisation_is_no_transfer (Unlocks target) = refl
 synchronisation_is_no_transfer (Flushes target local) = refl
 synchronisation_is_no_transfer Syncs = refl
 
-action_is_transfers : (known : RankWindows) (action : Action) → is_transfers (course_of_action known action) ≡ is_some (transfer_in action)
+action_is_transfers : (known : RankWindows) (action : Action) →
+    is_transfers (course_of_action known action) ≡ is_some (transfer_in action)
 action_is_transfers known (Creates creation) = refl
 action_is_transfers known (Frees win) = refl
 action_is_transfers known (Attaches win base bytes) = refl
@@ -98,7 +103,8 @@ action_is_transfers known (Moves t) = transfer_is_transfers known t t.target ref
 action_is_transfers known (EndsRequest req) = refl
 
 -- the items of a call tell whether it moves data
-pub course_tells_transfer : (known : RankWindows) (call : Call) → is_transfers (course_of known call) ≡ is_some (transfer_of call)
+pub course_tells_transfer : (known : RankWindows) (call : Call) →
+    is_transfers (course_of known call) ≡ is_some (transfer_of call)
 course_tells_transfer known call = action_is_transfers known (action_of call)
 
 none_of : {X : Type 0} (o : Option X) → is_some o ≡ false → o ≡ None
@@ -106,6 +112,7 @@ none_of None e = refl
 none_of (Some x) e = absurd (cc e)
 
 -- a call whose items are others moves none
-pub moves_nothing : (known : RankWindows) (call : Call) (course : Course) → course_of known call ≡ course → is_transfers course ≡ false → transfer_of call ≡ None
+pub moves_nothing : (known : RankWindows) (call : Call) (course : Course) → course_of known call ≡ course →
+    is_transfers course ≡ false → transfer_of call ≡ None
 moves_nothing known call course e other =
     none_of (transfer_of call) (sym (course_tells_transfer known call) ∙ ap is_transfers e ∙ other)

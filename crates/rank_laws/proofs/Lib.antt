@@ -1,5 +1,6 @@
 -- Theorems over assembled runs.
 pub mod AwaitMoves
+pub mod Awaiting
 pub mod BoardFits
 pub mod BoardLaws
 pub mod BoardMoves

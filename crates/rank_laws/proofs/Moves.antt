@@ -1,5 +1,5 @@
 -- The steps of a rank's history as small moves, each with the facts under which it is made.
-use Rattle.std.proofs.Common.{◌≡◌, ℕ, ◌⊎◌, Bool, true, false, List, [], ◌∷◌, ◌++◌, length, Option, Some, None}
+use Rattle.std.proofs.Common.{◌≡◌, ℕ, ◌⊎◌, true, false, List, [], ◌++◌, length, Some, None}
 use Rattle.std.specs.Prelude.{slice_get, ◌≢◌}
 use Rattle.std.specs.List.{AllByRecursion}
 use Rattle.rma_types.specs.declared.accesses.Access.{Access}
@@ -89,14 +89,16 @@ pub record Issuing (stage : Stage) (agent : Agent) (call : Call) (t : Transfer) 
 -- why a pending access is delivered
 pub data Reason (stage : Stage) (agent : Agent) (at : ℕ) : Type 0 where
   IsDrawn : is_seeded stage.delay ≡ true → Reason stage agent at
-  IsAwaited : (call : Call) → next_call stage agent ≡ Some call → agent.entered ≡ false → own_class agent.known call ≡ None →
+  IsAwaited : (call : Call) → next_call stage agent ≡ Some call → agent.entered ≡ false →
+      own_class agent.known call ≡ None →
       awaited_by agent call ≡ Some at → Reason stage agent at
   IsAtEnd : next_call stage agent ≡ None → at ≡ 0 → Reason stage agent at
   IsDrained : at ≡ 0 → Reason stage agent at
 
 -- no look-up is open
 abbrev pub IsClosed : Stage → Agent → Type 0
-IsClosed stage agent = (call : Call) → next_call stage agent ≡ Some call → agent.entered ≡ true → transfer_of call ≡ None
+IsClosed stage agent = (call : Call) → next_call stage agent ≡ Some call → agent.entered ≡ true →
+    transfer_of call ≡ None
 
 -- the pending access at a place may be delivered: it gives way to none
 pub record IsDue (stage : Stage) (agent : Agent) (at : ℕ) : Type 0 where
@@ -126,13 +128,15 @@ pub data Move (stage : Stage) (p : Point) : Point → Type 0 where
   -- the board refuses its call
   IsRefused : (call : Call) (class : Class) → Begins stage p.agent call → has_entry (course_at p.agent call) ≡ true →
       decide stage.script.ranks p.rows (next_row p.agent call (step_by (course_at p.agent call))) ≡ Refuse class →
-      Move stage p (record p { agent = (turned_away stage p.agent p.rows (Refused p.agent.at class (length p.rows))).agent })
+      Move stage p (record p { agent = (turned_away stage p.agent p.rows
+          (Refused p.agent.at class (length p.rows))).agent })
   -- a testwin is false
   Tests : (call : Call) → Begins stage p.agent call → course_at p.agent call ≡ EntryOrTested →
       decide stage.script.ranks p.rows (next_row p.agent call One) ≡ NotYet →
       Move stage p (record p { agent = (turned_away stage p.agent p.rows (Tested p.agent.at (length p.rows))).agent })
   -- a null target, a flush or a request
-  Passes : (call : Call) (item : Item) → Begins stage p.agent call → IsPlainItem (course_at p.agent call) p.agent.at item →
+  Passes : (call : Call) (item : Item) → Begins stage p.agent call →
+      IsPlainItem (course_at p.agent call) p.agent.at item →
       Move stage p (record p { agent = with_item stage p.agent item })
   -- an entry
   Enters : (call : Call) (step : Step) (after : Agent → Agent) → Entering stage p.agent call step after →
@@ -150,7 +154,8 @@ pub data Move (stage : Stage) (p : Point) : Point → Type 0 where
   Draws : (state : ℕ) → p.agent.entered ≡ false →
       Move stage p (record p { agent = record p.agent { drawn = true; draws = state } })
   -- a delivery
-  Delivers : (at : ℕ) (one : PendingAccess) (items : List Item) (after : Lows) → slice_get p.agent.pending at ≡ Some one →
+  Delivers : (at : ℕ) (one : PendingAccess) (items : List Item) (after : Lows) →
+      slice_get p.agent.pending at ≡ Some one →
       IsDue stage p.agent at →
       AreTouchesOf stage one (transfer_at (calls_at stage p.agent.rank) one.number) p.lows items after →
       Move stage p (record p { agent = delivered p.agent at items; lows = after })

@@ -19,8 +19,8 @@ abbrev pub place_after : ℕ → Option Change → ℕ
 place_after place None = place
 place_after place (Some change) = place + 1
 
--- The items are touches of the elements at these pieces, the first of them having this number. Each has a place that is not
--- below its cell's low, and leaves its low at or above the least place that may follow. Lows never fall.
+-- The items are touches of the elements at these pieces, the first of them having this number. Each has a place that is
+-- not below its cell's low, and leaves its low at or above the least place that may follow. Lows never fall.
 abbrev pub AreTouches : Transfer → (issue : ℕ) → (element : ℕ) → List Piece → Lows → List Item → Lows → Type 0
 AreTouches t issue element [] lows items after = (items ≡ []) × AreAtMost lows after
 AreTouches t issue element (piece ∷ rest) lows items after =
@@ -52,4 +52,5 @@ IsDelivered stage agent at (Some one) lows next after =
 -- the pending access at the place is delivered, if a place is given
 abbrev pub Delivers : Stage → Agent → Option ℕ → Lows → Agent → Lows → Type 0
 Delivers stage agent None lows next after = (next ≡ agent) × AreAtMost lows after
-Delivers stage agent (Some at) lows next after = IsDelivered stage agent at (slice_get agent.pending at) lows next after
+Delivers stage agent (Some at) lows next after = IsDelivered stage agent at
+    (slice_get agent.pending at) lows next after

@@ -46,8 +46,8 @@ AreMetFrom ranks before (put ∷ puts) event lows =
 abbrev pub MeetsEdges : ℕ → List Put → Row → Lows → Type 0
 MeetsEdges ranks before row lows = AreMetFrom ranks [] before (event_after ranks (rows_put before) row) lows
 
--- The rank puts these entries in one step, after those before. The front of each lies between the lows before it and those
--- after it, which meet each edge to it.
+-- The rank puts these entries in one step, after those before. The front of each lies between the lows before it and
+-- those after it, which meet each edge to it.
 abbrev pub ArePut : ℕ → List Put → Lows → List Put → Lows → Type 0
 ArePut ranks before lows [] after = AreAtMost lows after
 ArePut ranks before lows (put ∷ puts) after =

@@ -21,7 +21,8 @@ use Rattle.rank_laws.specs.Assembled.{IsAssembled}
 -- an assembled run of any script is lawful for its delay
 abbrev pub AssembledRunsAreLawful : Type 0
 AssembledRunsAreLawful =
-    (script : Script) (delay : Delay) (seed : ℕ) (run : Run) → IsAssembled script delay seed run → IsLawful script delay run
+    (script : Script) (delay : Delay) (seed : ℕ) (run : Run) → IsAssembled script delay seed run →
+        IsLawful script delay run
 
 -- ---- by parts
 
@@ -35,7 +36,8 @@ pub record HasLawfulTouches (here : RankOfRun) (log : List Item) : Type 0 where
 
 -- in each log each access is touched whole, after its Issue, in issue order, and before what waits for it
 abbrev pub AssembledRunsTouchLawfully : Type 0
-AssembledRunsTouchLawfully = (script : Script) (delay : Delay) (seed : ℕ) (run : Run) → IsAssembled script delay seed run →
+AssembledRunsTouchLawfully = (script : Script) (delay : Delay) (seed : ℕ) (run : Run) →
+    IsAssembled script delay seed run →
     (rank : ℕ) → rank < script.ranks → HasLawfulTouches (rank_in script delay run rank) (log_of run rank)
 
 -- where nothing is delayed each access is touched directly after its Issue
@@ -46,18 +48,23 @@ UndelayedRunsTouchDirectly = (script : Script) (seed : ℕ) (run : Run) → IsAs
 -- each cell has one history, which the touches of each rank keep in order
 abbrev pub AssembledRunsHaveLawfulCells : Type 0
 AssembledRunsHaveLawfulCells =
-    (script : Script) (delay : Delay) (seed : ℕ) (run : Run) → IsAssembled script delay seed run → HasLawfulCells script run
+    (script : Script) (delay : Delay) (seed : ℕ) (run : Run) → IsAssembled script delay seed run →
+        HasLawfulCells script run
 
 -- the entries of all logs are allowed in the order of their places, and each look saw what it says
 abbrev pub AssembledRunsHaveLawfulBoards : Type 0
 AssembledRunsHaveLawfulBoards =
-    (script : Script) (delay : Delay) (seed : ℕ) (run : Run) → IsAssembled script delay seed run → HasLawfulBoard script run
+    (script : Script) (delay : Delay) (seed : ℕ) (run : Run) → IsAssembled script delay seed run →
+        HasLawfulBoard script run
 
 -- in each log each look-up is directly followed by the Issue of its call
 abbrev pub AssembledRunsFollowLookUps : Type 0
-AssembledRunsFollowLookUps = (script : Script) (delay : Delay) (seed : ℕ) (run : Run) → IsAssembled script delay seed run → (rank : ℕ) → rank < script.ranks →
-    AllByRecursion (IsLookUpFollowed (rank_in script delay run rank) (log_of run rank)) (numbers_from 0 (length (log_of run rank)))
+AssembledRunsFollowLookUps = (script : Script) (delay : Delay) (seed : ℕ) (run : Run) →
+    IsAssembled script delay seed run → (rank : ℕ) → rank < script.ranks →
+    AllByRecursion (IsLookUpFollowed (rank_in script delay run rank) (log_of run rank))
+        (numbers_from 0 (length (log_of run rank)))
 
 -- the run has ended exactly where each log ends with Ended
 abbrev pub AssembledRunsEndAlike : Type 0
-AssembledRunsEndAlike = (script : Script) (delay : Delay) (seed : ℕ) (run : Run) → IsAssembled script delay seed run → run.ended ≡ list_all has_ended run.logs
+AssembledRunsEndAlike = (script : Script) (delay : Delay) (seed : ℕ) (run : Run) → IsAssembled script delay seed run →
+    run.ended ≡ list_all has_ended run.logs

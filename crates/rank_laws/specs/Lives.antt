@@ -9,7 +9,8 @@ use Rattle.step_runs.specs.BoardSteps.{board_step, waiting}
 use Rattle.step_runs.specs.DataSteps.{Move, move_of}
 
 -- the rank tries an entry after these entries, and puts those in one step
-pub record LooksAfter (stage : Stage) (agent : Agent) (before : List Put) (lows : Lows) (puts : List Put) (after : Lows) : Type 0 where
+pub record LooksAfter (stage : Stage) (agent : Agent) (before : List Put) (lows : Lows) (puts : List Put)
+    (after : Lows) : Type 0 where
   pub tries : tries_entry stage agent ≡ true
   pub rows : (board_step stage agent (rows_put before)).rows ≡ rows_put (before ++ puts)
   pub fronts : ArePut stage.script.ranks before lows puts after
@@ -23,9 +24,11 @@ pub data Lives (stage : Stage) (seed : ℕ) (rank : ℕ) : Agent → List Put �
   -- before its first step
   Begins : Lives stage seed rank (new_agent stage seed rank) [] first_lows
   -- a step at the board, where others have put some entries since its last one
-  Looks : (agent : Agent) (known others puts : List Put) (lows after : Lows) → Lives stage seed rank agent known lows →
+  Looks : (agent : Agent) (known others puts : List Put) (lows after : Lows) →
+      Lives stage seed rank agent known lows →
       AreOthers rank others → LooksAfter stage agent (known ++ others) lows puts after →
-      Lives stage seed rank (board_step stage agent (rows_put (known ++ others))).agent ((known ++ others) ++ puts) after
+      Lives stage seed rank (board_step stage agent (rows_put (known ++ others))).agent
+          ((known ++ others) ++ puts) after
   -- a step without the board
   Steps : (agent next : Agent) (known : List Put) (lows after : Lows) → Lives stage seed rank agent known lows →
       tries_entry stage agent ≡ false → IsMade stage (move_of stage agent) lows next after →
@@ -42,8 +45,8 @@ pub data Drains (stage : Stage) (agent : Agent) (lows : Lows) : Agent → Lows �
   Drained : (now next : Agent) (low after : Lows) → Drains stage agent lows now low →
       Delivers stage now (Some 0) low next after → Drains stage agent lows next after
 
--- The rank's whole history in a run with these entries: it knows some of them, the others are not its own, it stops after
--- all, and then delivers what is pending.
+-- The rank's whole history in a run with these entries: it knows some of them, the others are not its own, it stops
+-- after all, and then delivers what is pending.
 pub record HasLived (stage : Stage) (seed : ℕ) (rank : ℕ) (puts : List Put) (agent : Agent) : Type 0 where
   pub stopped : Agent
   pub known : List Put
