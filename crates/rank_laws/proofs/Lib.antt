@@ -1,0 +1,26 @@
+-- Theorems over assembled runs.
+pub mod AwaitMoves
+pub mod Awaiting
+pub mod BoardFits
+pub mod BoardLaws
+pub mod BoardMoves
+pub mod CallKinds
+pub mod CellLaws
+pub mod CellOrder
+pub mod DataPaths
+pub mod DirectMoves
+pub mod EndMoves
+pub mod EntriesOfRun
+pub mod Histories
+pub mod Inductions
+pub mod Lawful
+pub mod Lists
+pub mod LookUps
+pub mod Moves
+pub mod Pendings
+pub mod Runs
+pub mod Shapes
+pub mod TouchLaws
+pub mod TouchMoves
+pub mod Touching
+pub mod Ways

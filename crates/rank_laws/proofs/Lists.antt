@@ -1,0 +1,212 @@
+-- Lists: facts of each element, of each pair, and at an index, where a list is followed by another.
+use Rattle.std.proofs.Common.{◌≡◌, ℕ, zero, suc, ◌+◌, ◌<◌, ◌≤◌, ◌⊎◌, inl, inr, Bool, true, false, cond, List, [], ◌∷◌, ◌++◌, length, take, drop, Some, None, refl, ap, subst, sym, ◌∙◌, arith}
+use Rattle.std.specs.Prelude.{slice_get, nat_lt}
+use Rattle.std.specs.List.{AllByRecursion, position, position_or_len, remove}
+use Rattle.std.proofs.lemmas.Bool.{ltb-false}
+use Rattle.call_rules.specs.Pieces.{numbers_from}
+use Rattle.lawful_runs.specs.Accesses.{EachPair}
+
+-- ---- each element
+
+-- what holds of everything holds of each element
+pub each_of : {X : Type 0} (P : X → Type 0) → ((x : X) → P x) → (xs : List X) → AllByRecursion P xs
+each_of P h [] = tt
+each_of P h (x ∷ xs) = (h x, each_of P h xs)
+
+-- one fact of each element follows from another
+pub each_turned : {X : Type 0} (P Q : X → Type 0) → ((x : X) → P x → Q x) → (xs : List X) → AllByRecursion P xs →
+    AllByRecursion Q xs
+each_turned P Q h [] all = tt
+each_turned P Q h (x ∷ xs) all = (h x all.0, each_turned P Q h xs all.1)
+
+-- one fact of each element follows from two others
+pub each_with : {X : Type 0} (P Q R : X → Type 0) → ((x : X) → P x → Q x → R x) → (xs : List X) →
+    AllByRecursion P xs → AllByRecursion Q xs → AllByRecursion R xs
+each_with P Q R h [] all both = tt
+each_with P Q R h (x ∷ xs) all both = (h x all.0 both.0, each_with P Q R h xs all.1 both.1)
+
+-- the element at an index has what each element has
+pub each_at : {X : Type 0} (P : X → Type 0) (xs : List X) (at : ℕ) (x : X) → AllByRecursion P xs →
+    slice_get xs at ≡ Some x → P x
+each_at P [] at x all e = absurd (cc e)
+each_at P (y ∷ ys) zero x all e = let same : y ≡ x = cc e in subst P same all.0
+each_at P (y ∷ ys) (suc at) x all e = each_at P ys at x all.1 e
+
+pub each_append : {X : Type 0} (P : X → Type 0) (xs ys : List X) → AllByRecursion P xs → AllByRecursion P ys →
+    AllByRecursion P (xs ++ ys)
+each_append P [] ys h k = k
+each_append P (x ∷ xs) ys h k = (h.0, each_append P xs ys h.1 k)
+
+pub each_front : {X : Type 0} (P : X → Type 0) (xs ys : List X) → AllByRecursion P (xs ++ ys) → AllByRecursion P xs
+each_front P [] ys h = tt
+each_front P (x ∷ xs) ys h = (h.0, each_front P xs ys h.1)
+
+pub each_back : {X : Type 0} (P : X → Type 0) (xs ys : List X) → AllByRecursion P (xs ++ ys) → AllByRecursion P ys
+each_back P [] ys h = h
+each_back P (x ∷ xs) ys h = each_back P xs ys h.1
+
+pub each_take : {X : Type 0} (P : X → Type 0) (n : ℕ) (xs : List X) → AllByRecursion P xs →
+    AllByRecursion P (take n xs)
+each_take P zero xs h = tt
+each_take P (suc n) [] h = tt
+each_take P (suc n) (x ∷ xs) h = (h.0, each_take P n xs h.1)
+
+pub each_drop : {X : Type 0} (P : X → Type 0) (n : ℕ) (xs : List X) → AllByRecursion P xs →
+    AllByRecursion P (drop n xs)
+each_drop P zero xs h = h
+each_drop P (suc n) [] h = tt
+each_drop P (suc n) (x ∷ xs) h = each_drop P n xs h.1
+
+-- what is left after one is removed
+pub each_left : {X : Type 0} (P : X → Type 0) (xs : List X) (at : ℕ) → AllByRecursion P xs →
+    AllByRecursion P (remove xs at)
+each_left P xs at h = each_append P (take at xs) (drop (suc at) xs) (each_take P at xs h) (each_drop P (suc at) xs h)
+
+-- no place of a list passes where its position is none
+pub none_passes : {X : Type 0} (test : X → Bool) (xs : List X) → position test xs ≡ None →
+    AllByRecursion (λ x. test x ≡ false) xs
+none_passes {X} test xs e =
+    elim (nat_lt (position_or_len test xs) (length xs)) as (λ b. nat_lt (position_or_len test xs) (length xs) ≡ b →
+        cond b (Some (position_or_len test xs)) None ≡ None →
+        AllByRecursion (λ x. test x ≡ false) xs) [
+      | true ↦ λ t some. absurd (cc some)
+      | false ↦ λ t none. all_fail xs (ltb-false (position_or_len test xs) (length xs) t)
+    ] refl e
+  where
+    all_fail : (ys : List X) → length ys ≤ position_or_len test ys → AllByRecursion (λ x. test x ≡ false) ys
+    all_fail [] h = tt
+    all_fail (y ∷ ys) h =
+        elim (test y) as (λ b. test y ≡ b → suc (length ys) ≤ cond
+            (elim b as (λ x. Bool) [ true ↦ false | false ↦ true ]) (1 + position_or_len test ys) 0 →
+            (test y ≡ false) × AllByRecursion (λ x. test x ≡ false) ys) [
+          | true ↦ λ t less. absurd (omega arith)
+          | false ↦ λ t less. (t, all_fail ys (omega arith))
+        ] refl h
+
+-- ---- each pair
+
+-- one relation of each pair follows from another
+pub pair_turned : {X : Type 0} (R S : X → X → Type 0) → ((x y : X) → R x y → S x y) → (xs : List X) → EachPair R xs →
+    EachPair S xs
+pair_turned R S h [] all = tt
+pair_turned R S h (x ∷ xs) all = (each_turned (R x) (S x) (h x) xs all.0, pair_turned R S h xs all.1)
+
+-- a relation of each pair of two lists, and of each element of the first with each of the second
+pub pair_joined : {X : Type 0} (R : X → X → Type 0) (xs ys : List X) → EachPair R xs → EachPair R ys →
+    AllByRecursion (λ x. AllByRecursion (R x) ys) xs → EachPair R (xs ++ ys)
+pair_joined R [] ys first second both = second
+pair_joined R (x ∷ xs) ys first second both = (each_append (R x) xs ys first.0 both.0,
+    pair_joined R xs ys first.1 second both.1)
+
+pub pair_push : {X : Type 0} (R : X → X → Type 0) (xs : List X) (y : X) → EachPair R xs →
+    AllByRecursion (λ x. R x y) xs → EachPair R (xs ++ y ∷ [])
+pair_push R xs y h k = pair_joined R xs (y ∷ []) h (tt, tt) (each_turned (λ x. R x y)
+    (λ x. AllByRecursion (R x) (y ∷ [])) (λ x r. (r, tt)) xs k)
+
+-- a relation that holds of all elements of a kind
+pub pair_alike : {X : Type 0} (P : X → Type 0) (R : X → X → Type 0) → ((x y : X) → P x → P y → R x y) →
+    (xs : List X) → AllByRecursion P xs → EachPair R xs
+pair_alike P R h [] all = tt
+pair_alike P R h (x ∷ xs) all = (each_turned P (R x) (λ y p. h x y all.0 p) xs all.1, pair_alike P R h xs all.1)
+
+-- what is left of a list with a relation, after one is removed
+pub pair_left : {X : Type 0} (R : X → X → Type 0) (xs : List X) (at : ℕ) → EachPair R xs → EachPair R (remove xs at)
+pair_left R [] zero h = tt
+pair_left R [] (suc at) h = tt
+pair_left R (x ∷ xs) zero h = h.1
+pair_left R (x ∷ xs) (suc at) h = (each_left (R x) xs at h.0, pair_left R xs at h.1)
+
+-- ---- at an index
+
+-- an index is within the front of a list, or that many places into its rest
+pub place_in : (at count : ℕ) → (at < count) ⊎ ((past : ℕ) × (at ≡ count + past))
+place_in at zero = inr (at, omega arith)
+place_in zero (suc count) = inl (omega arith)
+place_in (suc at) (suc count) = elim (place_in at count) [ inl h ↦ inl (omega arith) | inr h ↦ let same = h.1 in inr
+    (h.0, omega arith) ]
+
+-- the front of a list is found at its own indices
+pub get_front : {X : Type 0} (xs ys : List X) (at : ℕ) → at < length xs → slice_get (xs ++ ys) at ≡ slice_get xs at
+get_front [] ys at h = absurd (omega arith)
+get_front (x ∷ xs) ys zero h = refl
+get_front (x ∷ xs) ys (suc at) h = get_front xs ys at (omega arith)
+
+-- what follows is found past them
+pub get_rest : {X : Type 0} (xs ys : List X) (at past : ℕ) → at ≡ length xs + past →
+    slice_get (xs ++ ys) at ≡ slice_get ys past
+get_rest [] ys at past e = let same : at ≡ past = omega arith in ap (slice_get ys) same
+get_rest (x ∷ xs) ys zero past e = absurd (omega arith)
+get_rest (x ∷ xs) ys (suc at) past e = get_rest xs ys at past (omega arith)
+
+-- the first elements of two lists, one after the other
+pub take_joined : {X : Type 0} (n : ℕ) (xs ys : List X) → (k : ℕ) × (take n (xs ++ ys) ≡ take n xs ++ take k ys)
+take_joined zero xs ys = (zero, refl)
+take_joined (suc n) [] ys = (suc n, refl)
+take_joined (suc n) (x ∷ xs) ys = let rest = take_joined n xs ys in (rest.0, ap (λ zs. x ∷ zs) rest.1)
+
+-- ---- numbers
+
+pub numbers_each : (P : ℕ → Type 0) → ((n : ℕ) → P n) → (first count : ℕ) →
+    AllByRecursion P (numbers_from first count)
+numbers_each P h first count = each_of P h (numbers_from first count)
+
+-- ---- membership
+
+-- the element is one of the list
+abbrev pub Among : {X : Type 0} → X → List X → Type 0
+Among x [] = ⊥
+Among x (y ∷ ys) = (y ≡ x) ⊎ Among x ys
+
+pub among_left : {X : Type 0} (x : X) (xs ys : List X) → Among x xs → Among x (xs ++ ys)
+among_left x [] ys h = absurd h
+among_left x (y ∷ xs) ys (inl e) = inl e
+among_left x (y ∷ xs) ys (inr h) = inr (among_left x xs ys h)
+
+pub among_last : {X : Type 0} (x : X) (xs : List X) → Among x (xs ++ x ∷ [])
+among_last x [] = inl refl
+among_last x (y ∷ xs) = inr (among_last x xs)
+
+-- one of a list is still there after another is removed
+pub among_rest : {X : Type 0} (x y : X) (xs : List X) (at : ℕ) → Among x xs → slice_get xs at ≡ Some y → (y ≡ x → ⊥) →
+    Among x (remove xs at)
+among_rest x y [] at h e other = absurd h
+among_rest x y (z ∷ xs) zero (inl same) e other = let is : z ≡ y = cc e in absurd (other (sym is ∙ same))
+among_rest x y (z ∷ xs) zero (inr h) e other = h
+among_rest x y (z ∷ xs) (suc at) (inl same) e other = inl same
+among_rest x y (z ∷ xs) (suc at) (inr h) e other = inr (among_rest x y xs at h e other)
+
+pub among_each : {X : Type 0} (P : X → Type 0) (x : X) (xs : List X) → AllByRecursion P xs → Among x xs → P x
+among_each P x [] all h = absurd h
+among_each P x (y ∷ xs) all (inl e) = subst P e all.0
+among_each P x (y ∷ xs) all (inr h) = among_each P x xs all.1 h
+
+-- each of the others differs in a strictly rising number
+pub others_apart : {X : Type 0} (number : X → ℕ) (xs : List X) (at : ℕ) (x : X) →
+    EachPair (λ a b. number a < number b) xs → slice_get xs at ≡ Some x →
+    AllByRecursion (λ y. number y ≡ number x → ⊥) (remove xs at)
+others_apart number [] at x h e = absurd (cc e)
+others_apart {X} number (y ∷ xs) zero x h e =
+    let same : y ≡ x = cc e in
+    each_turned (λ z. number y < number z) (λ z. number z ≡ number x → ⊥)
+        (λ z less k. let k2 = ap number same in absurd (omega arith)) xs h.0
+others_apart {X} number (y ∷ xs) (suc at) x h e =
+    let less = each_at (λ z. number y < number z) xs at x h.0 e in
+    (λ k. absurd (omega arith), others_apart number xs at x h.1 e)
+
+-- those before the one at a place, and those after it
+pub smaller_before : {X : Type 0} (number : X → ℕ) (P : X → Type 0) (xs : List X) (at : ℕ) (x : X) →
+    EachPair (λ a b. number a < number b) xs → slice_get xs at ≡ Some x →
+    AllByRecursion P (take at xs) → AllByRecursion (λ y. number y < number x → P y) (remove xs at)
+smaller_before number P [] at x h e k = absurd (cc e)
+smaller_before number P (y ∷ xs) zero x h e k =
+    let same : y ≡ x = cc e in
+    each_turned (λ z. number y < number z) (λ z. number z < number x → P z)
+        (λ z more less. let k2 = ap number same in absurd (omega arith)) xs h.0
+smaller_before number P (y ∷ xs) (suc at) x h e k = (λ less. k.0, smaller_before number P xs at x h.1 e k.1)
+
+-- one relation of each pair follows from another, where each element has a property
+pub pair_within : {X : Type 0} (P : X → Type 0) (R S : X → X → Type 0) → ((x y : X) → P x → P y → R x y → S x y) →
+    (xs : List X) → AllByRecursion P xs → EachPair R xs → EachPair S xs
+pair_within P R S h [] all pairs = tt
+pair_within P R S h (x ∷ xs) all pairs = (each_with P (R x) (S x) (λ y p r. h x y all.0 p r) xs all.1 pairs.0,
+    pair_within P R S h xs all.1 pairs.1)

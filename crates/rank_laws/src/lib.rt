@@ -1,0 +1,18 @@
+//! That a run which is put together from a history of each rank and one of each cell is lawful (MPI 3.1, sections 11.5 and
+//! 11.7, in this project's profile), whoever ran the ranks: one thread or many.
+#![tactic(auto)]
+
+ghost use Rattle.rank_laws.specs.Lawful.{AssembledRunsEndAlike, AssembledRunsFollowLookUps, AssembledRunsHaveLawfulBoards, AssembledRunsHaveLawfulCells, AssembledRunsTouchLawfully, UndelayedRunsTouchDirectly};
+
+/// An assembled run is lawful, for each script and delay: its entries are allowed in their order and its looks saw what they
+/// say, each cell has one history, and in each log accesses are touched whole, in issue order, and before what waits for them (MPI 3.1, sections 11.5 and 11.7, in this project's profile).
+///
+/// It is a theorem, and does nothing when it is called.
+pub fn assembled_runs_are_lawful()
+    ensures boards { AssembledRunsHaveLawfulBoards }
+    ensures cells { AssembledRunsHaveLawfulCells }
+    ensures ends { AssembledRunsEndAlike }
+    ensures look_ups { AssembledRunsFollowLookUps }
+    ensures touches { AssembledRunsTouchLawfully }
+    ensures undelayed { UndelayedRunsTouchDirectly }
+{}
