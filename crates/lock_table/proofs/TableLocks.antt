@@ -1,12 +1,12 @@
 -- What a test finds among the locks of a table.
-use Rattle.std.proofs.Common.{◌≡◌, ◌≢◌, ℕ, zero, suc, ◌+◌, ◌<◌, ◌≤◌, Bool, true, false, not, ◌&&◌, ◌||◌, eqb, List, [], ◌∷◌, ◌++◌, length, get_or, set, take, replicate, map, refl, ap, sym, ◌∙◌, arith, pos, Some}
-use Rattle.std.specs.List.{list_any, filter}
+use Rattle.std.proofs.Common.{◌≡◌, ◌≢◌, ℕ, zero, suc, ◌+◌, ◌<◌, ◌≤◌, Bool, true, false, not, ◌&&◌, ◌||◌, eqb, List, [], ◌∷◌, ◌++◌, length, get_or, set, take, replicate, refl, ap, sym, ◌∙◌, arith, pos, Some}
+use Rattle.std.specs.List.{list_any}
 use Rattle.std.proofs.lemmas.Bool.{eq-eqb, ne_eqb}
 use Rattle.std.proofs.lemmas.List.{take_more, length-take-le}
 use Rattle.std.proofs.lemmas.List.Folds.{list_any-append}
 use Rattle.rma_types.specs.declared.calls.Lock.{Lock}
 use Rattle.rma_types.specs.declared.calls.Lock.TheVariants.{Shared as SharedLock, Exclusive as ExclusiveLock}
-use Rattle.board_rules.specs.Locks.{Held, is_given_back, excludes, is_exclusive, do_clash}
+use Rattle.board_rules.specs.Locks.{Held, is_given_back, excludes, do_clash}
 use Rattle.lock_table.specs.declared.targets.Target.{Target}
 use Rattle.lock_table.specs.declared.targets.Target.TheVariants.{Shared, Exclusive}
 use Rattle.lock_table.specs.HeldLocks.{lock, ranks_in, kept, locks_at_target, locks_from, is_holder, is_held_by, HasSameLocks}
@@ -48,7 +48,7 @@ table_any p q window first i [] d within other here = absurd (omega arith)
 table_any p q window first zero (one ∷ others) d within other here =
     list_any-append p (locks_at_target window first one) (locks_from window (first + 1) others)
     ∙ (ap (λ b. list_any p (locks_at_target window first one) || b)
-        (from_alike p (λ _. false) window (first + 1) (λ target low. other target (λ e. absurd (omega arith))) others ∙ none_in (locks_from window (first + 1) others))
+    (from_alike p (λ _. false) window (first + 1) (λ target low. other target (λ e. absurd (omega arith))) others ∙ none_in (locks_from window (first + 1) others))
     ∙ (or_nothing (list_any p (locks_at_target window first one)) ∙ at_first))
   where
     at_first : list_any p (locks_at_target window first one) ≡ list_any q (locks_at_target window (first + 0) one)
@@ -58,10 +58,10 @@ table_any p q window first (suc i) (one ∷ others) d within other here =
     let e : first + suc i ≡ (first + 1) + i = omega arith in
     list_any-append p (locks_at_target window first one) (locks_from window (first + 1) others)
     ∙ (ap (λ b. b || list_any p (locks_from window (first + 1) others))
-        (target_alike p (λ _. false) window first (other first (λ e. absurd (omega arith))) one ∙ none_in (locks_at_target window first one))
+    (target_alike p (λ _. false) window first (other first (λ e. absurd (omega arith))) one ∙ none_in (locks_at_target window first one))
     ∙ rw e (table_any p q window (first + 1) i others d (omega arith)
-        (λ target ne. other target (λ same. ne (same ∙ e)))
-        (λ kind holder. rw (sym e) (here kind holder))))
+    (λ target ne. other target (λ same. ne (same ∙ e)))
+    (λ kind holder. rw (sym e) (here kind holder))))
 
 last_or : (a n rest : Bool) → ((a || n) || rest) ≡ ((a || rest) || n)
 last_or true n rest = refl
@@ -104,15 +104,21 @@ table_kept keep test window first zero (one ∷ others) after d within all less 
     let e : first + 0 ≡ first = omega arith in
     let here : list_any test (locks_at_target window first after) ≡ list_any (λ one. keep one && test one) (locks_at_target window first one) = rw (sym e) less in
     list_any-append test (locks_at_target window first after) (locks_from window (first + 1) others)
-    ∙ (rw (here, from_alike test (λ one. keep one && test one) window (first + 1)
-            (λ target low kind holder. ap (λ b. b && test (lock window target kind holder)) (sym (all target (λ e. absurd (omega arith)) kind holder))) others) refl
+    ∙ (rw (
+      here,
+      from_alike test (λ one. keep one && test one) window (first + 1)
+          (λ target low kind holder. ap (λ b. b && test (lock window target kind holder)) (sym (all target (λ e. absurd (omega arith)) kind holder))) others,
+    ) refl
     ∙ sym (list_any-append (λ one. keep one && test one) (locks_at_target window first one) (locks_from window (first + 1) others)))
 table_kept keep test window first (suc i) (one ∷ others) after d within all less =
     let e : first + suc i ≡ (first + 1) + i = omega arith in
     let later = table_kept keep test window (first + 1) i others after d (omega arith) (λ target ne. all target (λ same. ne (same ∙ e))) (rw (sym e) less) in
     list_any-append test (locks_at_target window first one) (locks_from window (first + 1) (set others i after))
-    ∙ (rw (later, target_alike test (λ one. keep one && test one) window first
-            (λ kind holder. ap (λ b. b && test (lock window first kind holder)) (sym (all first (λ e. absurd (omega arith)) kind holder))) one) refl
+    ∙ (rw (
+      later,
+      target_alike test (λ one. keep one && test one) window first
+          (λ kind holder. ap (λ b. b && test (lock window first kind holder)) (sym (all first (λ e. absurd (omega arith)) kind holder))) one,
+    ) refl
     ∙ sym (list_any-append (λ one. keep one && test one) (locks_at_target window first one) (locks_from window (first + 1) others)))
 
 -- the locks of one target more
@@ -125,9 +131,9 @@ from_append window first (other ∷ targets) one test =
     let e : first + suc (length targets) ≡ (first + 1) + length targets = omega arith in
     list_any-append test (locks_at_target window first other) (locks_from window (first + 1) (targets ++ one ∷ []))
     ∙ rw (e, from_append window (first + 1) targets one test)
-        (or_assoc (list_any test (locks_at_target window first other)) (list_any test (locks_from window (first + 1) targets)) (list_any test (locks_at_target window ((first + 1) + length targets) one))
-        ∙ ap (λ b. b || list_any test (locks_at_target window ((first + 1) + length targets) one))
-            (sym (list_any-append test (locks_at_target window first other) (locks_from window (first + 1) targets))))
+    (or_assoc (list_any test (locks_at_target window first other)) (list_any test (locks_from window (first + 1) targets)) (list_any test (locks_at_target window ((first + 1) + length targets) one))
+    ∙ ap (λ b. b || list_any test (locks_at_target window ((first + 1) + length targets) one))
+    (sym (list_any-append test (locks_at_target window first other) (locks_from window (first + 1) targets))))
 
 -- the same from the first target on
 pub at_target : (p q : Held → Bool) (window i : ℕ) (targets : List Target) (d : Target) → i < length targets →
@@ -137,8 +143,8 @@ pub at_target : (p q : Held → Bool) (window i : ℕ) (targets : List Target) (
 at_target p q window i targets d within other here =
     let e : 0 + i ≡ i = omega arith in
     table_any p q window 0 i targets d within
-        (λ target ne. other target (λ same. ne (same ∙ sym e)))
-        (λ kind holder. rw e (here kind holder))
+    (λ target ne. other target (λ same. ne (same ∙ sym e)))
+    (λ kind holder. rw e (here kind holder))
     ∙ ap (λ t. list_any q (locks_at_target window t (get_or targets i d))) e
 
 clash : (window i : ℕ) (kind : Lock) (rank target : ℕ) (other : Lock) (holder : ℕ) →
@@ -151,27 +157,28 @@ pub clash_at : (window i rank : ℕ) (kind : Lock) (targets : List Target) (d : 
     ≡ list_any (λ (one : Held). excludes kind one.kind) (locks_at_target window i (get_or targets i d))
 clash_at window i rank kind targets d within =
     at_target (do_clash (lock window i kind rank)) (λ one. excludes kind one.kind) window i targets d within
-        (λ target ne other holder. clash window i kind rank target other holder ∙ rw (ne_eqb i target (λ same. ne (sym same))) refl)
-        (λ other holder. clash window i kind rank i other holder ∙ rw (eq-eqb i i refl) refl)
+    (λ target ne other holder. clash window i kind rank target other holder ∙ rw (ne_eqb i target (λ same. ne (sym same))) refl)
+    (λ other holder. clash window i kind rank i other holder ∙ rw (eq-eqb i i refl) refl)
 
 pub held_at : (window i : ℕ) (targets : List Target) (d : Target) → i < length targets →
     list_any (λ (one : Held). eqb one.target i) (locks_from window 0 targets)
     ≡ list_any (λ (_ : Held). true) (locks_at_target window i (get_or targets i d))
 held_at window i targets d within =
     at_target (λ one. eqb one.target i) (λ _. true) window i targets d within
-        (λ target ne kind holder. ne_eqb target i ne) (λ kind holder. eq-eqb i i refl)
+    (λ target ne kind holder. ne_eqb target i ne) (λ kind holder. eq-eqb i i refl)
 
 pub held_by_at : (window i rank : ℕ) (targets : List Target) (d : Target) → i < length targets →
     list_any (is_held_by rank i) (locks_from window 0 targets)
     ≡ list_any (is_holder rank) (locks_at_target window i (get_or targets i d))
 held_by_at window i rank targets d within =
     at_target (is_held_by rank i) (is_holder rank) window i targets d within
-        (λ target ne kind holder. rw (ne_eqb target i ne) (never (eqb holder rank)))
-        (λ kind holder. rw (eq-eqb i i refl) (always (eqb holder rank)))
+    (λ target ne kind holder. rw (ne_eqb target i ne) (never (eqb holder rank)))
+    (λ kind holder. rw (eq-eqb i i refl) (always (eqb holder rank)))
   where
     never : (b : Bool) → (b && false) ≡ false
     never true = refl
     never false = refl
+
     always : (b : Bool) → (b && true) ≡ b
     always true = refl
     always false = refl
@@ -184,7 +191,7 @@ granted window i rank kind targets after d within more test =
     let e : 0 + i ≡ i = omega arith in
     let new = lock window i kind rank in
     table_with test new window 0 i targets after d within
-        (rw e (more test ∙ plus test (locks_at_target window i (get_or targets i d)) new))
+    (rw e (more test ∙ plus test (locks_at_target window i (get_or targets i d)) new))
     ∙ sym (plus test (locks_from window 0 targets) new)
   where
     plus : (test : Held → Bool) (held : List Held) (new : Held) → list_any test (held ++ new ∷ []) ≡ (list_any test held || test new)
@@ -198,8 +205,8 @@ released window i rank targets after d within less test =
     let e : 0 + i ≡ i = omega arith in
     let keep : Held → Bool = λ one. not (is_given_back rank window (Some (pos i)) one) in
     table_kept keep test window 0 i targets after d within
-        (λ target ne kind holder. rw (ne_eqb target i (λ same. ne (same ∙ sym e))) (stays (eqb holder rank && eqb window window)))
-        (rw e (less test ∙ any_filter keep test (locks_at_target window i (get_or targets i d))))
+    (λ target ne kind holder. rw (ne_eqb target i (λ same. ne (same ∙ sym e))) (stays (eqb holder rank && eqb window window)))
+    (rw e (less test ∙ any_filter keep test (locks_at_target window i (get_or targets i d))))
     ∙ sym (any_filter keep test (locks_from window 0 targets))
   where
     stays : (b : Bool) → not (b && false) ≡ true

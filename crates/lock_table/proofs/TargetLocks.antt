@@ -1,6 +1,6 @@
 -- What a test finds among the locks at one target.
-use Rattle.std.proofs.Common.{◌≡◌, ℕ, ◌+◌, ◌-◌, ◌*◌, ◌%◌, ◌^◌, ◌<◌, Bool, true, false, not, ◌&&◌, ◌||◌, eqb, List, [], ◌∷◌, ◌++◌, map, refl, ap, sym, ◌∙◌, arith, pos, Some}
-use Rattle.std.specs.List.{list_any, filter}
+use Rattle.std.proofs.Common.{◌≡◌, ℕ, ◌-◌, ◌*◌, ◌%◌, ◌^◌, ◌<◌, Bool, true, false, not, ◌&&◌, ◌||◌, eqb, List, [], ◌∷◌, ◌++◌, map, refl, ap, sym, ◌∙◌, pos, Some}
+use Rattle.std.specs.List.{list_any}
 use Rattle.std.specs.Prelude.{bit_and, bit_or}
 use Rattle.std.proofs.lemmas.Bool.{eq-eqb}
 use Rattle.std.proofs.lemmas.List.Folds.{list_any-append}
@@ -10,7 +10,7 @@ use Rattle.board_rules.specs.Locks.{Held, is_given_back, excludes}
 use Rattle.lock_table.specs.declared.targets.Target.{Target}
 use Rattle.lock_table.specs.declared.targets.Target.TheVariants.{Shared, Exclusive}
 use Rattle.lock_table.specs.HeldLocks.{lock, ranks_in, kept, is_holder, locks_at_target}
-use Rattle.lock_table.proofs.RankMasks.{any_filter, any_map, some_in, is_in, any_set, any_cleared, none_in_zero, any_in, any_alike}
+use Rattle.lock_table.proofs.RankMasks.{any_filter, any_map, some_in, is_in, any_set, any_cleared, none_in_zero}
 
 abbrev pub shared : ℕ → ℕ → ℕ → List Held
 shared window target holders = map (lock window target SharedLock) (ranks_in 16 holders)
@@ -48,7 +48,7 @@ shared_with window target holders rank within test =
     shared_any window target (bit_or holders (1 * 2 ^ rank % 65536)) test
     ∙ (any_set (λ r. test (lock window target SharedLock r)) holders rank within
     ∙ sym (list_any-append test (shared window target holders) (lock window target SharedLock rank ∷ [])
-        ∙ rw (shared_any window target holders test) (ap (λ b. list_any (λ r. test (lock window target SharedLock r)) (ranks_in 16 holders) || b) (last (test (lock window target SharedLock rank))))))
+    ∙ rw (shared_any window target holders test) (ap (λ b. list_any (λ r. test (lock window target SharedLock r)) (ranks_in 16 holders) || b) (last (test (lock window target SharedLock rank))))))
   where
     last : (b : Bool) → (b || false) ≡ b
     last true = refl
@@ -75,8 +75,8 @@ shared_without window target holders rank within test =
     shared_any window target (bit_and holders (65535 - 1 * 2 ^ rank % 65536)) test
     ∙ (any_cleared (λ r. test (lock window target SharedLock r)) holders rank within
     ∙ sym (any_filter (λ one. not (is_given_back rank window (Some (pos target)) one)) test (shared window target holders)
-        ∙ (shared_any window target holders (λ one. not (is_given_back rank window (Some (pos target)) one) && test one)
-        ∙ any_pointwise _ _ (λ r. ap (λ b. not b && test (lock window target SharedLock r)) (given_back_here window target SharedLock rank r)) (ranks_in 16 holders))))
+    ∙ (shared_any window target holders (λ one. not (is_given_back rank window (Some (pos target)) one) && test one)
+    ∙ any_pointwise _ _ (λ r. ap (λ b. not b && test (lock window target SharedLock r)) (given_back_here window target SharedLock rank r)) (ranks_in 16 holders))))
 
 pub exclusive_without_same : (window target rank holder : ℕ) → holder ≡ rank → (test : Held → Bool) →
     list_any test (shared window target 0) ≡ list_any test (kept rank window target (lock window target ExclusiveLock holder ∷ []))

@@ -5,7 +5,7 @@ use Rattle.std.specs.Int.{bit_at}
 use Rattle.rma_types.specs.declared.calls.Lock.{Lock}
 use Rattle.rma_types.specs.declared.calls.Lock.TheVariants.{Shared as SharedLock, Exclusive as ExclusiveLock}
 use Rattle.call_rules.specs.Pieces.{numbers_from}
-use Rattle.board_rules.specs.Locks.{Held, is_given_back, do_clash}
+use Rattle.board_rules.specs.Locks.{Held, is_given_back}
 use Rattle.lock_table.specs.declared.targets.Target.{Target}
 use Rattle.lock_table.specs.declared.targets.Target.TheVariants.{Shared, Exclusive}
 

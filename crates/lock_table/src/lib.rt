@@ -6,5 +6,7 @@
 
 mod tables;
 mod targets;
+#[cfg(test)]
+mod tests;
 
 pub use tables::LockTable;

@@ -23,6 +23,10 @@ impl Model for LockTable {
     ghost Value = { WindowLocks };
 
     ghost view = { λ table. record { window = table.window; held = locks_from table.window 0 table.targets } };
+
+    ghost use Rattle.std.specs.Prelude.{◌≡◌, length};
+
+    ghost invariant = { λ table. length table.targets ≡ 16 };
 }
 
 impl LockTable {

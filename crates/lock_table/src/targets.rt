@@ -56,7 +56,7 @@ impl Target {
             list_any (λ (one : Held). excludes kind one.kind) (locks_at_target window target self) ≡ false }
         ensures { (window target : ℕ) →
             HasSameLocks (locks_at_target window target result)
-                (locks_at_target window target self ++ lock window target kind rank ∷ []) }
+            (locks_at_target window target self ++ lock window target kind rank ∷ []) }
     {
         match (kind, self) {
             (Lock::Exclusive, _) => Target::Exclusive(rank),

@@ -1,4 +1,4 @@
-use Rattle.std.proofs.Common.{◌∙◌, sym, ap, arith, get_or}
+use Rattle.std.proofs.Common.{◌∙◌, sym, arith, get_or}
 use Rattle.lock_table.specs.declared.targets.Target.TheVariants.{Shared}
 use Rattle.lock_table.proofs.TargetLocks.{kind_alone}
 use Rattle.lock_table.proofs.TableLocks.{clash_at, granted}
@@ -13,4 +13,4 @@ with-requires-clause-free c = λ window target.
 pub returns-clause-held : goal.returns-clause-held
 returns-clause-held c = rw (← c.self.view_is)
     (granted c.self.inside.window c.args.target c.args.rank c.args.kind c.self.inside.targets c.with.result (Shared 0) (omega arith)
-        (c.with.ensures c.self.inside.window c.args.target))
+    (c.with.ensures c.self.inside.window c.args.target))

@@ -1,4 +1,3 @@
-use Rattle.std.proofs.Common.{refl}
 use Rattle.lock_table.proofs.TableLocks.{no_locks}
 use Rattle.lock_table.proofs.tables.LockTable.new.Goals as goal
 

@@ -1,4 +1,4 @@
-use Rattle.std.proofs.Common.{◌<◌, ◌^◌, ◌∙◌, ap, sym, true, arith}
+use Rattle.std.proofs.Common.{◌∙◌, ap, sym, true, arith}
 use Rattle.std.specs.List.{list_any}
 use Rattle.board_rules.specs.Locks.{Held}
 use Rattle.lock_table.specs.HeldLocks.{locks_at_target}

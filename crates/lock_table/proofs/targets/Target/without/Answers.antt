@@ -1,4 +1,3 @@
-use Rattle.std.proofs.Common.{◌∙◌, ap, sym}
 use Rattle.lock_table.proofs.TargetLocks.{shared_without, exclusive_without_same}
 use Rattle.lock_table.proofs.targets.Target.without.Goals as goal
 
