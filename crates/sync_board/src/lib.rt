@@ -1,13 +1,4 @@
-// A library with one function.
+//! The board of a run: the entries of all ranks in one order, and what follows from it (MPI 3.1, sections 11.2 and 11.5).
 #![tactic(auto)]
 
-ghost use Rattle.std.specs.Prelude.{◌≡◌};
-ghost use Rattle.sync_board.specs.Echo.{echo_of};
-
-// The `ensures` clause is the contract: what `echo` returns is `echo_of` of its argument, a definition
-// in `specs/Echo.antt`, which a caller's clause can cite too.
-pub fn echo(x: usize) -> usize
-    ensures { result ≡ echo_of x }
-{
-    x
-}
+mod sides;
