@@ -1,6 +1,6 @@
 -- What one rank has done on one window, by its entries there: MPI 3.1, sections 11.2 and 11.5. The board keeps it in counts
 -- and tables, a side for each rank and window.
-use Rattle.std.specs.Prelude.{◌≡◌, ℕ, ◌+◌, ◌<◌, Bool, false, ◌&&◌, if◌then◌else◌, List, [], ◌∷◌, ◌++◌, length, map, take, reverse, slice_index, slice_index_or}
+use Rattle.std.specs.Prelude.{◌≡◌, ℕ, ◌+◌, ◌<◌, Bool, true, false, ◌&&◌, ◌==◌, nat_lt, if◌then◌else◌, List, [], ◌∷◌, ◌++◌, length, map, take, reverse, slice_index, slice_index_or}
 use Rattle.std.specs.List.{count_by, filter, flat_map, fold}
 use Rattle.std.specs.Option.{option_map_or}
 use Rattle.rma_types.specs.declared.calls.Asserts.{Asserts}
@@ -97,3 +97,20 @@ pub record Keeps (d : Done) (side : Side) : Type 0 where
   pub completed_to : CountsGroups side.completed_to (take d.completes d.starts)
   pub last_post : IsGroup side.last_post (slice_index_or (reverse d.posts) 0 [])
   pub starts : AreGroups side.starts.items d.starts
+
+-- a table of 16 sides, one for each rank on one window
+abbrev pub AllKept : (ℕ → Done) → List Side → Type 0
+AllKept done_of sides = (rank : ℕ) (none : Side) → rank < 16 → Keeps (done_of rank) (slice_index_or sides rank none)
+
+-- no member of the group is past the last of 16 ranks
+abbrev pub AreRanks : List ℕ → Type 0
+AreRanks group = (rank : ℕ) → is_member rank group ≡ true → rank < 16
+
+-- the member has posted to the rank once more than the rank has started to it
+abbrev pub has_post_of : (ℕ → Done) → ℕ → ℕ → Bool
+has_post_of done_of rank member = nat_lt (naming member (done_of rank).starts) (naming rank (done_of member).posts)
+
+-- the member has completed towards the rank as often as the rank has posted to it
+abbrev pub has_complete_of : (ℕ → Done) → ℕ → ℕ → Bool
+has_complete_of done_of rank member =
+    naming rank (take (done_of member).completes (done_of member).starts) == naming member (done_of rank).posts

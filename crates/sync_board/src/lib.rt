@@ -1,4 +1,5 @@
 //! The board of a run: the entries of all ranks in one order, and what follows from it (MPI 3.1, sections 11.2 and 11.5).
 #![tactic(auto)]
 
+mod matches;
 mod sides;

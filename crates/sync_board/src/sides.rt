@@ -1,6 +1,6 @@
 //! What one rank has done on one window, in counts and tables (MPI 3.1, section 11.5.2).
-ghost use Rattle.std.specs.Prelude.{◌≡◌, ℕ, nat_lt, List, length, IfSome, OnOk, OnErr};
-ghost use Rattle.sync_board.specs.Sides.{Done, IsGroup, IsRaised, Keeps, with_post, with_start, with_complete, with_wait};
+ghost use Rattle.std.specs.Prelude.{◌≡◌, ℕ, ◌+◌, nat_lt, List, [], ◌∷◌, ◌++◌, length, take, IfSome, OnOk, OnErr};
+ghost use Rattle.sync_board.specs.Sides.{CountsGroups, Done, IsGroup, IsRaised, Keeps, with_post, with_start, with_complete, with_wait};
 
 use rma_types::NoMemory;
 use std::alloc::Global;
@@ -63,7 +63,7 @@ impl Side {
     pub(crate) fn post(&mut self, group: &[bool; 16]) -> Result<(), NoMemory>
         ensures ok { OnOk result ((d : Done) (members : List ℕ) →
             IsGroup group.now members → Keeps d self.old → Keeps (with_post d members) self.new) }
-        ensures err { OnErr result (self.new ≡ self.old) }
+        ensures err { OnErr result ((d : Done) → Keeps d self.old → Keeps d self.new) }
     {
         let posts = self.posts.checked_add(1).ok_or(NoMemory)?;
         let posted_to = raised(&self.posted_to, group).ok_or(NoMemory)?;
@@ -73,18 +73,40 @@ impl Side {
         Ok(())
     }
 
+    /// The counts of completed starts with one start more: it is completed at once where a complete of its number came
+    /// before it.
+    fn completed_with_start(&self, group: &[bool; 16]) -> Option<[u32; 16]>
+        ensures { IfSome result (λ counts. (d : Done) (members : List ℕ) →
+            IsGroup group.now members → Keeps d self.now → CountsGroups counts (take d.completes (d.starts ++ members ∷ []))) }
+    {
+        if self.starts.len() < self.completes as usize {
+            raised(&self.completed_to, group)
+        } else {
+            Some(self.completed_to)
+        }
+    }
+
+    /// The counts of completed starts with one complete more.
+    fn completed_with_complete(&self) -> Option<[u32; 16]>
+        ensures { IfSome result (λ counts. (d : Done) →
+            Keeps d self.now → CountsGroups counts (take (d.completes + 1) d.starts)) }
+    {
+        let at = self.completes as usize;
+        if at < self.starts.len() {
+            raised(&self.completed_to, &self.starts[at])
+        } else {
+            Some(self.completed_to)
+        }
+    }
+
     /// One start more, to a group.
     pub(crate) fn start(&mut self, group: &[bool; 16]) -> Result<(), NoMemory>
         ensures ok { OnOk result ((d : Done) (members : List ℕ) →
             IsGroup group.now members → Keeps d self.old → Keeps (with_start d members) self.new) }
-        ensures err { OnErr result (self.new ≡ self.old) }
+        ensures err { OnErr result ((d : Done) → Keeps d self.old → Keeps d self.new) }
     {
         let started_to = raised(&self.started_to, group).ok_or(NoMemory)?;
-        let completed_to = if self.starts.len() < self.completes as usize {
-            raised(&self.completed_to, group).ok_or(NoMemory)?
-        } else {
-            self.completed_to
-        };
+        let completed_to = self.completed_with_start(group).ok_or(NoMemory)?;
         match self.starts.push(*group) {
             Ok(()) => {}
             Err(_) => return Err(NoMemory),
@@ -97,13 +119,10 @@ impl Side {
     /// One complete more: it completes the start of its number, where there is one.
     pub(crate) fn complete(&mut self) -> Result<(), NoMemory>
         ensures ok { OnOk result ((d : Done) → Keeps d self.old → Keeps (with_complete d) self.new) }
-        ensures err { OnErr result (self.new ≡ self.old) }
+        ensures err { OnErr result ((d : Done) → Keeps d self.old → Keeps d self.new) }
     {
         let completes = self.completes.checked_add(1).ok_or(NoMemory)?;
-        let completed_to = match self.starts.get(self.completes as usize) {
-            Some(group) => raised(&self.completed_to, group).ok_or(NoMemory)?,
-            None => self.completed_to,
-        };
+        let completed_to = self.completed_with_complete().ok_or(NoMemory)?;
         self.completes = completes;
         self.completed_to = completed_to;
         Ok(())
@@ -112,7 +131,7 @@ impl Side {
     /// One wait or true testwin more.
     pub(crate) fn wait(&mut self) -> Result<(), NoMemory>
         ensures ok { OnOk result ((d : Done) → Keeps d self.old → Keeps (with_wait d) self.new) }
-        ensures err { OnErr result (self.new ≡ self.old) }
+        ensures err { OnErr result ((d : Done) → Keeps d self.old → Keeps d self.new) }
     {
         self.waits = self.waits.checked_add(1).ok_or(NoMemory)?;
         Ok(())
