@@ -1,3 +1,6 @@
 pub mod OneMore
 pub mod SideSteps
 pub mod Groups
+pub mod Entered
+pub mod Matched
+pub mod RoundSteps

@@ -10,6 +10,7 @@ use Rattle.call_rules.specs.Ranks.{is_member}
 use Rattle.rank_rules.specs.Ranges.{Range}
 use Rattle.board_rules.specs.AttachedRanges.{ranges_after}
 use Rattle.board_rules.specs.Entries.{Act, Collective, Creation, Freeing, Fence, is_arrive, is_collective, is_by_on}
+use Rattle.board_rules.specs.Questions.{Question}
 use Rattle.sync_board.specs.declared.sides.Side.{Side}
 use Rattle.board_rules.specs.Posts.{group_of_post, group_of_start, is_complete, is_wait, naming}
 
@@ -97,6 +98,10 @@ pub record Keeps (d : Done) (side : Side) : Type 0 where
   pub completed_to : CountsGroups side.completed_to (take d.completes d.starts)
   pub last_post : IsGroup side.last_post (slice_index_or (reverse d.posts) 0 [])
   pub starts : AreGroups side.starts.items d.starts
+
+-- what a rank has done on the window of the question
+abbrev pub done_at : Question → ℕ → Done
+done_at q rank = done (own q.entries rank q.window)
 
 -- a table of 16 sides, one for each rank on one window
 abbrev pub AllKept : (ℕ → Done) → List Side → Type 0

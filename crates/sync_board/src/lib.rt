@@ -2,4 +2,5 @@
 #![tactic(auto)]
 
 mod matches;
+mod rounds;
 mod sides;

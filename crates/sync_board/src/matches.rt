@@ -1,8 +1,8 @@
 //! Whether a start has its posts, and a wait its completes (MPI 3.1, section 11.5.2).
-ghost use Rattle.std.specs.Prelude.{◌≡◌, ℕ, ◌<◌, List, length, reverse, slice_index_or, [], Bool};
-ghost use Rattle.std.specs.List.{list_all};
-ghost use Rattle.sync_board.specs.declared.sides.Side.{Side};
-ghost use Rattle.sync_board.specs.Sides.{AllKept, AreRanks, Done, IsGroup, has_post_of, has_complete_of};
+ghost use Rattle.std.specs.Prelude.{◌≡◌, ℕ, ◌<◌, List, length};
+ghost use Rattle.board_rules.specs.Posts.{last_posted, start_has_posts, wait_has_completes};
+ghost use Rattle.board_rules.specs.Questions.{Question};
+ghost use Rattle.sync_board.specs.Sides.{AllKept, AreRanks, Done, IsGroup, done_at, has_post_of, has_complete_of};
 
 use crate::sides::Side;
 
@@ -34,9 +34,9 @@ fn has_complete(sides: &[Side], rank: usize, member: usize) -> bool
 pub(crate) fn has_posts(sides: &[Side], rank: usize, group: &[bool; 16]) -> bool
     requires sides { length sides.now ≡ 16 }
     requires rank { rank < 16 }
-    ensures { (done_of : ℕ → Done) (members : List ℕ) →
-        AllKept done_of sides.now → IsGroup group.now members → AreRanks members →
-        result ≡ list_all (has_post_of done_of rank) members }
+    ensures { (q : Question) (members : List ℕ) → q.rank ≡ rank →
+        AllKept (done_at q) sides.now → IsGroup group.now members → AreRanks members →
+        result ≡ start_has_posts q members }
 {
     for member in 0..16 {
         if group[member] && !has_post(sides, rank, member) {
@@ -50,9 +50,9 @@ pub(crate) fn has_posts(sides: &[Side], rank: usize, group: &[bool; 16]) -> bool
 pub(crate) fn has_completes(sides: &[Side], rank: usize) -> bool
     requires sides { length sides.now ≡ 16 }
     requires rank { rank < 16 }
-    ensures { (done_of : ℕ → Done) →
-        AllKept done_of sides.now → AreRanks (slice_index_or (reverse (done_of rank).posts) 0 []) →
-        result ≡ list_all (has_complete_of done_of rank) (slice_index_or (reverse (done_of rank).posts) 0 []) }
+    ensures { (q : Question) → q.rank ≡ rank →
+        AllKept (done_at q) sides.now → AreRanks (last_posted q) →
+        result ≡ wait_has_completes q }
 {
     let group = sides[rank].last_post;
     for member in 0..16 {
