@@ -1,5 +1,5 @@
 -- The rounds of the collective calls on one window that a rank has arrived in: MPI 3.1, sections 11.2.1 and 11.5.1.
-use Rattle.std.specs.Prelude.{◌≡◌, ℕ, ◌<◌, List, [], ◌∷◌, ◌++◌, length, Option, Some, None, slice_index_or}
+use Rattle.std.specs.Prelude.{◌≡◌, ℕ, ◌<◌, List, [], ◌∷◌, ◌++◌, length, Option, Some, None, slice_get, slice_index_or}
 use Rattle.std.specs.Option.{option_map, option_map_or}
 use Rattle.rma_types.specs.declared.calls.Asserts.{Asserts}
 use Rattle.rma_types.specs.declared.calls.Call.{Call}
@@ -7,6 +7,9 @@ use Rattle.rma_types.specs.declared.calls.Flavor.{Flavor}
 use Rattle.call_rules.specs.Actions.{Creation, creation_of, synchronisation_of}
 use Rattle.board_rules.specs.Rounds.{asserts_of_fence}
 use Rattle.sync_board.specs.Sides.{Done}
+use Rattle.board_rules.specs.Entries.{Collective, Creation as CreationCollective, Freeing as FreeingCollective, Fence as FenceCollective}
+use Rattle.sync_board.specs.declared.rounds.Kind.{Kind}
+use Rattle.sync_board.specs.declared.rounds.Kind.TheVariants.{Creation as CreationKind, Freeing as FreeingKind, Fence as FenceKind}
 use Rattle.sync_board.specs.declared.rounds.Rounds.{Rounds}
 
 -- the assertions of a fence
@@ -42,3 +45,19 @@ pub record HasRounds (d : Done) (rounds : Rounds) : Type 0 where
 -- a table of the rounds of so many ranks on one window
 abbrev pub AllRounds : ℕ → (ℕ → Done) → List Rounds → Type 0
 AllRounds ranks done_of table = (rank : ℕ) (none : Rounds) → rank < ranks → HasRounds (done_of rank) (slice_index_or table rank none)
+
+-- the collective calls of a kind
+abbrev pub collective_by : Kind → Collective
+collective_by CreationKind = CreationCollective
+collective_by FreeingKind = FreeingCollective
+collective_by FenceKind = FenceCollective
+
+-- the arrivals at the collective calls of a kind
+abbrev pub arrivals_by : Kind → Done → List Call
+arrivals_by CreationKind d = d.creations
+arrivals_by FreeingKind d = d.frees
+arrivals_by FenceKind d = d.fences
+
+-- the arrival of a round, as a list
+abbrev pub arrival_in : List Call → ℕ → List Call
+arrival_in calls round = option_map_or (λ call. call ∷ []) (slice_get calls round) []
