@@ -20,9 +20,9 @@ pub not_all_of : (test : ℕ → Bool) (group : List ℕ) (rank : ℕ) → is_me
 not_all_of test [] rank member fails = absurd (let e : false ≡ true = member in cc)
 not_all_of test (other ∷ ranks) rank member fails =
     ⊎_elim
-        (λ same. and_left (test other) (list_all test ranks) (ap test (eqb-true other rank same) ∙ fails))
-        (λ later. and_right (test other) (list_all test ranks) (not_all_of test ranks rank later fails))
-        (or_cases (eqb other rank) (is_member rank ranks) member)
+    (λ same. and_left (test other) (list_all test ranks) (ap test (eqb-true other rank same) ∙ fails))
+    (λ later. and_right (test other) (list_all test ranks) (not_all_of test ranks rank later fails))
+    (or_cases (eqb other rank) (is_member rank ranks) member)
 
 -- all ranks that are told pass
 pub all_told : (test : ℕ → Bool) (named : List Bool) (group : List ℕ) → IsGroup named group → AreRanks group →

@@ -4,3 +4,4 @@ pub mod Groups
 pub mod Entered
 pub mod Matched
 pub mod RoundSteps
+pub mod Differs

@@ -63,13 +63,13 @@ done_more entries act =
     let syncs = synchronised_more entries act in
     let brought = synchronisation_by (action_of act.row.call) in
     let posts : flat_map group_of_post (synchronised (entries ++ act ∷ [])) ≡ flat_map group_of_post (synchronised entries) ++ flat_map group_of_post brought =
-        ap (flat_map group_of_post) syncs ∙ flat_map-append group_of_post (synchronised entries) brought in
+    ap (flat_map group_of_post) syncs ∙ flat_map-append group_of_post (synchronised entries) brought in
     let starts : flat_map group_of_start (synchronised (entries ++ act ∷ [])) ≡ flat_map group_of_start (synchronised entries) ++ flat_map group_of_start brought =
-        ap (flat_map group_of_start) syncs ∙ flat_map-append group_of_start (synchronised entries) brought in
+    ap (flat_map group_of_start) syncs ∙ flat_map-append group_of_start (synchronised entries) brought in
     let completes : count_by is_complete (synchronised (entries ++ act ∷ [])) ≡ count_by is_complete (synchronised entries) + count_by is_complete brought =
-        ap (count_by is_complete) syncs ∙ count_more is_complete (synchronised entries) brought in
+    ap (count_by is_complete) syncs ∙ count_more is_complete (synchronised entries) brought in
     let waits : count_by is_wait (synchronised (entries ++ act ∷ [])) ≡ count_by is_wait (synchronised entries) + count_by is_wait brought =
-        ap (count_by is_wait) syncs ∙ count_more is_wait (synchronised entries) brought in
+    ap (count_by is_wait) syncs ∙ count_more is_wait (synchronised entries) brought in
     let creations = arrived_more Creation entries act in
     let frees = arrived_more Freeing entries act in
     let fences = arrived_more Fence entries act in

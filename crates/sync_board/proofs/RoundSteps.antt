@@ -47,8 +47,8 @@ filter_twice : {X : Type 0} (a b c : X → Bool) (xs : List X) → filter (λ x.
 filter_twice a b c [] = refl
 filter_twice a b c (x ∷ xs) =
     elim (a x) as (λ t. cond (t && b x && c x) (x ∷ filter (λ x. a x && b x && c x) xs) (filter (λ x. a x && b x && c x) xs) ≡ filter (λ x. b x && c x) (cond t (x ∷ filter a xs) (filter a xs))) [
-      true ↦ ap (λ ys. cond (b x && c x) (x ∷ ys) ys) (filter_twice a b c xs)
-    | false ↦ filter_twice a b c xs
+      | true ↦ ap (λ ys. cond (b x && c x) (x ∷ ys) ys) (filter_twice a b c xs)
+      | false ↦ filter_twice a b c xs
     ]
 
 done_arrivals : (kind : Kind) (entries : List Act) → arrivals_by kind (done entries) ≡ arrived (collective_by kind) entries
@@ -93,7 +93,7 @@ pub arrived_is : (q : Question) (kind : Kind) (rank ranks : ℕ) → q.rank ≡ 
     all_arrived q ≡ list_all (λ k. leb (length (arrivals_by kind (done_at q rank))) (length (arrivals_by kind (done_at q k)))) (numbers_from 0 ranks)
 arrived_is q kind rank ranks asker all e =
     alike (λ k. leb (length (arrivals_of q q.rank)) (length (arrivals_of q k))) (λ k. leb (length (arrivals_by kind (done_at q rank))) (length (arrivals_by kind (done_at q k))))
-        (λ k. rw (arrivals_at q kind q.rank e, arrivals_at q kind k e, asker) refl) (numbers_from 0 q.ranks)
+    (λ k. rw (arrivals_at q kind q.rank e, arrivals_at q kind k e, asker) refl) (numbers_from 0 q.ranks)
     ∙ ap (λ n. list_all (λ k. leb (length (arrivals_by kind (done_at q rank))) (length (arrivals_by kind (done_at q k)))) (numbers_from 0 n)) all
   where
     alike : (p r : ℕ → Bool) → ((k : ℕ) → p k ≡ r k) → (ks : List ℕ) → list_all p ks ≡ list_all r ks

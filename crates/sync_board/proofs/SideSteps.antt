@@ -67,7 +67,7 @@ with_start_past side named new past more d group same kept =
     let long : length side.starts.items ≡ length d.starts = groups_length side.starts.items d.starts kept.starts in
     let count : side.completes ≡ d.completes = kept.completes in
     rw (completed_after d.completes d.starts group (omega arith))
-        (counts_more side.completed_to new named (take d.completes d.starts) group kept.completed_to same more)
+    (counts_more side.completed_to new named (take d.completes d.starts) group kept.completed_to same more)
 
 pub with_start_before : (side : Side) (named : List Bool) → side.completes ≤ length side.starts.items →
     (d : Done) (group : List ℕ) → IsGroup named group → Keeps d side → CountsGroups side.completed_to (take d.completes (d.starts ++ group ∷ []))
@@ -82,9 +82,9 @@ with_complete_of side new e within more d kept =
     let long : length side.starts.items ≡ length d.starts = groups_length side.starts.items d.starts kept.starts in
     let count : side.completes ≡ d.completes = kept.completes in
     let same : IsGroup (get_or side.starts.items side.completes e) (get_or d.starts d.completes []) =
-        rw (← count) (group_at side.starts.items d.starts side.completes e [] kept.starts within) in
+    rw (← count) (group_at side.starts.items d.starts side.completes e [] kept.starts within) in
     rw (completed_one_more d.completes d.starts (omega arith))
-        (counts_more side.completed_to new (get_or side.starts.items side.completes e) (take d.completes d.starts) (get_or d.starts d.completes []) kept.completed_to same more)
+    (counts_more side.completed_to new (get_or side.starts.items side.completes e) (take d.completes d.starts) (get_or d.starts d.completes []) kept.completed_to same more)
 
 pub with_complete_past : (side : Side) → length side.starts.items ≤ side.completes → (d : Done) → Keeps d side → CountsGroups side.completed_to (take (d.completes + 1) d.starts)
 with_complete_past side past d kept =

@@ -1,10 +1,11 @@
 //! The rounds of collective calls on one window (MPI 3.1, sections 11.2.1 and 11.5.1).
-ghost use Rattle.std.specs.Prelude.{◌≡◌, ℕ, ◌<◌, List, length, Some, OnOk, OnErr};
+ghost use Rattle.std.specs.Prelude.{◌≡◌, ℕ, ◌<◌, not, List, length, Some, OnOk, OnErr};
 ghost use Rattle.std.specs.List.{list_any};
 ghost use Rattle.rma_types.specs.declared.calls.Call.{Call};
+ghost use Rattle.rank_rules.specs.Windows.{is_same_flavor};
 ghost use Rattle.board_rules.specs.Entries.{collective_of};
 ghost use Rattle.board_rules.specs.Questions.{Question};
-ghost use Rattle.board_rules.specs.Rounds.{all_arrived, has_other_asserts, has_other_flavor, is_differing_creation, is_differing_fence};
+ghost use Rattle.board_rules.specs.Rounds.{all_arrived, do_asserts_differ, has_other_asserts, has_other_flavor, is_differing_creation, is_differing_fence};
 ghost use Rattle.sync_board.specs.Sides.{Done, done_at};
 ghost use Rattle.sync_board.specs.Rounds.{AllRounds, HasRounds, arrival_in, arrivals_by, asserts_in, collective_by, flavor_in, with_creation, with_fence, with_free};
 
@@ -26,6 +27,19 @@ pub(crate) struct Rounds {
     pub(crate) created: Vec<Flavor>,
     pub(crate) freed: u32,
     pub(crate) fences: Vec<Asserts>,
+}
+
+/// Two fences of one round differ in noprecede or nosucceed (MPI 3.1, section 11.5.5).
+fn do_differ(a: Asserts, b: Asserts) -> bool
+    ensures { result ≡ do_asserts_differ a b }
+{
+    a.noprecede != b.noprecede || a.nosucceed != b.nosucceed
+}
+
+fn is_other(a: Flavor, b: Flavor) -> bool
+    ensures { result ≡ not (is_same_flavor a b) }
+{
+    a != b
 }
 
 impl Rounds {
@@ -55,7 +69,7 @@ impl Rounds {
             result ≡ list_any (is_differing_fence asserts) (arrival_in d.fences round) }
     {
         match self.fences.get(round) {
-            Some(other) => asserts.noprecede != other.noprecede || asserts.nosucceed != other.nosucceed,
+            Some(other) => do_differ(asserts, *other),
             None => false,
         }
     }
@@ -66,7 +80,7 @@ impl Rounds {
             result ≡ list_any (is_differing_creation flavor) (arrival_in d.creations round) }
     {
         match self.created.get(round) {
-            Some(other) => flavor != *other,
+            Some(other) => is_other(flavor, *other),
             None => false,
         }
     }

@@ -6,8 +6,8 @@ use Rattle.sync_board.proofs.sides.Side.completed_with_complete.Goals as goal
 pub returns-then-at-len : goal.returns-then-at-len
 returns-then-at-len c = some_so _ _
     (λ new more.
-        let P : List Bool → Type 0 = λ named. IsRaised c.args.self.now.completed_to named new in
-        with_complete_of c.args.self.now new c.index.result.now (omega arith) (subst P c.index.ensures more))
+    let P : List Bool → Type 0 = λ named. IsRaised c.args.self.now.completed_to named new in
+    with_complete_of c.args.self.now new c.index.result.now (omega arith) (subst P c.index.ensures more))
     c.raised.result c.raised.ensures
 
 pub returns-else-at-len : goal.returns-else-at-len
