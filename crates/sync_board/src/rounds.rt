@@ -20,8 +20,8 @@ pub(crate) enum Kind {
     Fence,
 }
 
-/// The rounds in which one rank has arrived on one window: the flavors of its creations, the number of its frees, and the
-/// assertions of its fences.
+/// The rounds in which one rank has arrived on one window: the flavors of its creations, the number of its frees,
+/// and the assertions of its fences.
 #[derive(Debug, Drop)]
 pub(crate) struct Rounds {
     pub(crate) created: Vec<Flavor>,

@@ -7,8 +7,8 @@ use std::alloc::Global;
 
 /// The posts, starts, completes and waits of one rank on one window, counted.
 ///
-/// Of each pair of ranks it has the count that the other rank's calls are compared with: so a start and a wait look at one
-/// count for each member of their group.
+/// Of each pair of ranks it has the count that the other rank's calls are compared with: so a start and a wait
+/// look at one count for each member of their group.
 #[derive(Debug, Drop)]
 pub(crate) struct Side {
     pub(crate) posts: u32,
