@@ -1,0 +1,3 @@
+pub mod RankMasks
+pub mod TargetLocks
+pub mod TableLocks

@@ -1,0 +1,2 @@
+-- What a table of locks shows of itself.
+pub mod HeldLocks

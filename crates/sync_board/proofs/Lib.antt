@@ -1,0 +1,7 @@
+pub mod OneMore
+pub mod SideSteps
+pub mod Groups
+pub mod Entered
+pub mod Matched
+pub mod RoundSteps
+pub mod Differs

@@ -1,0 +1,6 @@
+use Rattle.std.proofs.Common.{◌≡◌, ℕ, ◌<◌, get_or, true, false}
+use Rattle.sync_board.specs.Sides.{AllKept, Done, has_complete_of}
+use Rattle.sync_board.proofs.matches.has_completes.Given as goal
+
+abbrev pub invariant-loop-member : goal.invariant-loop-member
+invariant-loop-member l = (done_of : ℕ → Done) (k : ℕ) → AllKept done_of l.sides → k < l.member → get_or l.group k false ≡ true → has_complete_of done_of l.rank k ≡ true

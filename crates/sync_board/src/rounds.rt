@@ -1,0 +1,169 @@
+//! The rounds of collective calls on one window (MPI 3.1, sections 11.2.1 and 11.5.1).
+ghost use Rattle.std.specs.Prelude.{◌≡◌, ℕ, ◌<◌, not, List, length, Some, OnOk, OnErr};
+ghost use Rattle.std.specs.List.{list_any};
+ghost use Rattle.rma_types.specs.declared.calls.Call.{Call};
+ghost use Rattle.rank_rules.specs.Windows.{is_same_flavor};
+ghost use Rattle.board_rules.specs.Entries.{collective_of};
+ghost use Rattle.board_rules.specs.Questions.{Question};
+ghost use Rattle.board_rules.specs.Rounds.{all_arrived, do_asserts_differ, has_other_asserts, has_other_flavor, is_differing_creation, is_differing_fence};
+ghost use Rattle.sync_board.specs.Sides.{Done, done_at};
+ghost use Rattle.sync_board.specs.Rounds.{AllRounds, HasRounds, arrival_in, arrivals_by, asserts_in, collective_by, flavor_in, with_creation, with_fence, with_free};
+
+use rma_types::{Asserts, Flavor, NoMemory};
+use std::alloc::Global;
+
+/// Which collective calls on a window are meant: its creations, frees or fences.
+#[derive(Clone, Copy, Debug)]
+pub(crate) enum Kind {
+    Creation,
+    Freeing,
+    Fence,
+}
+
+/// The rounds in which one rank has arrived on one window: the flavors of its creations, the number of its frees,
+/// and the assertions of its fences.
+#[derive(Debug, Drop)]
+pub(crate) struct Rounds {
+    pub(crate) created: Vec<Flavor>,
+    pub(crate) freed: u32,
+    pub(crate) fences: Vec<Asserts>,
+}
+
+/// Two fences of one round differ in noprecede or nosucceed (MPI 3.1, section 11.5.5).
+fn do_differ(a: Asserts, b: Asserts) -> bool
+    ensures { result ≡ do_asserts_differ a b }
+{
+    a.noprecede != b.noprecede || a.nosucceed != b.nosucceed
+}
+
+fn is_other(a: Flavor, b: Flavor) -> bool
+    ensures { result ≡ not (is_same_flavor a b) }
+{
+    a != b
+}
+
+impl Rounds {
+    /// A rank that has arrived nowhere.
+    pub(crate) fn new(alloc: Global) -> Rounds {
+        Rounds {
+            created: Vec::new(alloc),
+            freed: 0,
+            fences: Vec::new(alloc),
+        }
+    }
+
+    /// How often the rank has arrived.
+    fn begun(&self, kind: Kind) -> usize
+        ensures { (d : Done) → HasRounds d self.now → result ≡ length (arrivals_by kind d) }
+    {
+        match kind {
+            Kind::Creation => self.created.len(),
+            Kind::Freeing => self.freed as usize,
+            Kind::Fence => self.fences.len(),
+        }
+    }
+
+    /// The rank has arrived at the fence of the round with other assertions (MPI 3.1, section 11.5.5).
+    fn fence_differs(&self, round: usize, asserts: Asserts) -> bool
+        ensures { (d : Done) → HasRounds d self.now →
+            result ≡ list_any (is_differing_fence asserts) (arrival_in d.fences round) }
+    {
+        match self.fences.get(round) {
+            Some(other) => do_differ(asserts, *other),
+            None => false,
+        }
+    }
+
+    /// The rank has arrived at the creation of the round with another flavor.
+    fn creation_differs(&self, round: usize, flavor: Flavor) -> bool
+        ensures { (d : Done) → HasRounds d self.now →
+            result ≡ list_any (is_differing_creation flavor) (arrival_in d.creations round) }
+    {
+        match self.created.get(round) {
+            Some(other) => is_other(flavor, *other),
+            None => false,
+        }
+    }
+
+    /// One arrival more at the window's creation.
+    pub(crate) fn create(&mut self, flavor: Flavor) -> Result<(), NoMemory>
+        ensures ok { OnOk result ((d : Done) (call : Call) →
+            flavor_in call ≡ Some flavor → HasRounds d self.old → HasRounds (with_creation d call) self.new) }
+        ensures err { OnErr result ((d : Done) → HasRounds d self.old → HasRounds d self.new) }
+    {
+        match self.created.push(flavor) {
+            Ok(()) => Ok(()),
+            Err(_) => Err(NoMemory),
+        }
+    }
+
+    /// One arrival more at a free.
+    pub(crate) fn free(&mut self) -> Result<(), NoMemory>
+        ensures ok { OnOk result ((d : Done) (call : Call) → HasRounds d self.old → HasRounds (with_free d call) self.new) }
+        ensures err { OnErr result ((d : Done) → HasRounds d self.old → HasRounds d self.new) }
+    {
+        self.freed = self.freed.checked_add(1).ok_or(NoMemory)?;
+        Ok(())
+    }
+
+    /// One arrival more at a fence.
+    pub(crate) fn fence(&mut self, asserts: Asserts) -> Result<(), NoMemory>
+        ensures ok { OnOk result ((d : Done) (call : Call) →
+            asserts_in call ≡ Some asserts → HasRounds d self.old → HasRounds (with_fence d call) self.new) }
+        ensures err { OnErr result ((d : Done) → HasRounds d self.old → HasRounds d self.new) }
+    {
+        match self.fences.push(asserts) {
+            Ok(()) => Ok(()),
+            Err(_) => Err(NoMemory),
+        }
+    }
+}
+
+/// Every rank has arrived at the collective calls of the kind as often as this one.
+pub(crate) fn have_all_arrived(table: &[Rounds], kind: Kind, rank: usize) -> bool
+    requires { rank < length table.now }
+    ensures { (q : Question) → q.rank ≡ rank → q.ranks ≡ length table.now →
+        collective_of q.call ≡ Some (collective_by kind) → AllRounds (length table.now) (done_at q) table.now →
+        result ≡ all_arrived q }
+{
+    let begun = table[rank].begun(kind);
+    for rounds in table {
+        let arrived = rounds.begun(kind);
+        if arrived < begun {
+            return false;
+        }
+    }
+    true
+}
+
+/// A rank has arrived at the next fence of this one with other assertions.
+pub(crate) fn has_other_fence(table: &[Rounds], rank: usize, asserts: Asserts) -> bool
+    requires { rank < length table.now }
+    ensures { (q : Question) → q.rank ≡ rank → q.ranks ≡ length table.now →
+        collective_of q.call ≡ Some (collective_by Kind.Fence) → AllRounds (length table.now) (done_at q) table.now →
+        result ≡ has_other_asserts q asserts }
+{
+    let round = table[rank].begun(Kind::Fence);
+    for rounds in table {
+        if rounds.fence_differs(round, asserts) {
+            return true;
+        }
+    }
+    false
+}
+
+/// A rank has arrived at this creation with another flavor.
+pub(crate) fn has_other_creation(table: &[Rounds], rank: usize, flavor: Flavor) -> bool
+    requires { rank < length table.now }
+    ensures { (q : Question) → q.rank ≡ rank → q.ranks ≡ length table.now →
+        collective_of q.call ≡ Some (collective_by Kind.Creation) → AllRounds (length table.now) (done_at q) table.now →
+        result ≡ has_other_flavor q flavor }
+{
+    let round = table[rank].begun(Kind::Creation);
+    for rounds in table {
+        if rounds.creation_differs(round, flavor) {
+            return true;
+        }
+    }
+    false
+}
