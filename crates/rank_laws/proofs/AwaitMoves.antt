@@ -25,7 +25,8 @@ use Rattle.rank_laws.proofs.Touching.{touches_own, touches_of_own}
 use Rattle.rank_laws.proofs.TouchMoves.{KeepsTouches, touches_kept}
 use Rattle.rank_rules.specs.Courses.{Course, OneNull, OneIssue, LookUpAndIssue, OneFlush, OneRequest, ArriveAndLeave, EntryOrTested, OneEntry}
 use Rattle.rank_rules.specs.Knowledge.{Knowledge}
-use Rattle.rank_rules.specs.Pending.{PendingAccess, must_wait, way}
+use Rattle.rank_rules.specs.Pending.{must_wait, way}
+use Rattle.rank_rules.specs.declared.pending.PendingAccess.{PendingAccess}
 use Rattle.rank_rules.specs.Requests.{LiveRequest}
 use Rattle.step_runs.specs.Agents.{Agent, kept}
 use Rattle.step_runs.specs.BoardSteps.{next_row}

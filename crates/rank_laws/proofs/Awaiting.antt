@@ -19,7 +19,7 @@ use Rattle.lawful_runs.specs.TouchLaw.{IsTouchedWhole, issued_in, is_awaiting, w
 use Rattle.rank_laws.proofs.Lists.{each_of, place_in, get_front, get_rest}
 use Rattle.rank_laws.proofs.Touching.{IsTouchOf, each_issued, issued_inside}
 use Rattle.rank_rules.specs.Knowledge.{Knowledge, learn, known_after_number, known_after_call, accepted_by}
-use Rattle.rank_rules.specs.Pending.{PendingAccess}
+use Rattle.rank_rules.specs.declared.pending.PendingAccess.{PendingAccess}
 use Rattle.rank_rules.specs.Requests.{LiveRequest, requests_after}
 
 -- a rank of a run with these entries

@@ -28,7 +28,7 @@ use Rattle.rank_laws.proofs.Touching.{issued_still}
 use Rattle.rank_laws.proofs.TouchMoves.{KeepsTouches, touches_kept, plain_by_course, made_by, made_is}
 use Rattle.rank_laws.specs.Deliveries.{place_after, AreTouches, AreTouchesOf}
 use Rattle.rank_laws.specs.Fronts.{Lows, AreAtMost}
-use Rattle.rank_rules.specs.Pending.{PendingAccess}
+use Rattle.rank_rules.specs.declared.pending.PendingAccess.{PendingAccess}
 use Rattle.step_runs.specs.Agents.{Agent}
 
 -- of two touches on one cell the first is before the second

@@ -25,7 +25,8 @@ use Rattle.rank_laws.specs.Fronts.{Lows, AreAtMost}
 use Rattle.rank_laws.specs.Lives.{IsMade}
 use Rattle.rank_rules.specs.Courses.{Course, OneNull, OneIssue, LookUpAndIssue, OneFlush, OneRequest, ArriveAndLeave, EntryOrTested, OneEntry, access_of}
 use Rattle.rank_rules.specs.Knowledge.{own_class}
-use Rattle.rank_rules.specs.Pending.{PendingAccess, way, first_in_way, must_wait}
+use Rattle.rank_rules.specs.Pending.{way, first_in_way, must_wait}
+use Rattle.rank_rules.specs.declared.pending.PendingAccess.{PendingAccess}
 use Rattle.step_runs.specs.Agents.{Agent, next_call, has_pending, must_draw, is_seeded, awaited_by, kept}
 use Rattle.step_runs.specs.DataSteps.{no_shapes, just_delivers, without_delivery, with_item, with_issue, is_at_once, issue_of, issue, draw, first_item, wait_or_go_on, judge, begin, go_on, end, move_of}
 use Rattle.step_runs.specs.Generator.{stirred, drawn_from}

@@ -26,7 +26,7 @@ use Rattle.rank_laws.proofs.Touching.{IsTouchOf, touches_own, touches_of_own, to
 use Rattle.rank_laws.proofs.TouchMoves.{KeepsTouches, touches_kept, plain_by_course, made_by, made_is, made_elements}
 use Rattle.rank_laws.specs.Deliveries.{AreTouches}
 use Rattle.rank_laws.specs.Fronts.{Lows}
-use Rattle.rank_rules.specs.Pending.{PendingAccess}
+use Rattle.rank_rules.specs.declared.pending.PendingAccess.{PendingAccess}
 use Rattle.step_runs.specs.Agents.{Agent}
 use Rattle.step_runs.specs.DataSteps.{is_at_once}
 

@@ -16,7 +16,7 @@ use Rattle.rank_laws.proofs.Touching.{IsTouchOf, touches_own, touches_of_own}
 use Rattle.rank_laws.specs.Lawful.{AssembledRunsEndAlike}
 
 use Rattle.rank_rules.specs.Courses.{Course, OneNull, OneIssue, LookUpAndIssue, OneFlush, OneRequest, ArriveAndLeave, EntryOrTested, OneEntry}
-use Rattle.rank_rules.specs.Pending.{PendingAccess}
+use Rattle.rank_rules.specs.declared.pending.PendingAccess.{PendingAccess}
 use Rattle.step_runs.specs.Agents.{Agent, next_call}
 
 -- ---- the end of a log

@@ -14,7 +14,7 @@ use Rattle.rank_laws.proofs.Ways.{first_is_free}
 use Rattle.rank_laws.specs.Deliveries.{IsDelivered}
 use Rattle.rank_laws.specs.Fronts.{Lows, first_lows, Put, rows_put, AreOthers}
 use Rattle.rank_laws.specs.Lives.{LooksAfter, Lives, Begins as BeginsLife, Looks, Steps, Stops, Drains, Stays as StaysDry, Drained, HasLived}
-use Rattle.rank_rules.specs.Pending.{PendingAccess}
+use Rattle.rank_rules.specs.declared.pending.PendingAccess.{PendingAccess}
 use Rattle.step_runs.specs.Agents.{Agent, new_agent, next_call, begins_with_entry}
 use Rattle.step_runs.specs.BoardSteps.{board_step}
 

@@ -19,7 +19,8 @@ use Rattle.rank_laws.specs.Deliveries.{AreTouches, AreTouchesOf, delivered}
 use Rattle.rank_laws.specs.Fronts.{Lows, AreAtMost}
 use Rattle.rank_rules.specs.Courses.{Course, OneNull, OneIssue, LookUpAndIssue, OneFlush, OneRequest, ArriveAndLeave, EntryOrTested, OneEntry, course_of, has_entry, access_of}
 use Rattle.rank_rules.specs.Knowledge.{own_class}
-use Rattle.rank_rules.specs.Pending.{PendingAccess, first_in_way}
+use Rattle.rank_rules.specs.Pending.{first_in_way}
+use Rattle.rank_rules.specs.declared.pending.PendingAccess.{PendingAccess}
 use Rattle.step_runs.specs.Agents.{Agent, next_call, kept, finished, opened, is_seeded, awaited_by}
 use Rattle.step_runs.specs.BoardSteps.{AtBoard, next_row, entered, turned_away}
 use Rattle.step_runs.specs.DataSteps.{no_shapes, with_item, is_at_once, with_issue}

@@ -12,7 +12,8 @@ use Rattle.lawful_runs.specs.Items.{is_touch}
 use Rattle.lawful_runs.specs.TouchLaw.{touched_by, elements_from, issues_touched}
 use Rattle.rank_laws.proofs.Lists.{each_turned, each_with, each_at, each_append, each_left, pair_joined, pair_alike, pair_left, pair_within, Among, among_left, among_rest, others_apart, smaller_before, get_rest}
 use Rattle.rank_laws.proofs.Touching.{IsTouchOf, touched_by_other, touched_joined, touched_plain, touched_past, issues_joined, issues_plain, issues_of_touches, made_at, issued_inside, issued_front, issued_still, issued_before_touches, issued_push}
-use Rattle.rank_rules.specs.Pending.{PendingAccess, gives_way}
+use Rattle.rank_rules.specs.Pending.{gives_way}
+use Rattle.rank_rules.specs.declared.pending.PendingAccess.{PendingAccess}
 
 -- the elements of an access
 abbrev pub elements_of : Layout → List Call → PendingAccess → List (ℕ × ℕ)

@@ -22,7 +22,7 @@ use Rattle.rank_laws.proofs.TouchMoves.{KeepsTouches}
 use Rattle.rank_laws.specs.Fronts.{Put}
 use Rattle.rank_laws.specs.Lawful.{HasLawfulTouches}
 use Rattle.rank_laws.specs.Lives.{HasLived}
-use Rattle.rank_rules.specs.Pending.{PendingAccess}
+use Rattle.rank_rules.specs.declared.pending.PendingAccess.{PendingAccess}
 use Rattle.step_runs.specs.Agents.{Agent, new_agent}
 use Rattle.step_runs.specs.DataSteps.{is_at_once}
 

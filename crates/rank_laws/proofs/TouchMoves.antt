@@ -28,7 +28,8 @@ use Rattle.rank_laws.proofs.Touching.{touches_own, touches_of_own, touches_eleme
 use Rattle.rank_laws.specs.Deliveries.{AreTouches}
 use Rattle.rank_laws.specs.Fronts.{Lows}
 use Rattle.rank_rules.specs.Courses.{Course, OneNull, OneIssue, LookUpAndIssue, OneFlush, OneRequest, ArriveAndLeave, EntryOrTested, OneEntry}
-use Rattle.rank_rules.specs.Pending.{PendingAccess, gives_way, first_in_way}
+use Rattle.rank_rules.specs.Pending.{gives_way, first_in_way}
+use Rattle.rank_rules.specs.declared.pending.PendingAccess.{PendingAccess}
 use Rattle.step_runs.specs.Agents.{Agent}
 use Rattle.step_runs.specs.DataSteps.{is_at_once}
 

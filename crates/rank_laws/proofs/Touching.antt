@@ -19,7 +19,7 @@ use Rattle.lawful_runs.specs.TouchLaw.{touch_of, touched_by, elements_from, issu
 use Rattle.rank_laws.proofs.Lists.{each_append, place_in, get_front, get_rest, each_at}
 use Rattle.rank_laws.specs.Deliveries.{AreTouches, AreTouchesOf}
 use Rattle.rank_laws.specs.Fronts.{Lows}
-use Rattle.rank_rules.specs.Pending.{PendingAccess}
+use Rattle.rank_rules.specs.declared.pending.PendingAccess.{PendingAccess}
 
 -- the item is a touch of the Issue with this index
 abbrev pub IsTouchOf : ℕ → Item → Type 0

@@ -4,7 +4,8 @@ use Rattle.std.specs.Prelude.{slice_get, nat_lt}
 use Rattle.std.specs.List.{position, position_or_len}
 use Rattle.std.specs.Option.{option_map_or}
 use Rattle.std.proofs.lemmas.Bool.{ltb-true}
-use Rattle.rank_rules.specs.Pending.{PendingAccess, gives_way, first_in_way, way_in, way}
+use Rattle.rank_rules.specs.Pending.{gives_way, first_in_way, way_in, way}
+use Rattle.rank_rules.specs.declared.pending.PendingAccess.{PendingAccess}
 
 -- a place is within its list
 pub position_within : {X : Type 0} (test : X → Bool) (xs : List X) (at : ℕ) → position test xs ≡ Some at →

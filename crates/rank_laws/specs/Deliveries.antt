@@ -10,7 +10,7 @@ use Rattle.call_rules.specs.Pieces.{pieces}
 use Rattle.call_rules.specs.Transfers.{change_of}
 use Rattle.lawful_runs.specs.Accesses.{transfer_at}
 use Rattle.lawful_runs.specs.Stages.{Stage, calls_at}
-use Rattle.rank_rules.specs.Pending.{PendingAccess}
+use Rattle.rank_rules.specs.declared.pending.PendingAccess.{PendingAccess}
 use Rattle.rank_laws.specs.Fronts.{Lows, AreAtMost}
 use Rattle.step_runs.specs.Agents.{Agent}
 
