@@ -27,7 +27,7 @@ use Rattle.rank_rules.specs.Courses.{Course, OneNull, OneIssue, LookUpAndIssue, 
 use Rattle.rank_rules.specs.Knowledge.{Knowledge}
 use Rattle.rank_rules.specs.Pending.{must_wait, way}
 use Rattle.rank_rules.specs.declared.pending.PendingAccess.{PendingAccess}
-use Rattle.rank_rules.specs.Requests.{LiveRequest}
+use Rattle.rank_rules.specs.Requests.{Requests}
 use Rattle.step_runs.specs.Agents.{Agent, kept}
 use Rattle.step_runs.specs.BoardSteps.{next_row}
 use Rattle.step_runs.specs.DataSteps.{no_shapes}
@@ -89,7 +89,7 @@ begins_awaited stage agent call item begins h ended number rows one e waits =
             (slice_get (calls_here here) agent.at) false) awaits
 
     must : must_wait agent.known.requests call one ≡ true
-    must = ap (λ (r : List LiveRequest). must_wait r call one) (sym (h.requests rows)) ∙ at_call
+    must = ap (λ (r : Requests). must_wait r call one) (sym (h.requests rows)) ∙ at_call
 
     none_found : (o : Option ℕ) → option_map_or (λ at. Some (way agent.pending at)) o None ≡ None → o ≡ None
     none_found None k = refl

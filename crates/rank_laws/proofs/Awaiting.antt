@@ -20,7 +20,7 @@ use Rattle.rank_laws.proofs.Lists.{each_of, place_in, get_front, get_rest}
 use Rattle.rank_laws.proofs.Touching.{IsTouchOf, each_issued, issued_inside}
 use Rattle.rank_rules.specs.Knowledge.{Knowledge, learn, known_after_number, known_after_call, accepted_by}
 use Rattle.rank_rules.specs.declared.pending.PendingAccess.{PendingAccess}
-use Rattle.rank_rules.specs.Requests.{LiveRequest, requests_after}
+use Rattle.rank_rules.specs.Requests.{Requests, requests_after}
 
 -- a rank of a run with these entries
 abbrev pub rank_of : Stage → ℕ → List Row → RankOfRun
@@ -34,7 +34,7 @@ requests_by_number : (s other : ℕ → List Part) (calls : List Call) (a b : Kn
         (option_map_or (known_after_call other b number) o b).requests
 requests_by_number s other calls a b number None e = e
 requests_by_number s other calls a b number (Some call) e = ap
-    (λ (r : List LiveRequest). requests_after r number (action_of call)) e
+    (λ (r : Requests). requests_after r number (action_of call)) e
 
 requests_by_item : (s other : ℕ → List Part) (calls : List Call) (a b : Knowledge) (o : Option ℕ) →
     a.requests ≡ b.requests →
