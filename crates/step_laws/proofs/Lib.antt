@@ -1,0 +1,14 @@
+-- The proofs.
+mod Lists
+mod Picks
+mod OwnTests
+mod EntryMoves
+mod Weights
+mod BoardWeights
+mod DataWeights
+mod DataBegun
+mod Turns
+mod Ending
+mod Bound
+mod Draining
+mod Memory
