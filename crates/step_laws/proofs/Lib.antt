@@ -12,3 +12,6 @@ mod Ending
 mod Bound
 mod Draining
 mod Memory
+mod OwnRoom
+mod Creations
+mod Flavors
