@@ -214,7 +214,7 @@ none_of_part test f first (suc count) n e low high = number_among (λ k. list_an
 
 -- ---- one flavor
 
-same_flavor : (a b : Flavor) → is_same_flavor a b ≡ true → a ≡ b
+pub same_flavor : (a b : Flavor) → is_same_flavor a b ≡ true → a ≡ b
 same_flavor Allocate Allocate e = refl
 same_flavor Allocate Create e = absurd (cc e)
 same_flavor Allocate Dynamic e = absurd (cc e)
@@ -295,7 +295,7 @@ arrivals_are script rows row creation rank makes =
     (collective_creation (action_of row.call) creation (creates_it row.call creation makes))
 
 -- an entry that begins to create the same window makes it of the same flavor
-same_as_new : (script : Script) (rows : List Row) (row : Row) (creation : Creation) → AreRegular script rows → begins_window row ≡ true → creation_of row.call ≡ Some creation →
+pub same_as_new : (script : Script) (rows : List Row) (row : Row) (creation : Creation) → AreRegular script rows → begins_window row ≡ true → creation_of row.call ≡ Some creation →
     creation.win < 32 → row.step ≡ Arrive → decide script.ranks rows row ≡ Allow → AllByRecursion (MakesWith creation.flavor (window_of rows row)) (acts rows)
 same_as_new script rows row creation regular begins makes small step allowed =
     each_weaker (λ act. IsSoundAct script act × (MakesWith flavor.0 window act × ((test : Act → Bool) → test act ≡ true → list_any test (acts rows) ≡ true)))

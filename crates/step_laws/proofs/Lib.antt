@@ -15,3 +15,7 @@ mod Memory
 mod OwnRoom
 mod Creations
 mod Flavors
+mod Sound
+mod SoundEntries
+mod SoundSteps
+mod SoundRuns

@@ -1,6 +1,6 @@
 -- Facts of the elements of lists.
 use Rattle.std.proofs.Common.{◌≡◌, ℕ, zero, suc, ◌+◌, ◌<◌, ◌≤◌, inl, inr, Bool, true, false, cond, List, [], ◌∷◌, ◌++◌, length, get_or, take, drop, Option, Some, None, refl, sym, subst, arith, get_or-set_same, get_or-set_other}
-use Rattle.std.specs.Prelude.{map, slice_get, slice_set, reverse}
+use Rattle.std.specs.Prelude.{map, slice_get, slice_set, reverse, remove}
 use Rattle.std.specs.List.{filter, find, AllByRecursion}
 use Rattle.std.specs.Option.{option_map_or}
 use Rattle.std.proofs.lemmas.Bool.Decides.{eqb_tells}
@@ -72,6 +72,15 @@ pub each_get : {X : Type 0} (P : X → Type 0) (xs : List X) (i : ℕ) (x : X) �
 each_get P [] i x h e = absurd (cc e)
 each_get P (y ∷ ys) zero x h e = let is : y ≡ x = cc e in subst P is h.0
 each_get P (y ∷ ys) (suc i) x h e = each_get P ys i x h.1 e
+
+-- an element of a list that goes on
+pub get_append : {X : Type 0} (xs ys : List X) (i : ℕ) (x : X) → slice_get xs i ≡ Some x → slice_get (xs ++ ys) i ≡ Some x
+get_append [] ys i x e = absurd (cc e)
+get_append (y ∷ xs) ys zero x e = e
+get_append (y ∷ xs) ys (suc i) x e = get_append xs ys i x e
+
+pub each_removed : {X : Type 0} (P : X → Type 0) (xs : List X) (i : ℕ) → AllByRecursion P xs → AllByRecursion P (remove xs i)
+each_removed P xs i h = each_append P (take i xs) (drop (suc i) xs) (each_take P i xs h) (each_drop P (suc i) xs h)
 
 pub each_get_or : {X : Type 0} (P : X → Type 0) (xs : List X) (i : ℕ) (d : X) → P d → AllByRecursion P xs → P (get_or xs i d)
 each_get_or P [] i d default h = default
