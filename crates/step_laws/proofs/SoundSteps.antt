@@ -133,7 +133,7 @@ issue_sound script delay rank agent rows call sound here lies = by_transfer (tra
         finished_sound script delay rank agent (with_issue stage agent (access_on known t window) t) rows sound refl
         (learnt_windows (calls_at stage agent.rank) agent.known agent.at call here left.windows) refl (none_begun stage agent call here left.names)
         (issued_pending script rank agent (access_on known t window) t sound.pending
-        (t, (ap (λ r. transfer_at (calls_of script r) agent.at) (sym sound.mine) ∙ ap (λ o. option_map_or transfer_of o None) here ∙ moves, lies t moves window live)))
+        (t, ap (λ r. transfer_at (calls_of script r) agent.at) (sym sound.mine) ∙ ap (λ o. option_map_or transfer_of o None) here ∙ moves, lies t moves window live))
 
     by_window : (t : Transfer) → transfer_of call ≡ Some t → (o : Option Window) → window_of_name known t.win ≡ o →
         IsSoundRank script delay rank (option_map_or (issue_of stage agent t) (option_map_or (λ window. Some (access_on known t window)) o None) (without_delivery agent)).agent rows
