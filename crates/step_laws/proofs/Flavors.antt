@@ -250,10 +250,11 @@ meets_no_other script rows row creation step makes allowed =
 -- each element is found by a test that it passes
 each_is_found : {X : Type 0} (xs : List X) → AllByRecursion (λ x. (test : X → Bool) → test x ≡ true → list_any test xs ≡ true) xs
 each_is_found [] = tt
-each_is_found {X} (y ∷ ys) =
-    (λ test e. or_left (test y) (list_any test ys) e,
-    each_weaker (λ x. (test : X → Bool) → test x ≡ true → list_any test ys ≡ true) (λ x. (test : X → Bool) → test x ≡ true → (test y || list_any test ys) ≡ true)
-    (λ x h test e. or_right (test y) (list_any test ys) (h test e)) ys (each_is_found ys))
+each_is_found {X} (y ∷ ys) = (
+  λ test e. or_left (test y) (list_any test ys) e,
+  each_weaker (λ x. (test : X → Bool) → test x ≡ true → list_any test ys ≡ true) (λ x. (test : X → Bool) → test x ≡ true → (test y || list_any test ys) ≡ true)
+      (λ x h test e. or_right (test y) (list_any test ys) (h test e)) ys (each_is_found ys),
+)
 
 -- two facts of each element
 both_of_each : {X : Type 0} (P Q : X → Type 0) (xs : List X) → AllByRecursion P xs → AllByRecursion Q xs → AllByRecursion (λ x. P x × Q x) xs

@@ -276,12 +276,24 @@ delivery_sound script delay rank agent rows cells at sound = by_access (slice_ge
     by_transfer : (one : PendingAccess) (o : Option Transfer) →
         IsSoundRank script delay rank (option_map_or (with_touches stage rest cells one) o (record { agent = rest; cells = cells })).agent rows
     by_transfer one None = record {
-      mine = sound.mine; whose = sound.whose; space = sound.space; roomy = sound.roomy; numbers = sound.numbers;
-      arrived = sound.arrived; looked = sound.looked; pending = removed;
+      mine = sound.mine;
+      whose = sound.whose;
+      space = sound.space;
+      roomy = sound.roomy;
+      numbers = sound.numbers;
+      arrived = sound.arrived;
+      looked = sound.looked;
+      pending = removed;
     }
     by_transfer one (Some t) = record {
-      mine = sound.mine; whose = sound.whose; space = sound.space; roomy = sound.roomy; numbers = sound.numbers;
-      arrived = sound.arrived; looked = sound.looked; pending = removed;
+      mine = sound.mine;
+      whose = sound.whose;
+      space = sound.space;
+      roomy = sound.roomy;
+      numbers = sound.numbers;
+      arrived = sound.arrived;
+      looked = sound.looked;
+      pending = removed;
     }
 
     by_access : (o : Option PendingAccess) → IsSoundRank script delay rank (option_map_or (with_delivery stage agent cells at) o (record { agent = agent; cells = cells })).agent rows

@@ -103,8 +103,8 @@ regular_at_board stage world rank may tries regular =
     record {
       ranks = length-set world.agents rank step.agent ∙ regular.ranks;
       begun = each_set (λ _ (a : Agent). HasBegun stage a) world.agents (new_agent stage 0) rank step.agent
-      (moves_keep stage (λ a rows. HasBegun stage a) (λ a next rows now old move. begun_kept stage a next rows now move)
-      agent step.agent world.rows step.rows (regular.begun rank) (board_step_moves stage agent world.rows (regular.begun rank) tries)) regular.begun;
+          (moves_keep stage (λ a rows. HasBegun stage a) (λ a next rows now old move. begun_kept stage a next rows now move)
+          agent step.agent world.rows step.rows (regular.begun rank) (board_step_moves stage agent world.rows (regular.begun rank) tries)) regular.begun;
     }
 
 pub regular_on_memory : (stage : Stage) → KeptOnMemory stage (IsRegular stage)
@@ -114,7 +114,7 @@ regular_on_memory stage world rank may tries regular =
     record {
       ranks = length-set world.agents rank step.agent ∙ regular.ranks;
       begun = each_set (λ _ (a : Agent). HasBegun stage a) world.agents (new_agent stage 0) rank step.agent
-      (data_begun stage agent world.cells (regular.begun rank)) regular.begun;
+          (data_begun stage agent world.cells (regular.begun rank)) regular.begun;
     }
 
 pub regular_turns : (stage : Stage) → KeptByTurns stage (IsRegular stage)
