@@ -19,12 +19,15 @@ use Rattle.step_laws.proofs.Weights.{with_delivery_is}
 
 -- a step that tries no entry finishes the call, or leaves it as it was
 abbrev pub IsAsBegun : Stage → Agent → Agent → Type 0
-IsAsBegun stage agent next = (next.entered ≡ false) ⊎ ((next.rank ≡ agent.rank) × (next.at ≡ agent.at) × (next.entered ≡ agent.entered) × (next.known ≡ agent.known))
+IsAsBegun stage agent next = (next.entered ≡ false) ⊎
+    ((next.rank ≡ agent.rank) × (next.at ≡ agent.at) × (next.entered ≡ agent.entered) × (next.known ≡ agent.known))
 
-as_begun : (stage : Stage) (agent next : Agent) → IsAsBegun stage agent next → HasBegun stage agent → HasBegun stage next
+as_begun : (stage : Stage) (agent next : Agent) → IsAsBegun stage agent next → HasBegun stage agent →
+    HasBegun stage next
 as_begun stage agent next (inl new) begun e call here = absurd (cc (e, new))
 as_begun stage agent next (inr (rank, at, entered, known)) begun e call here =
-    let before : next_call stage agent ≡ Some call = subst (λ r. slice_get (calls_at stage r) agent.at ≡ Some call) rank (subst (λ n. slice_get (calls_at stage next.rank) n ≡ Some call) at here) in
+    let before : next_call stage agent ≡ Some call = subst (λ r. slice_get (calls_at stage r) agent.at ≡ Some call)
+        rank (subst (λ n. slice_get (calls_at stage next.rank) n ≡ Some call) at here) in
     let old = begun (sym entered ∙ e) call before in
     record {
       allowed = ap (λ (k : Knowledge). own_class k call) known ∙ old.allowed;
@@ -34,16 +37,20 @@ as_begun stage agent next (inr (rank, at, entered, known)) begun e call here =
 issue_is : (stage : Stage) (agent : Agent) (call : Call) → IsAsBegun stage agent (issue stage agent call).agent
 issue_is stage agent call = by_transfer (transfer_of call)
   where
-    by_access : (t : Transfer) (o : Option Access) → IsAsBegun stage agent (option_map_or (issue_of stage agent t) o (without_delivery agent)).agent
+    by_access : (t : Transfer) (o : Option Access) → IsAsBegun stage agent
+        (option_map_or (issue_of stage agent t) o (without_delivery agent)).agent
     by_access t None = inr (refl, refl, refl, refl)
     by_access t (Some access) = inl refl
 
     by_transfer : (o : Option Transfer) →
-        IsAsBegun stage agent (option_map_or (λ t. option_map_or (issue_of stage agent t) (access_of agent.known.windows call) (without_delivery agent)) o (without_delivery agent)).agent
+        IsAsBegun stage agent
+            (option_map_or (λ t. option_map_or (issue_of stage agent t) (access_of agent.known.windows call)
+            (without_delivery agent)) o (without_delivery agent)).agent
     by_transfer None = inr (refl, refl, refl, refl)
     by_transfer (Some t) = by_access t (access_of agent.known.windows call)
 
-first_item_is : (course : Course) (stage : Stage) (agent : Agent) (call : Call) → IsAsBegun stage agent (first_item course stage agent call).agent
+first_item_is : (course : Course) (stage : Stage) (agent : Agent) (call : Call) →
+    IsAsBegun stage agent (first_item course stage agent call).agent
 first_item_is OneNull stage agent call = inl refl
 first_item_is OneIssue stage agent call = issue_is stage agent call
 first_item_is LookUpAndIssue stage agent call = inr (refl, refl, refl, refl)
@@ -64,23 +71,27 @@ begin_is stage agent call = by_draw (must_draw stage agent)
     by_class None = by_wait (awaited_by agent call)
     by_class (Some class) = inl refl
 
-    by_draw : (b : Bool) → IsAsBegun stage agent (cond b (draw agent) (judge (own_class agent.known call) stage agent call)).agent
+    by_draw : (b : Bool) → IsAsBegun stage agent
+        (cond b (draw agent) (judge (own_class agent.known call) stage agent call)).agent
     by_draw true = inr (refl, refl, refl, refl)
     by_draw false = by_class (own_class agent.known call)
 
 move_is : (stage : Stage) (agent : Agent) → IsAsBegun stage agent (move_of stage agent).agent
 move_is stage agent = by_call (next_call stage agent)
   where
-    by_ended : (b : Bool) → IsAsBegun stage agent (cond b (without_delivery agent) (without_delivery (ended_now stage agent))).agent
+    by_ended : (b : Bool) → IsAsBegun stage agent
+        (cond b (without_delivery agent) (without_delivery (ended_now stage agent))).agent
     by_ended true = inr (refl, refl, refl, refl)
     by_ended false = inr (refl, refl, refl, refl)
 
     by_pending : (b : Bool) → IsAsBegun stage agent
-        (cond b (just_delivers agent 0) (cond agent.ended (without_delivery agent) (without_delivery (ended_now stage agent)))).agent
+        (cond b (just_delivers agent 0)
+            (cond agent.ended (without_delivery agent) (without_delivery (ended_now stage agent)))).agent
     by_pending true = inr (refl, refl, refl, refl)
     by_pending false = by_ended agent.ended
 
-    by_entered : (b : Bool) (call : Call) → IsAsBegun stage agent (cond b (issue stage agent call) (begin stage agent call)).agent
+    by_entered : (b : Bool) (call : Call) → IsAsBegun stage agent
+        (cond b (issue stage agent call) (begin stage agent call)).agent
     by_entered true call = issue_is stage agent call
     by_entered false call = begin_is stage agent call
 
@@ -94,13 +105,16 @@ delivered_begun stage agent cells None begun = begun
 delivered_begun stage agent cells (Some at) begun = by_access (slice_get agent.pending at) refl
   where
     by_access : (o : Option PendingAccess) → slice_get agent.pending at ≡ o →
-        HasBegun stage (option_map_or (with_delivery stage agent cells at) o (record { agent = agent; cells = cells })).agent
+        HasBegun stage (option_map_or (with_delivery stage agent cells at) o
+            (record { agent = agent; cells = cells })).agent
     by_access None e = begun
     by_access (Some one) e =
         let is = (with_delivery_is stage agent cells at one).0 in
-        as_begun stage agent (with_delivery stage agent cells at one).agent (inr (is.rank, is.at, is.entered, is.known)) begun
+        as_begun stage agent (with_delivery stage agent cells at one).agent
+            (inr (is.rank, is.at, is.entered, is.known)) begun
 
-pub data_begun : (stage : Stage) (agent : Agent) (cells : List Cell) → HasBegun stage agent → HasBegun stage (data_step stage agent cells).agent
+pub data_begun : (stage : Stage) (agent : Agent) (cells : List Cell) → HasBegun stage agent →
+    HasBegun stage (data_step stage agent cells).agent
 data_begun stage agent cells begun =
     let move = move_of stage agent in
     delivered_begun stage move.agent cells move.delivers (as_begun stage agent move.agent (move_is stage agent) begun)

@@ -41,24 +41,31 @@ not_woken : (a b : Bool) → cond (a || b) 0 1 ≤ cond b 0 1
 not_woken true b = omega arith
 not_woken false b = omega arith
 
-awake_no_more : (rank : ℕ) (waiting : List ℕ) (first count : ℕ) → awake (rank ∷ waiting) first count ≤ awake waiting first count
+awake_no_more : (rank : ℕ) (waiting : List ℕ) (first count : ℕ) →
+    awake (rank ∷ waiting) first count ≤ awake waiting first count
 awake_no_more rank waiting first zero = omega arith
 awake_no_more rank waiting first (suc count) =
-    let rest = awake_no_more rank waiting (first + 1) count in let here = not_woken (rank == first) (is_member first waiting) in omega arith
+    let rest = awake_no_more rank waiting (first + 1) count in let here = not_woken (rank == first)
+        (is_member first waiting) in omega arith
 
 -- a rank that did not wait, and now does
-awake_less : (rank : ℕ) (asleep : List ℕ) (first count : ℕ) → first ≤ rank → rank < first + count → is_member rank asleep ≡ false →
+awake_less : (rank : ℕ) (asleep : List ℕ) (first count : ℕ) → first ≤ rank → rank < first + count →
+    is_member rank asleep ≡ false →
     awake (rank ∷ asleep) first count < awake asleep first count
 awake_less rank asleep first zero low high new = absurd (omega arith)
 awake_less rank asleep first (suc count) low high new =
     elim (eqb_tells rank first) [
       | inl same ↦
-          here_less (rank == first) (is_member first asleep) (awake (rank ∷ asleep) (first + 1) count) (awake asleep (first + 1) count)
-          (eq-eqb rank first same.1) (subst (λ n. is_member n asleep ≡ false) same.1 new) (awake_no_more rank asleep (first + 1) count)
+          here_less (rank == first) (is_member first asleep) (awake (rank ∷ asleep) (first + 1) count)
+              (awake asleep (first + 1) count)
+          (eq-eqb rank first same.1) (subst (λ n. is_member n asleep ≡ false) same.1 new)
+              (awake_no_more rank asleep (first + 1) count)
       | inr other ↦
           let ne = other.1 in
-          there_less (cond (rank == first || is_member first asleep) 0 1) (cond (is_member first asleep) 0 1) (awake (rank ∷ asleep) (first + 1) count) (awake asleep (first + 1) count)
-          (not_woken (rank == first) (is_member first asleep)) (awake_less rank asleep (first + 1) count (omega arith) (omega arith) new)
+          there_less (cond (rank == first || is_member first asleep) 0 1) (cond (is_member first asleep) 0 1)
+              (awake (rank ∷ asleep) (first + 1) count) (awake asleep (first + 1) count)
+          (not_woken (rank == first) (is_member first asleep))
+              (awake_less rank asleep (first + 1) count (omega arith) (omega arith) new)
     ]
   where
     here_less : (a b : Bool) (x y : ℕ) → a ≡ true → b ≡ false → x ≤ y → cond (a || b) 0 1 + x < cond b 0 1 + y
@@ -76,37 +83,49 @@ left_in stage world = sum_by (weight_of stage) world.agents + awake world.schedu
 
 -- one rank changes
 changed_sum : (stage : Stage) (world : World) (rank : ℕ) (agent : Agent) → rank < length world.agents →
-    sum_by (weight_of stage) (slice_set world.agents rank agent) + weight_of stage (agent_at stage world rank) ≡ sum_by (weight_of stage) world.agents + weight_of stage agent
-changed_sum stage world rank agent inside = sum_by-set (weight_of stage) world.agents rank agent (new_agent stage 0 rank) inside
+    sum_by (weight_of stage) (slice_set world.agents rank agent) + weight_of stage (agent_at stage world rank) ≡
+        sum_by (weight_of stage) world.agents + weight_of stage agent
+changed_sum stage world rank agent inside = sum_by-set (weight_of stage) world.agents rank agent
+    (new_agent stage 0 rank) inside
 
 -- a rank waits, and nothing else changes
-waits_lowers : (stage : Stage) (world : World) (rank : ℕ) → rank < length world.agents → rank < stage.script.ranks → is_member rank world.schedule.waiting ≡ false →
+waits_lowers : (stage : Stage) (world : World) (rank : ℕ) → rank < length world.agents → rank < stage.script.ranks →
+    is_member rank world.schedule.waiting ≡ false →
     left_in stage (turn_at_board world rank (waiting (agent_at stage world rank) world.rows)) < left_in stage world
 waits_lowers stage world rank inside few new =
-    lower (sum_by (weight_of stage) (slice_set world.agents rank (agent_at stage world rank))) (sum_by (weight_of stage) world.agents) (weight_of stage (agent_at stage world rank))
-    (awake (turn_at_board world rank (waiting (agent_at stage world rank) world.rows)).schedule.waiting 0 stage.script.ranks)
+    lower (sum_by (weight_of stage) (slice_set world.agents rank (agent_at stage world rank)))
+        (sum_by (weight_of stage) world.agents) (weight_of stage (agent_at stage world rank))
+    (awake (turn_at_board world rank (waiting (agent_at stage world rank) world.rows)).schedule.waiting 0
+        stage.script.ranks)
     (awake (rank ∷ world.schedule.waiting) 0 stage.script.ranks) (awake world.schedule.waiting 0 stage.script.ranks)
     (changed_sum stage world rank (agent_at stage world rank) inside)
-    (ap (λ b. awake (rank ∷ cond b [] world.schedule.waiting) 0 stage.script.ranks) (le-ltb (length world.rows) (length world.rows) (omega arith)))
+    (ap (λ b. awake (rank ∷ cond b [] world.schedule.waiting) 0 stage.script.ranks)
+        (le-ltb (length world.rows) (length world.rows) (omega arith)))
     (awake_less rank world.schedule.waiting 0 stage.script.ranks (omega arith) (omega arith) new)
   where
     lower : (s t w a b c : ℕ) → s + w ≡ t + w → a ≡ b → b < c → s + a < t + c
     lower s t w a b c e f h = omega arith
 
 -- less is left of a rank, by more than there are ranks
-far_lowers : (stage : Stage) (world : World) (rank : ℕ) (step : AtBoard) → rank < length world.agents → stage.script.ranks ≤ 16 →
-    FallsFar stage (agent_at stage world rank) step.agent → left_in stage (turn_at_board world rank step) < left_in stage world
+far_lowers : (stage : Stage) (world : World) (rank : ℕ) (step : AtBoard) → rank < length world.agents →
+    stage.script.ranks ≤ 16 →
+    FallsFar stage (agent_at stage world rank) step.agent → left_in stage (turn_at_board world rank step) < left_in
+        stage world
 far_lowers stage world rank step inside few falls =
     lower (sum_by (weight_of stage) (slice_set world.agents rank step.agent)) (sum_by (weight_of stage) world.agents)
     (weight_of stage (agent_at stage world rank)) (weight_of stage step.agent) stage.script.ranks
-    (awake (turn_at_board world rank step).schedule.waiting 0 stage.script.ranks) (awake world.schedule.waiting 0 stage.script.ranks)
-    (changed_sum stage world rank step.agent inside) falls few (awake_few (turn_at_board world rank step).schedule.waiting 0 stage.script.ranks)
+    (awake (turn_at_board world rank step).schedule.waiting 0 stage.script.ranks)
+        (awake world.schedule.waiting 0 stage.script.ranks)
+    (changed_sum stage world rank step.agent inside) falls few
+        (awake_few (turn_at_board world rank step).schedule.waiting 0 stage.script.ranks)
   where
     lower : (s t v w r a b : ℕ) → s + v ≡ t + w → w + 16 < v → r ≤ 16 → a ≤ r → s + a < t + b
     lower s t v w r a b e h k l = omega arith
 
-board_lowers : (stage : Stage) (world : World) (rank : ℕ) → IsRegular stage world → stage.script.ranks ≤ 16 → MayTurn stage world rank →
-    left_in stage (turn_at_board world rank (board_step stage (agent_at stage world rank) world.rows)) < left_in stage world
+board_lowers : (stage : Stage) (world : World) (rank : ℕ) → IsRegular stage world → stage.script.ranks ≤ 16 →
+    MayTurn stage world rank →
+    left_in stage (turn_at_board world rank (board_step stage (agent_at stage world rank) world.rows)) < left_in stage
+        world
 board_lowers stage world rank regular few may = by_step (board_step_falls stage agent world.rows)
   where
     agent : Agent
@@ -115,19 +134,25 @@ board_lowers stage world rank regular few may = by_step (board_step_falls stage 
     inside : rank < length world.agents
     inside = subst (λ n. rank < n) (sym regular.ranks) may.0
 
-    by_step : ((board_step stage agent world.rows ≡ waiting agent world.rows) ⊎ FallsFar stage agent (board_step stage agent world.rows).agent) →
+    by_step : ((board_step stage agent world.rows ≡ waiting agent world.rows) ⊎ FallsFar stage agent
+        (board_step stage agent world.rows).agent) →
         left_in stage (turn_at_board world rank (board_step stage agent world.rows)) < left_in stage world
-    by_step (inl waits) = subst (λ (step : AtBoard). left_in stage (turn_at_board world rank step) < left_in stage world) (sym waits)
+    by_step (inl waits) = subst
+        (λ (step : AtBoard). left_in stage (turn_at_board world rank step) < left_in stage world) (sym waits)
         (waits_lowers stage world rank inside may.0 (not_ended stage world rank may.1).1)
     by_step (inr falls) = far_lowers stage world rank (board_step stage agent world.rows) inside few falls
 
-memory_lowers : (stage : Stage) (world : World) (rank : ℕ) → IsRegular stage world → MayTurn stage world rank → tries_entry stage (agent_at stage world rank) ≡ false →
-    left_in stage (turn_on_memory world rank (data_step stage (agent_at stage world rank) world.cells)) < left_in stage world
+memory_lowers : (stage : Stage) (world : World) (rank : ℕ) → IsRegular stage world → MayTurn stage world rank →
+    tries_entry stage (agent_at stage world rank) ≡ false →
+    left_in stage (turn_on_memory world rank (data_step stage (agent_at stage world rank) world.cells)) < left_in
+        stage world
 memory_lowers stage world rank regular may tries =
     lower (sum_by (weight_of stage) (slice_set world.agents rank next)) (sum_by (weight_of stage) world.agents)
-    (weight_of stage (agent_at stage world rank)) (weight_of stage next) (awake world.schedule.waiting 0 stage.script.ranks)
+    (weight_of stage (agent_at stage world rank)) (weight_of stage next)
+        (awake world.schedule.waiting 0 stage.script.ranks)
     (changed_sum stage world rank next (subst (λ n. rank < n) (sym regular.ranks) may.0))
-    (data_step_falls stage (agent_at stage world rank) world.cells (regular.begun rank) (not_ended stage world rank may.1).0 tries)
+    (data_step_falls stage (agent_at stage world rank) world.cells (regular.begun rank)
+        (not_ended stage world rank may.1).0 tries)
   where
     next : Agent
     next = (data_step stage (agent_at stage world rank) world.cells).agent
@@ -135,7 +160,8 @@ memory_lowers stage world rank regular may tries =
     lower : (s t v w a : ℕ) → s + v ≡ t + w → w < v → s + a < t + a
     lower s t v w a e h = omega arith
 
-pub turn_lowers : (stage : Stage) (world : World) (rank : ℕ) → IsRegular stage world → stage.script.ranks ≤ 16 → MayTurn stage world rank →
+pub turn_lowers : (stage : Stage) (world : World) (rank : ℕ) → IsRegular stage world → stage.script.ranks ≤ 16 →
+    MayTurn stage world rank →
     left_in stage (turn stage world rank) < left_in stage world
 turn_lowers stage world rank regular few may = by_tries (tries_entry stage (agent_at stage world rank)) refl
   where
@@ -149,10 +175,12 @@ turn_lowers stage world rank regular few may = by_tries (tries_entry stage (agen
 abbrev pub NoneIsPicked : Stage → Order → World → Type 0
 NoneIsPicked stage order world = pick order (is_ready stage world) stage.script.ranks world.schedule ≡ None
 
-pub run_ends : (stage : Stage) (order : Order) (turns : ℕ) (world : World) → IsRegular stage world → stage.script.ranks ≤ 16 → left_in stage world ≤ turns →
+pub run_ends : (stage : Stage) (order : Order) (turns : ℕ) (world : World) → IsRegular stage world →
+    stage.script.ranks ≤ 16 → left_in stage world ≤ turns →
     NoneIsPicked stage order (run_from stage order turns world)
 run_ends stage order zero world regular few enough =
-    let go : (o : Option (ℕ × Schedule)) → pick order (is_ready stage world) stage.script.ranks world.schedule ≡ o → o ≡ None =
+    let go : (o : Option (ℕ × Schedule)) → pick order (is_ready stage world) stage.script.ranks world.schedule ≡ o →
+        o ≡ None =
     λ o. elim o as (λ o. pick order (is_ready stage world) stage.script.ranks world.schedule ≡ o → o ≡ None) [
       | None ↦ λ e. refl
       | Some next ↦ λ e.
@@ -162,8 +190,10 @@ run_ends stage order zero world regular few enough =
     go (pick order (is_ready stage world) stage.script.ranks world.schedule) refl
 run_ends stage order (suc turns) world regular few enough =
     let Goal : Option (ℕ × Schedule) → Type 0 =
-    λ o. NoneIsPicked stage order (option_map_or (λ picked. run_from stage order turns (picked_turn stage world picked)) o world) in
-    let go : (o : Option (ℕ × Schedule)) → pick order (is_ready stage world) stage.script.ranks world.schedule ≡ o → Goal o =
+    λ o. NoneIsPicked stage order
+        (option_map_or (λ picked. run_from stage order turns (picked_turn stage world picked)) o world) in
+    let go : (o : Option (ℕ × Schedule)) → pick order (is_ready stage world) stage.script.ranks world.schedule ≡ o →
+        Goal o =
     λ o. elim o as (λ o. pick order (is_ready stage world) stage.script.ranks world.schedule ≡ o → Goal o) [
       | None ↦ λ e. e
       | Some next ↦ λ e.
@@ -172,7 +202,8 @@ run_ends stage order (suc turns) world regular few enough =
           let may = picked_may_turn stage world next.1 next.0 is.1 is.0 in
           let regular_there = regular_picks stage world next.1 is.1 regular in
           let lower = turn_lowers stage there next.0 regular_there few may in
-          let same : left_in stage there ≡ left_in stage world = ap (λ waiting. sum_by (weight_of stage) world.agents + awake waiting 0 stage.script.ranks) is.1 in
+          let same : left_in stage there ≡ left_in stage world = ap
+              (λ waiting. sum_by (weight_of stage) world.agents + awake waiting 0 stage.script.ranks) is.1 in
           run_ends stage order turns (turn stage there next.0) (regular_turns stage there next.0 may regular_there) few
           (less (left_in stage (turn stage there next.0)) (left_in stage there) (left_in stage world) lower same enough)
     ] in

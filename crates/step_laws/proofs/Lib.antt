@@ -16,6 +16,8 @@ mod OwnRoom
 mod Creations
 mod Flavors
 mod Sound
+mod CallCourses
+mod LookUps
 mod SoundEntries
 mod SoundSteps
 mod SoundRuns

@@ -17,7 +17,8 @@ each_drop P zero xs h = h
 each_drop P (suc n) [] h = tt
 each_drop P (suc n) (x ∷ xs) h = each_drop P n xs h.1
 
-pub each_append : {X : Type 0} (P : X → Type 0) (xs ys : List X) → AllByRecursion P xs → AllByRecursion P ys → AllByRecursion P (xs ++ ys)
+pub each_append : {X : Type 0} (P : X → Type 0) (xs ys : List X) → AllByRecursion P xs → AllByRecursion P ys →
+    AllByRecursion P (xs ++ ys)
 each_append P [] ys h k = k
 each_append P (x ∷ xs) ys h k = (h.0, each_append P xs ys h.1 k)
 
@@ -29,7 +30,8 @@ pub each_back : {X : Type 0} (P : X → Type 0) (xs ys : List X) → AllByRecurs
 each_back P [] ys h = h
 each_back P (x ∷ xs) ys h = each_back P xs ys h.1
 
-pub each_of_parts : {X : Type 0} (P : X → Type 0) (n : ℕ) (xs : List X) → AllByRecursion P (take n xs) → AllByRecursion P (drop n xs) → AllByRecursion P xs
+pub each_of_parts : {X : Type 0} (P : X → Type 0) (n : ℕ) (xs : List X) → AllByRecursion P (take n xs) →
+    AllByRecursion P (drop n xs) → AllByRecursion P xs
 each_of_parts P zero xs h k = k
 each_of_parts P (suc n) [] h k = tt
 each_of_parts P (suc n) (x ∷ xs) h k = (h.0, each_of_parts P n xs h.1 k)
@@ -45,57 +47,70 @@ each_filter {X} P test (x ∷ xs) h =
     [ true ↦ λ e. ((h.0, e), rest) | false ↦ λ e. rest ] refl
 
 -- nothing passes where the filtered list is empty
-pub none_filter : {X : Type 0} (test : X → Bool) (xs : List X) → filter test xs ≡ [] → AllByRecursion (λ x. test x ≡ false) xs
+pub none_filter : {X : Type 0} (test : X → Bool) (xs : List X) → filter test xs ≡ [] →
+    AllByRecursion (λ x. test x ≡ false) xs
 none_filter test [] e = tt
 none_filter {X} test (x ∷ xs) e =
     let Q : X → Type 0 = λ y. test y ≡ false in
     let rest : filter test xs ≡ [] → AllByRecursion Q xs = none_filter test xs in
-    elim (test x) as (λ b. test x ≡ b → cond b (x ∷ filter test xs) (filter test xs) ≡ [] → (test x ≡ false) × AllByRecursion Q xs)
+    elim (test x) as (λ b. test x ≡ b → cond b (x ∷ filter test xs) (filter test xs) ≡ [] →
+        (test x ≡ false) × AllByRecursion Q xs)
     [ true ↦ λ t empty. absurd (cc empty) | false ↦ λ t empty. (t, rest empty) ] refl e
 
 -- what holds of the elements of a list holds of those that a test leaves
-pub each_kept : {X : Type 0} (P : X → Type 0) (test : X → Bool) (xs : List X) → AllByRecursion P xs → AllByRecursion P (filter test xs)
+pub each_kept : {X : Type 0} (P : X → Type 0) (test : X → Bool) (xs : List X) → AllByRecursion P xs →
+    AllByRecursion P (filter test xs)
 each_kept P test [] h = tt
 each_kept P test (x ∷ xs) h =
     let rest = each_kept P test xs h.1 in
-    elim (test x) as (λ b. AllByRecursion P (cond b (x ∷ filter test xs) (filter test xs))) [ true ↦ (h.0, rest) | false ↦ rest ]
+    elim (test x) as (λ b. AllByRecursion P (cond b (x ∷ filter test xs) (filter test xs)))
+        [ true ↦ (h.0, rest) | false ↦ rest ]
 
-pub each_mapped : {X Y : Type 0} (P : X → Type 0) (Q : Y → Type 0) (f : X → Y) → ((x : X) → P x → Q (f x)) → (xs : List X) → AllByRecursion P xs → AllByRecursion Q (map f xs)
+pub each_mapped : {X Y : Type 0} (P : X → Type 0) (Q : Y → Type 0) (f : X → Y) → ((x : X) → P x → Q (f x)) →
+    (xs : List X) → AllByRecursion P xs → AllByRecursion Q (map f xs)
 each_mapped P Q f keeps [] h = tt
 each_mapped P Q f keeps (x ∷ xs) h = (keeps x h.0, each_mapped P Q f keeps xs h.1)
 
-pub each_weaker : {X : Type 0} (P Q : X → Type 0) → ((x : X) → P x → Q x) → (xs : List X) → AllByRecursion P xs → AllByRecursion Q xs
+pub each_weaker : {X : Type 0} (P Q : X → Type 0) → ((x : X) → P x → Q x) → (xs : List X) → AllByRecursion P xs →
+    AllByRecursion Q xs
 each_weaker P Q keeps [] h = tt
 each_weaker P Q keeps (x ∷ xs) h = (keeps x h.0, each_weaker P Q keeps xs h.1)
 
-pub each_get : {X : Type 0} (P : X → Type 0) (xs : List X) (i : ℕ) (x : X) → AllByRecursion P xs → slice_get xs i ≡ Some x → P x
+pub each_get : {X : Type 0} (P : X → Type 0) (xs : List X) (i : ℕ) (x : X) → AllByRecursion P xs →
+    slice_get xs i ≡ Some x → P x
 each_get P [] i x h e = absurd (cc e)
 each_get P (y ∷ ys) zero x h e = let is : y ≡ x = cc e in subst P is h.0
 each_get P (y ∷ ys) (suc i) x h e = each_get P ys i x h.1 e
 
 -- an element of a list that goes on
-pub get_append : {X : Type 0} (xs ys : List X) (i : ℕ) (x : X) → slice_get xs i ≡ Some x → slice_get (xs ++ ys) i ≡ Some x
+pub get_append : {X : Type 0} (xs ys : List X) (i : ℕ) (x : X) → slice_get xs i ≡ Some x →
+    slice_get (xs ++ ys) i ≡ Some x
 get_append [] ys i x e = absurd (cc e)
 get_append (y ∷ xs) ys zero x e = e
 get_append (y ∷ xs) ys (suc i) x e = get_append xs ys i x e
 
-pub each_removed : {X : Type 0} (P : X → Type 0) (xs : List X) (i : ℕ) → AllByRecursion P xs → AllByRecursion P (remove xs i)
+pub each_removed : {X : Type 0} (P : X → Type 0) (xs : List X) (i : ℕ) → AllByRecursion P xs →
+    AllByRecursion P (remove xs i)
 each_removed P xs i h = each_append P (take i xs) (drop (suc i) xs) (each_take P i xs h) (each_drop P (suc i) xs h)
 
-pub each_get_or : {X : Type 0} (P : X → Type 0) (xs : List X) (i : ℕ) (d : X) → P d → AllByRecursion P xs → P (get_or xs i d)
+pub each_get_or : {X : Type 0} (P : X → Type 0) (xs : List X) (i : ℕ) (d : X) → P d → AllByRecursion P xs →
+    P (get_or xs i d)
 each_get_or P [] i d default h = default
 each_get_or P (y ∷ ys) zero d default h = h.0
 each_get_or P (y ∷ ys) (suc i) d default h = each_get_or P ys i d default h.1
 
 -- what is found has the property, and passes the test
-pub each_found : {X Y : Type 0} (P : X → Type 0) (Q : Y → Type 0) (test : X → Bool) (f : X → Y) (d : Y) → ((x : X) → P x → test x ≡ true → Q (f x)) → Q d →
+pub each_found : {X Y : Type 0} (P : X → Type 0) (Q : Y → Type 0) (test : X → Bool) (f : X → Y) (d : Y) →
+    ((x : X) → P x → test x ≡ true → Q (f x)) → Q d →
     (xs : List X) → AllByRecursion P xs → Q (option_map_or f (find test xs) d)
 each_found P Q test f d keeps default [] h = default
 each_found P Q test f d keeps default (x ∷ xs) h =
     let rest = each_found P Q test f d keeps default xs h.1 in
-    elim (test x) as (λ b. test x ≡ b → Q (option_map_or f (cond b (Some x) (find test xs)) d)) [ true ↦ λ e. keeps x h.0 e | false ↦ λ e. rest ] refl
+    elim (test x) as (λ b. test x ≡ b → Q (option_map_or f (cond b (Some x) (find test xs)) d))
+        [ true ↦ λ e. keeps x h.0 e | false ↦ λ e. rest ] refl
 
-pub found_is : {X : Type 0} (P : X → Type 0) (test : X → Bool) (xs : List X) (x : X) → AllByRecursion P xs → find test xs ≡ Some x → P x × (test x ≡ true)
+pub found_is : {X : Type 0} (P : X → Type 0) (test : X → Bool) (xs : List X) (x : X) → AllByRecursion P xs →
+    find test xs ≡ Some x → P x × (test x ≡ true)
 found_is P test [] x h e = absurd (cc e)
 found_is {X} P test (y ∷ ys) x h e =
     let rest : find test ys ≡ Some x → P x × (test x ≡ true) = found_is P test ys x h.1 in
@@ -109,7 +124,8 @@ reverse_cons x xs = reverse-append (x ∷ []) xs
 pub each_reverse : {X : Type 0} (P : X → Type 0) (xs : List X) → AllByRecursion P xs → AllByRecursion P (reverse xs)
 each_reverse P [] h = tt
 each_reverse P (x ∷ xs) h =
-    subst (AllByRecursion P) (sym (reverse_cons x xs)) (each_append P (reverse xs) (x ∷ []) (each_reverse P xs h.1) (h.0, tt))
+    subst (AllByRecursion P) (sym (reverse_cons x xs))
+        (each_append P (reverse xs) (x ∷ []) (each_reverse P xs h.1) (h.0, tt))
 
 pub each_unreversed : {X : Type 0} (P : X → Type 0) (xs : List X) → AllByRecursion P (reverse xs) → AllByRecursion P xs
 each_unreversed P [] h = tt
@@ -123,10 +139,12 @@ each_unreversed P (x ∷ xs) h =
 pub numbers_below : (first count : ℕ) → AllByRecursion (λ n. n < first + count) (numbers_from first count)
 numbers_below first zero = tt
 numbers_below first (suc count) =
-    (omega arith, subst (λ m. AllByRecursion (λ n. n < m) (numbers_from (first + 1) count)) (omega arith) (numbers_below (first + 1) count))
+    (omega arith, subst (λ m. AllByRecursion (λ n. n < m) (numbers_from (first + 1) count)) (omega arith)
+        (numbers_below (first + 1) count))
 
 -- what holds of all numbers from one on holds of each below their end
-pub number_among : (P : ℕ → Type 0) (first count n : ℕ) → AllByRecursion P (numbers_from first count) → first ≤ n → n < first + count → P n
+pub number_among : (P : ℕ → Type 0) (first count n : ℕ) → AllByRecursion P (numbers_from first count) → first ≤ n →
+    n < first + count → P n
 number_among P first zero n h low high = absurd (omega arith)
 number_among P first (suc count) n h low high =
     elim (eqb_tells n first) [
@@ -141,19 +159,23 @@ length_numbers first (suc count) = grind (arith, length_numbers (first + 1) coun
 -- ---- one element changes
 
 -- a fact of each element holds after one changes, where it holds of the new one
-pub each_set : {X : Type 0} (P : ℕ → X → Type 0) (xs : List X) (d : ℕ → X) (i : ℕ) (x : X) → P i x → ((k : ℕ) → P k (get_or xs k (d k))) →
+pub each_set : {X : Type 0} (P : ℕ → X → Type 0) (xs : List X) (d : ℕ → X) (i : ℕ) (x : X) → P i x →
+    ((k : ℕ) → P k (get_or xs k (d k))) →
     (k : ℕ) → P k (get_or (slice_set xs i x) k (d k))
 each_set P [] d i x here rest k = rest k
 each_set P (y ∷ ys) d zero x here rest zero = here
 each_set P (y ∷ ys) d zero x here rest (suc k) = rest (suc k)
 each_set P (y ∷ ys) d (suc i) x here rest zero = rest zero
-each_set P (y ∷ ys) d (suc i) x here rest (suc k) = each_set (λ n. P (suc n)) ys (λ n. d (suc n)) i x here (λ n. rest (suc n)) k
+each_set P (y ∷ ys) d (suc i) x here rest (suc k) = each_set (λ n. P (suc n)) ys (λ n. d (suc n)) i x here
+    (λ n. rest (suc n)) k
 
 -- so it does where it holds of each other element in another way
-pub each_set_apart : {X : Type 0} (P : ℕ → X → Type 0) (xs : List X) (d : ℕ → X) (i : ℕ) (x : X) → i < length xs → P i x → ((k : ℕ) → (k ≡ i → ⊥) → P k (get_or xs k (d k))) →
+pub each_set_apart : {X : Type 0} (P : ℕ → X → Type 0) (xs : List X) (d : ℕ → X) (i : ℕ) (x : X) → i < length xs →
+    P i x → ((k : ℕ) → (k ≡ i → ⊥) → P k (get_or xs k (d k))) →
     (k : ℕ) → P k (get_or (slice_set xs i x) k (d k))
 each_set_apart P xs d i x inside here rest k =
     elim (eqb_tells k i) [
-      | inl same ↦ subst (λ n. P n (get_or (slice_set xs i x) n (d n))) (sym same.1) (subst (P i) (sym (get_or-set_same xs i x (d i) inside)) here)
+      | inl same ↦ subst (λ n. P n (get_or (slice_set xs i x) n (d n))) (sym same.1)
+          (subst (P i) (sym (get_or-set_same xs i x (d i) inside)) here)
       | inr other ↦ subst (P k) (sym (get_or-set_other xs i k x (d k) other.1)) (rest k other.1)
     ]

@@ -57,7 +57,8 @@ no_issue (Unlocks target) h = h
 no_issue (Flushes target local) h = h
 no_issue Syncs h = h
 
-action_with_issue : (known : RankWindows) (a : Action) → HasIssue (course_of_action known a) → (t : Transfer) × (transfer_in a ≡ Some t)
+action_with_issue : (known : RankWindows) (a : Action) → HasIssue (course_of_action known a) →
+    (t : Transfer) × (transfer_in a ≡ Some t)
 action_with_issue known (Creates creation) h = absurd h
 action_with_issue known (Frees win) h = absurd h
 action_with_issue known (Attaches win base bytes) h = absurd h
@@ -67,11 +68,13 @@ action_with_issue known Meets h = absurd h
 action_with_issue known (Moves t) h = (t, refl)
 action_with_issue known (EndsRequest req) h = absurd h
 
-pub transfer_with_issue : (known : RankWindows) (call : Call) → HasIssue (course_of known call) → (t : Transfer) × (transfer_of call ≡ Some t)
+pub transfer_with_issue : (known : RankWindows) (call : Call) → HasIssue (course_of known call) →
+    (t : Transfer) × (transfer_of call ≡ Some t)
 transfer_with_issue known call h = action_with_issue known (action_of call) h
 
 -- the access of a transfer on its live window
-pub access_is : (known : RankWindows) (call : Call) (t : Transfer) (window : Window) → transfer_of call ≡ Some t → window_of_name known t.win ≡ Some window →
+pub access_is : (known : RankWindows) (call : Call) (t : Transfer) (window : Window) → transfer_of call ≡ Some t →
+    window_of_name known t.win ≡ Some window →
     access_of known call ≡ Some (access_on known t window)
 access_is known call t window moves live = rw moves (rw live refl)
 
@@ -85,29 +88,37 @@ least_choice false class other e = cc e
 pub least_none : (a b : Option Class) → least_class a b ≡ None → (a ≡ None) × (b ≡ None)
 least_none None other e = (refl, e)
 least_none (Some class) None e = absurd (cc e)
-least_none (Some class) (Some other) e = absurd (least_choice (nat_lt (class_number other) (class_number class)) class other e)
+least_none (Some class) (Some other) e = absurd
+    (least_choice (nat_lt (class_number other) (class_number class)) class other e)
 
 -- the rank's windows, its epochs and its requests each allow the call
-pub windows_allow : (known : Knowledge) (call : Call) → own_class known call ≡ None → window_class known.windows (action_of call) ≡ None
+pub windows_allow : (known : Knowledge) (call : Call) → own_class known call ≡ None →
+    window_class known.windows (action_of call) ≡ None
 windows_allow known call e =
     (least_none (window_class known.windows (action_of call))
-    (least_class (epoch_class known.windows.ranks known.epochs (action_of call)) (request_class known.requests (action_of call))) e).0
+    (least_class (epoch_class known.windows.ranks known.epochs (action_of call))
+        (request_class known.requests (action_of call))) e).0
 
-pub epochs_allow : (known : Knowledge) (call : Call) → own_class known call ≡ None → epoch_class known.windows.ranks known.epochs (action_of call) ≡ None
+pub epochs_allow : (known : Knowledge) (call : Call) → own_class known call ≡ None →
+    epoch_class known.windows.ranks known.epochs (action_of call) ≡ None
 epochs_allow known call e =
-    (least_none (epoch_class known.windows.ranks known.epochs (action_of call)) (request_class known.requests (action_of call))
+    (least_none (epoch_class known.windows.ranks known.epochs (action_of call))
+        (request_class known.requests (action_of call))
     (least_none (window_class known.windows (action_of call))
-    (least_class (epoch_class known.windows.ranks known.epochs (action_of call)) (request_class known.requests (action_of call))) e).1).0
+    (least_class (epoch_class known.windows.ranks known.epochs (action_of call))
+        (request_class known.requests (action_of call))) e).1).0
 
 -- where no test applies, the first does not, nor do the others
-pub first_passed : (applies : Bool) (class : Class) (rest : List Test) → first_class ((applies, class) ∷ rest) ≡ None → (applies ≡ false) × (first_class rest ≡ None)
+pub first_passed : (applies : Bool) (class : Class) (rest : List Test) →
+    first_class ((applies, class) ∷ rest) ≡ None → (applies ≡ false) × (first_class rest ≡ None)
 first_passed true class rest e = absurd (cc e)
 first_passed false class rest e = (refl, e)
 
 -- so it is with each test
 pub none_applies : (tests : List Test) → first_class tests ≡ None → AllByRecursion (λ (one : Test). one.0 ≡ false) tests
 none_applies [] e = tt
-none_applies ((applies, class) ∷ rest) e = let passed = first_passed applies class rest e in (passed.0, none_applies rest passed.1)
+none_applies ((applies, class) ∷ rest) e = let passed = first_passed applies class rest e
+    in (passed.0, none_applies rest passed.1)
 
 -- a transfer that passes is on a live window, and its place is right
 pub transfer_passed : (known : RankWindows) (t : Transfer) → window_class known (Moves t) ≡ None →
@@ -116,13 +127,17 @@ transfer_passed known t e = by_window (window_of_name known t.win) refl e
   where
     by_window : (o : Option Window) → window_of_name known t.win ≡ o →
         first_class (option_map_or (λ (window : Window). place_tests known window t) o ((true, Win) ∷ [])) ≡ None →
-        (window : Window) × (window_of_name known t.win ≡ Some window) × (first_class (place_tests known window t) ≡ None)
+        (window : Window) × (window_of_name known t.win ≡ Some window) ×
+            (first_class (place_tests known window t) ≡ None)
     by_window None live h = absurd (cc h)
     by_window (Some window) live h = (window, live, h)
 
 -- so it has an access
-pub allowed_has_access : (known : Knowledge) (call : Call) (t : Transfer) → transfer_of call ≡ Some t → own_class known call ≡ None →
-    (window : Window) × (window_of_name known.windows t.win ≡ Some window) × (access_of known.windows call ≡ Some (access_on known.windows t window))
+pub allowed_has_access : (known : Knowledge) (call : Call) (t : Transfer) → transfer_of call ≡ Some t →
+    own_class known call ≡ None →
+    (window : Window) × (window_of_name known.windows t.win ≡ Some window) ×
+        (access_of known.windows call ≡ Some (access_on known.windows t window))
 allowed_has_access known call t moves allowed =
-    let passed = transfer_passed known.windows t (subst (λ a. window_class known.windows a ≡ None) (moves_it call t moves) (windows_allow known call allowed)) in
+    let passed = transfer_passed known.windows t
+        (subst (λ a. window_class known.windows a ≡ None) (moves_it call t moves) (windows_allow known call allowed)) in
     (passed.0, passed.1, access_is known.windows call t passed.0 moves passed.1)

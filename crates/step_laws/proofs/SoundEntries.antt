@@ -37,124 +37,75 @@ use Rattle.rank_rules.specs.Ranges.{covers}
 use Rattle.rank_rules.specs.Windows.{Window, RankWindows, window_of_name, window_number, next_number, is_same_flavor, part_at, windows_after}
 use Rattle.step_runs.specs.Agents.{Agent, next_call, kept, finished, opened}
 use Rattle.step_runs.specs.BoardSteps.{next_row}
+use Rattle.step_laws.proofs.CallCourses.{collective_moves_none, one_entry_moves_none, one_entry_makes_none, transfer_makes_none, learns_call}
 use Rattle.step_laws.proofs.Creations.{HasRoom, HasLists, IsSoundRow, acts_sound, own_has_room, MakesWith, creates_it, attached_lie, parts_fit, parts_by_address}
 use Rattle.step_laws.proofs.EntryMoves.{IsOneEntry, HasBegun, IsAllowedEntry, with_entry, IsTurnedAway, ByRefusal, ByTest, with_row, EntryMove, TurnsAway, Arrives, LooksUp, Leaves, EntersOnce, known_stays, look_up_opens, begun_kept}
 use Rattle.step_laws.proofs.Flavors.{AreRegular, act_after, acts_push, begins_by, creations_push, names_it, is_creation_if, new_number, same_flavor}
 use Rattle.step_laws.proofs.Lists.{each_get, found_is}
+use Rattle.step_laws.proofs.LookUps.{look_up_lies}
 use Rattle.step_laws.proofs.OwnRoom.{IsRoomyWindow, IsByAddress, right_place, looked_up_lies}
 use Rattle.step_laws.proofs.OwnTests.{HasIssue, moves_it, transfer_with_issue, windows_allow, epochs_allow, transfer_passed}
 use Rattle.step_laws.proofs.Sound.{IsSoundRank, HasArrived, regular_push, other_push, no_more_creations, still_arrived, AreRoomyShapes, MakesByAddress, windows_stay_roomy, rank_stays, space_stays, name_made, created_grows}
 use Rattle.step_laws.specs.Inside.{bytes_at, LiesInMemory, begun_names, names_so_far}
 
--- ---- what calls are by their courses
-
-course_by_target : (known : RankWindows) (t : Transfer) (P : Course → Type 0) → (P OneIssue → ⊥) → (P OneNull → ⊥) → (P LookUpAndIssue → ⊥) → P (course_of_transfer known t) → ⊥
-course_by_target known t P issue null look h = by_target t.target refl
-  where
-    named : (b : Bool) → P (cond b LookUpAndIssue OneIssue) → ⊥
-    named true k = look k
-    named false k = issue k
-
-    by_target : (target : Target) → t.target ≡ target → ⊥
-    by_target Own is = issue (subst (λ (x : Target). P (course_of_transfer known (record t { target = x }))) is h)
-    by_target Null is = null (subst (λ (x : Target). P (course_of_transfer known (record t { target = x }))) is h)
-    by_target (Named rank) is = named _ (subst (λ (x : Target). P (course_of_transfer known (record t { target = x }))) is h)
-
--- a collective call moves no data
-pub collective_moves_none : (known : RankWindows) (call : Call) (t : Transfer) → course_of known call ≡ ArriveAndLeave → transfer_of call ≡ Some t → ⊥
-collective_moves_none known call t course moves =
-    course_by_target known t (λ c. c ≡ ArriveAndLeave) (λ e. absurd (cc e)) (λ e. absurd (cc e)) (λ e. absurd (cc e))
-    (subst (λ a. course_of_action known a ≡ ArriveAndLeave) (moves_it call t moves) course)
-
--- nor does a call of one entry; and it makes no window
-one_entry_moves_none : (known : RankWindows) (call : Call) → IsOneEntry (course_of known call) → is_none (transfer_of call) ≡ true
-one_entry_moves_none known call one = by_transfer (transfer_of call) refl
-  where
-    by_transfer : (o : Option Transfer) → transfer_of call ≡ o → is_none o ≡ true
-    by_transfer None e = refl
-    by_transfer (Some t) e = absurd (course_by_target known t IsOneEntry (λ h. h) (λ h. h) (λ h. h) (subst (λ a. IsOneEntry (course_of_action known a)) (moves_it call t e) one))
-
-one_entry_makes_none : (known : RankWindows) (call : Call) (creation : Creation) → IsOneEntry (course_of known call) → action_of call ≡ Creates creation → ⊥
-one_entry_makes_none known call creation one is = subst (λ a. IsOneEntry (course_of_action known a)) is one
-
--- a call that moves data makes no window
-pub transfer_makes_none : (call : Call) (t : Transfer) → transfer_of call ≡ Some t → creation_of call ≡ None
-transfer_makes_none call t moves = ap creation_in (moves_it call t moves)
-
--- a look-up is of a dynamic window
-looks_up_dynamic : (known : RankWindows) (t : Transfer) (window : Window) → course_of_transfer known t ≡ LookUpAndIssue → window_of_name known t.win ≡ Some window →
-    is_same_flavor window.flavor Dynamic ≡ true
-looks_up_dynamic known t window course live = by_target t.target refl
-  where
-    named : (b : Bool) → cond b LookUpAndIssue OneIssue ≡ LookUpAndIssue → b ≡ true
-    named true e = refl
-    named false e = absurd (cc e)
-
-    at_target : (target : Target) → t.target ≡ target → course_of_transfer known (record t { target = target }) ≡ LookUpAndIssue
-    at_target target is = subst (λ (x : Target). course_of_transfer known (record t { target = x }) ≡ LookUpAndIssue) is course
-
-    by_target : (target : Target) → t.target ≡ target → is_same_flavor window.flavor Dynamic ≡ true
-    by_target Own is = absurd (cc (at_target Own is))
-    by_target Null is = absurd (cc (at_target Null is))
-    by_target (Named rank) is = named (is_same_flavor window.flavor Dynamic)
-        (subst (λ (o : Option Window). cond (option_map_or (λ (w : Window). is_same_flavor w.flavor Dynamic) o false) LookUpAndIssue OneIssue ≡ LookUpAndIssue) live (at_target (Named rank) is))
-
--- ---- what an entry teaches that ends its call
-
-learns_call : (shapes : ℕ → List Part) (calls : List Call) (known : Knowledge) (number place : ℕ) (step : Step) (call : Call) →
-    slice_get calls number ≡ Some call → ends_call step call ≡ true → learn shapes calls known (Entry number place step) ≡ known_after_call shapes known number call
-learns_call shapes calls known number place step call here ends =
-    ap (λ (o : Option Call). option_map_or (λ n. option_map_or (known_after_call shapes known n) (slice_get calls n) known)
-    (option_map_or (λ (c : Call). cond (ends_call step c) (Some number) None) o None) known) here
-    ∙ ap (λ b. option_map_or (λ n. option_map_or (known_after_call shapes known n) (slice_get calls n) known) (cond b (Some number) None) known) ends
-    ∙ ap (λ (o : Option Call). option_map_or (known_after_call shapes known number) o known) here
-
 -- ---- the rank's own entry
 
 -- what holds of the entries, and of the rank that makes moves; other ranks' facts are those of the entries at first
-pub record IsSoundAt (script : Script) (delay : Delay) (rank : ℕ) (first : List Row) (agent : Agent) (rows : List Row) : Type 0 where
+pub record IsSoundAt (script : Script) (delay : Delay) (rank : ℕ) (first : List Row) (agent : Agent) (rows : List Row)
+    : Type 0 where
   pub sound : IsSoundRank script delay rank agent rows
   pub regular : AreRegular script rows
   pub begun : HasBegun (stage_of script delay) agent
-  pub others : (other : ℕ) (a : Agent) → (other ≡ rank → ⊥) → IsSoundRank script delay other a first → IsSoundRank script delay other a rows
+  pub others : (other : ℕ) (a : Agent) → (other ≡ rank → ⊥) → IsSoundRank script delay other a first →
+      IsSoundRank script delay other a rows
 
-own_row_sound : (script : Script) (delay : Delay) (rank : ℕ) (agent : Agent) (rows : List Row) (call : Call) (step : Step) → rank < script.ranks → IsSoundRank script delay rank agent rows →
+own_row_sound : (script : Script) (delay : Delay) (rank : ℕ) (agent : Agent) (rows : List Row) (call : Call)
+    (step : Step) → rank < script.ranks → IsSoundRank script delay rank agent rows →
     IsAllowedEntry (stage_of script delay) agent rows call step → IsSoundRow script (next_row agent call step)
 own_row_sound script delay rank agent rows call step inside sound entry = record {
   inside = subst (λ r. r < script.ranks) (sym sound.mine) inside;
   here = entry.here;
-  room = own_has_room agent.known (bytes_at (layout script) agent.rank) call (subst (λ r. agent.known.windows.space ≤ bytes_at (layout script) r) (sym sound.mine) sound.space) entry.own;
+  room = own_has_room agent.known (bytes_at (layout script) agent.rank) call
+      (subst (λ r. agent.known.windows.space ≤ bytes_at (layout script) r) (sym sound.mine) sound.space) entry.own;
 }
 
 -- the entries with the rank's own
-pushed_at : (script : Script) (delay : Delay) (rank : ℕ) (first : List Row) (agent next : Agent) (rows : List Row) (call : Call) (step : Step) → IsWellFormed script → rank < script.ranks →
+pushed_at : (script : Script) (delay : Delay) (rank : ℕ) (first : List Row) (agent next : Agent) (rows : List Row)
+    (call : Call) (step : Step) → IsWellFormed script → rank < script.ranks →
     IsSoundAt script delay rank first agent rows → IsAllowedEntry (stage_of script delay) agent rows call step →
-    IsSoundRank script delay rank next (with_row agent rows call step) → HasBegun (stage_of script delay) next → IsSoundAt script delay rank first next (with_row agent rows call step)
+    IsSoundRank script delay rank next (with_row agent rows call step) → HasBegun (stage_of script delay) next →
+        IsSoundAt script delay rank first next (with_row agent rows call step)
 pushed_at script delay rank first agent next rows call step formed inside at entry sound begun = record {
   sound = sound;
-  regular = regular_push script rows (next_row agent call step) formed at.regular (own_row_sound script delay rank agent rows call step inside at.sound entry) entry.allowed;
+  regular = regular_push script rows (next_row agent call step) formed at.regular
+      (own_row_sound script delay rank agent rows call step inside at.sound entry) entry.allowed;
   begun = begun;
-  others = λ other a apart old. other_push script delay other a rows (next_row agent call step) (λ e. apart (sym e ∙ at.sound.mine)) (at.others other a apart old);
+  others = λ other a apart old. other_push script delay other a rows (next_row agent call step)
+      (λ e. apart (sym e ∙ at.sound.mine)) (at.others other a apart old);
 }
 
 -- ---- the numbers of windows
 
-count_names : (win : ℕ) (xs ys : List ℕ) → count_by (λ name. name == win) (xs ++ ys) ≡ count_by (λ name. name == win) xs + count_by (λ name. name == win) ys
+count_names : (win : ℕ) (xs ys : List ℕ) → count_by (λ name. name == win) (xs ++ ys) ≡ count_by (λ name. name == win)
+    xs + count_by (λ name. name == win) ys
 count_names win xs ys = sum_by-append (λ name. cond (name == win) 1 0) xs ys
 
 -- a call that begins to make a window of the name counts once
-count_made : (call : Call) (mine : Bool) (win : ℕ) → mine ≡ true → cond (mine && is_creation call && names_window win call) 1 0 ≡ count_by (λ name. name == win) (name_made call)
+count_made : (call : Call) (mine : Bool) (win : ℕ) → mine ≡ true →
+    cond (mine && is_creation call && names_window win call) 1 0 ≡ count_by (λ name. name == win) (name_made call)
 count_made call false win e = absurd (cc e)
 count_made call true win e = by_creation (creation_of call) refl
   where
     one : (creation : Creation) → cond (creation.win == win) 1 0 ≡ count_by (λ name. name == win) (creation.win ∷ [])
-    one creation = let split = sum_by-cons (λ name. cond (name == win) 1 0) creation.win [] in sums (cond (creation.win == win) 1 0) _ split
+    one creation = let split = sum_by-cons (λ name. cond (name == win) 1 0) creation.win [] in sums
+        (cond (creation.win == win) 1 0) _ split
       where
         sums : (a b : ℕ) → b ≡ a + 0 → a ≡ b
         sums a b e = omega arith
 
     by_creation : (o : Option Creation) → creation_of call ≡ o →
-        cond (true && is_some o && names_window win call) 1 0 ≡ count_by (λ name. name == win) (option_map_or (λ (creation : Creation). creation.win ∷ []) o [])
+        cond (true && is_some o && names_window win call) 1 0 ≡ count_by (λ name. name == win)
+            (option_map_or (λ (creation : Creation). creation.win ∷ []) o [])
     by_creation None none = refl
     by_creation (Some creation) makes = ap (λ b. cond b 1 0) (names_it call creation win makes) ∙ one creation
 
@@ -164,23 +115,30 @@ no_begin false y z = refl
 
 -- ---- moves
 
-arrives_sound : (script : Script) (delay : Delay) (rank : ℕ) (agent : Agent) (rows : List Row) (call : Call) → IsSoundRank script delay rank agent rows →
-    IsAllowedEntry (stage_of script delay) agent rows call Arrive → agent.entered ≡ false → course_of agent.known.windows call ≡ ArriveAndLeave →
-    IsSoundRank script delay rank (opened (with_entry (stage_of script delay) agent rows call Arrive)) (with_row agent rows call Arrive)
+arrives_sound : (script : Script) (delay : Delay) (rank : ℕ) (agent : Agent) (rows : List Row) (call : Call) →
+    IsSoundRank script delay rank agent rows →
+    IsAllowedEntry (stage_of script delay) agent rows call Arrive → agent.entered ≡ false →
+        course_of agent.known.windows call ≡ ArriveAndLeave →
+    IsSoundRank script delay rank (opened (with_entry (stage_of script delay) agent rows call Arrive))
+        (with_row agent rows call Arrive)
 arrives_sound script delay rank agent rows call sound entry new course =
-    subst (λ (k : Knowledge). IsSoundRank script delay rank (record next { known = k }) now) (sym (known_stays stage agent rows call Arrive entry.here refl)) (record {
+    subst (λ (k : Knowledge). IsSoundRank script delay rank (record next { known = k }) now)
+        (sym (known_stays stage agent rows call Arrive entry.here refl)) (record {
       mine = sound.mine;
       whose = sound.whose;
       space = sound.space;
       roomy = sound.roomy;
       numbers = λ win. creations_push rows row rank win
-          ∙ sums (creations rows rank win) (count_by (λ name. name == win) agent.known.windows.created) (cond (begins_by rank win row) 1 0) (count_by (λ name. name == win) (name_made call))
+          ∙ sums (creations rows rank win) (count_by (λ name. name == win) agent.known.windows.created)
+              (cond (begins_by rank win row) 1 0) (count_by (λ name. name == win) (name_made call))
           (old win) (count_made call (agent.rank == rank) win (eq-eqb agent.rank rank sound.mine))
           ∙ sym (count_names win agent.known.windows.created (name_made call))
-          ∙ ap (λ o. count_by (λ name. name == win) (agent.known.windows.created ++ begun_names true o)) (sym entry.here);
+          ∙ ap (λ o. count_by (λ name. name == win) (agent.known.windows.created ++ begun_names true o))
+              (sym entry.here);
       arrived = λ e other here creation makes.
           let same : call ≡ other = cc (entry.here, here) in
-          subst (λ c. HasArrived agent.known.windows now c creation) same (has_arrived creation (ap creation_of same ∙ makes));
+          subst (λ c. HasArrived agent.known.windows now c creation) same
+              (has_arrived creation (ap creation_of same ∙ makes));
       looked = λ e other here t moves window live.
           let same : call ≡ other = cc (entry.here, here) in
           absurd (collective_moves_none agent.known.windows call t course (ap transfer_of same ∙ moves));
@@ -200,7 +158,8 @@ arrives_sound script delay rank agent rows call sound entry new course =
     next = opened (with_entry (stage_of script delay) agent rows call Arrive)
 
     old : (win : ℕ) → creations rows rank win ≡ count_by (λ name. name == win) agent.known.windows.created
-    old win = sound.numbers win ∙ ap (λ b. count_by (λ name. name == win) (agent.known.windows.created ++ begun_names b (next_call stage agent))) new
+    old win = sound.numbers win ∙ ap
+        (λ b. count_by (λ name. name == win) (agent.known.windows.created ++ begun_names b (next_call stage agent))) new
         ∙ ap (count_by (λ name. name == win)) (append-nil agent.known.windows.created)
 
     sums : (a b c d : ℕ) → a ≡ b → c ≡ d → a + c ≡ b + d
@@ -210,11 +169,13 @@ arrives_sound script delay rank agent rows call sound entry new course =
     seam [] y = refl
     seam (x ∷ xs) y = seam xs y
 
-    has_arrived : (creation : Creation) → creation_of call ≡ Some creation → HasArrived agent.known.windows now call creation
+    has_arrived : (creation : Creation) → creation_of call ≡ Some creation →
+        HasArrived agent.known.windows now call creation
     has_arrived creation makes = record {
       act = act_after rows row;
       place = length (acts rows);
-      there = ap (λ entries. slice_get entries (length (acts rows))) (acts_push rows row) ∙ seam (acts rows) (act_after rows row);
+      there = ap (λ entries. slice_get entries (length (acts rows))) (acts_push rows row) ∙ seam (acts rows)
+          (act_after rows row);
       same = refl;
       begins = is_creation_if call creation makes;
       number = new_number rows row creation (is_creation_if call creation makes) makes
@@ -222,66 +183,32 @@ arrives_sound script delay rank agent rows call sound entry new course =
           ∙ ap (λ n. window_number n creation.win) (old creation.win);
     }
 
--- the bytes that a look-up finds attached lie in memory
-look_up_lies : (script : Script) (delay : Delay) (rank : ℕ) (agent : Agent) (rows : List Row) (call : Call) (t : Transfer) → AreRegular script rows → IsSoundRank script delay rank agent rows →
-    IsAllowedEntry (stage_of script delay) agent rows call One → course_of agent.known.windows call ≡ LookUpAndIssue → transfer_of call ≡ Some t →
-    (window : Window) → window_of_name agent.known.windows t.win ≡ Some window → LiesInMemory (layout script) (access_on agent.known.windows t window) t.dtype
-look_up_lies script delay rank agent rows call t regular sound entry course moves window live =
-    looked_up_lies (layout script) known t window (ranges_attached (acts rows) (rank_reached known.rank t.target) q.window)
-    (found_is (IsRoomyWindow (layout script)) (λ (w : Window). w.win == t.win) known.windows window sound.roomy.windows live).0
-    (looks_up_dynamic known t window looks live)
-    (right_place known agent.known.epochs window t (subst HasIssue (sym looks) tt) (subst (λ a. epoch_class known.ranks agent.known.epochs a ≡ None) is (epochs_allow agent.known call entry.own))
-    (subst (λ (w : Window). first_class (place_tests known w t) ≡ None) same passed.2))
-    (attached_lie script (acts rows) (rank_reached known.rank t.target) q.window (acts_sound script rows regular.sound))
-    (subst (λ r. covers (ranges_attached (acts rows) (rank_reached r t.target) q.window) (natural t.disp) (bytes_of t) ≡ true) (sound.mine ∙ sym sound.whose) covered)
-  where
-    known : RankWindows
-    known = agent.known.windows
-
-    q : Question
-    q = question script.ranks rows (next_row agent call One)
-
-    is : action_of call ≡ Moves t
-    is = moves_it call t moves
-
-    looks : course_of_transfer known t ≡ LookUpAndIssue
-    looks = subst (λ a. course_of_action known a ≡ LookUpAndIssue) is course
-
-    passed : (w : Window) × (window_of_name known t.win ≡ Some w) × (first_class (place_tests known w t) ≡ None)
-    passed = transfer_passed known t (subst (λ a. window_class known a ≡ None) is (windows_allow agent.known call entry.own))
-
-    same : passed.0 ≡ window
-    same = cc (passed.1, live)
-
-    not_refused : (o : Option Class) (b : Bool) → decision_by o b ≡ Allow → o ≡ None
-    not_refused None b e = refl
-    not_refused (Some class) b e = absurd (cc e)
-
-    attached : (b : Bool) → refuse_if b RangeClass ≡ None → b ≡ false
-    attached true e = absurd (cc e)
-    attached false e = refl
-
-    covered : covers (ranges_attached (acts rows) (rank_reached agent.rank t.target) q.window) (natural t.disp) (bytes_of t) ≡ true
-    covered = not-false (covers (ranges_attached (acts rows) (rank_reached agent.rank t.target) q.window) (natural t.disp) (bytes_of t))
-        (attached (reaches_unattached q t) (subst (λ a. one_refusal q a ≡ None) is (not_refused (refusal q One) (is_allowed_now q One) entry.allowed)))
-
-looks_sound : (script : Script) (delay : Delay) (rank : ℕ) (agent : Agent) (rows : List Row) (call : Call) → AreRegular script rows → IsSoundRank script delay rank agent rows →
-    IsAllowedEntry (stage_of script delay) agent rows call One → agent.entered ≡ false → course_of agent.known.windows call ≡ LookUpAndIssue →
-    IsSoundRank script delay rank (opened (with_entry (stage_of script delay) agent rows call One)) (with_row agent rows call One)
+looks_sound : (script : Script) (delay : Delay) (rank : ℕ) (agent : Agent) (rows : List Row) (call : Call) →
+    AreRegular script rows → IsSoundRank script delay rank agent rows →
+    IsAllowedEntry (stage_of script delay) agent rows call One → agent.entered ≡ false →
+        course_of agent.known.windows call ≡ LookUpAndIssue →
+    IsSoundRank script delay rank (opened (with_entry (stage_of script delay) agent rows call One))
+        (with_row agent rows call One)
 looks_sound script delay rank agent rows call regular sound entry new course =
-    subst (λ (k : Knowledge). IsSoundRank script delay rank (record next { known = k }) now) (sym (known_stays stage agent rows call One entry.here (look_up_opens agent.known.windows call course))) (record {
+    subst (λ (k : Knowledge). IsSoundRank script delay rank (record next { known = k }) now)
+        (sym (known_stays stage agent rows call One entry.here (look_up_opens agent.known.windows call course)))
+        (record {
       mine = sound.mine;
       whose = sound.whose;
       space = sound.space;
       roomy = sound.roomy;
-      numbers = λ win. no_more_creations rows row rank win (no_begin (agent.rank == rank) (is_creation call) (names_window win call)) ∙ sound.numbers win
-          ∙ ap (λ b. count_by (λ name. name == win) (agent.known.windows.created ++ begun_names b (next_call stage agent))) new
-          ∙ ap (λ l. count_by (λ name. name == win) (agent.known.windows.created ++ l)) (sym (ap (begun_names true) entry.here ∙ no_name));
+      numbers = λ win. no_more_creations rows row rank win
+          (no_begin (agent.rank == rank) (is_creation call) (names_window win call)) ∙ sound.numbers win
+          ∙ ap (λ b. count_by (λ name. name == win)
+              (agent.known.windows.created ++ begun_names b (next_call stage agent))) new
+          ∙ ap (λ l. count_by (λ name. name == win) (agent.known.windows.created ++ l))
+              (sym (ap (begun_names true) entry.here ∙ no_name));
       arrived = λ e other here creation makes.
           let same : call ≡ other = cc (entry.here, here) in absurd (cc (sym none ∙ ap creation_of same ∙ makes));
       looked = λ e other here other_t moves window live.
           let same : call ≡ other = cc (entry.here, here) in
-          look_up_lies script delay rank agent rows call other_t regular sound entry course (ap transfer_of same ∙ moves) window live;
+          look_up_lies script delay rank agent rows call other_t regular sound entry course
+              (ap transfer_of same ∙ moves) window live;
       pending = sound.pending;
     })
   where
@@ -307,24 +234,34 @@ looks_sound script delay rank agent rows call regular sound entry new course =
     no_name = ap (λ o. option_map_or (λ (creation : Creation). creation.win ∷ []) o []) none
 
 -- an entry that ends its call
-closes_sound : (script : Script) (delay : Delay) (rank : ℕ) (agent : Agent) (rows : List Row) (call : Call) (step : Step) → IsWellFormed script → rank < script.ranks →
-    AreRegular script (with_row agent rows call step) → IsSoundRank script delay rank agent rows → IsAllowedEntry (stage_of script delay) agent rows call step → ends_call step call ≡ true →
-    is_arrive step ≡ false → MakesByAddress (shapes_in (stage_of script delay) (with_row agent rows call step)) agent.known.windows (action_of call) →
+closes_sound : (script : Script) (delay : Delay) (rank : ℕ) (agent : Agent) (rows : List Row) (call : Call)
+    (step : Step) → IsWellFormed script → rank < script.ranks →
+    AreRegular script (with_row agent rows call step) → IsSoundRank script delay rank agent rows →
+        IsAllowedEntry (stage_of script delay) agent rows call step → ends_call step call ≡ true →
+    is_arrive step ≡ false → MakesByAddress (shapes_in (stage_of script delay) (with_row agent rows call step))
+        agent.known.windows (action_of call) →
     names_so_far (stage_of script delay) agent ≡ agent.known.windows.created ++ name_made call →
-    IsSoundRank script delay rank (finished (with_entry (stage_of script delay) agent rows call step)) (with_row agent rows call step)
+    IsSoundRank script delay rank (finished (with_entry (stage_of script delay) agent rows call step))
+        (with_row agent rows call step)
 closes_sound script delay rank agent rows call step formed inside regular sound entry ends no_arrive by_address names =
     subst (λ (k : Knowledge). IsSoundRank script delay rank (record next { known = k }) now)
-    (sym (learns_call shapes (calls_at stage agent.rank) agent.known agent.at (length rows) step call entry.here ends)) (record {
+    (sym (learns_call shapes (calls_at stage agent.rank) agent.known agent.at (length rows) step call entry.here
+        ends)) (record {
       mine = sound.mine;
       whose = rank_stays shapes known (action_of call) ∙ sound.whose;
-      space = subst (λ n. n ≤ bytes_at (layout script) rank) (sym (space_stays shapes known (action_of call))) sound.space;
-      roomy = windows_stay_roomy (layout script) shapes known (action_of call) (parts_fit script lists now regular.sound) by_address
+      space = subst (λ n. n ≤ bytes_at (layout script) rank) (sym (space_stays shapes known (action_of call)))
+          sound.space;
+      roomy = windows_stay_roomy (layout script) shapes known (action_of call)
+          (parts_fit script lists now regular.sound) by_address
           (subst (λ r. HasRoom (bytes_at (layout script) r) (action_of call)) (sound.mine ∙ sym sound.whose)
           (own_row_sound script delay rank agent rows call step inside sound entry).room) sound.roomy;
       numbers = λ win. no_more_creations rows row rank win
-          (ap (λ b. agent.rank == rank && (b && is_creation call) && names_window win call) no_arrive ∙ no_begin (agent.rank == rank) (is_creation call) (names_window win call))
+          (ap (λ b. agent.rank == rank && (b && is_creation call) && names_window win call) no_arrive ∙ no_begin
+              (agent.rank == rank) (is_creation call) (names_window win call))
           ∙ sound.numbers win
-          ∙ ap (count_by (λ name. name == win)) (names ∙ sym (created_grows shapes known call) ∙ sym (append-nil (windows_after shapes known (action_of call)).created));
+          ∙ ap (count_by (λ name. name == win))
+              (names ∙ sym (created_grows shapes known call) ∙ sym
+              (append-nil (windows_after shapes known (action_of call)).created));
       arrived = λ e. absurd (cc e);
       looked = λ e. absurd (cc e);
       pending = sound.pending;
@@ -352,83 +289,117 @@ closes_sound script delay rank agent rows call step formed inside regular sound 
     lists = record { spaces = formed.spaces; lists = formed.lists }
 
 -- the parts of a dynamic window that the rank leaves the creation of
-leaves_by_address : (script : Script) (delay : Delay) (rank : ℕ) (agent : Agent) (rows : List Row) (call : Call) → AreRegular script (with_row agent rows call Leave) →
-    IsSoundRank script delay rank agent rows → IsAllowedEntry (stage_of script delay) agent rows call Leave → agent.entered ≡ true →
-    MakesByAddress (shapes_in (stage_of script delay) (with_row agent rows call Leave)) agent.known.windows (action_of call)
+leaves_by_address : (script : Script) (delay : Delay) (rank : ℕ) (agent : Agent) (rows : List Row) (call : Call) →
+    AreRegular script (with_row agent rows call Leave) →
+    IsSoundRank script delay rank agent rows → IsAllowedEntry (stage_of script delay) agent rows call Leave →
+        agent.entered ≡ true →
+    MakesByAddress (shapes_in (stage_of script delay) (with_row agent rows call Leave)) agent.known.windows
+        (action_of call)
 leaves_by_address script delay rank agent rows call regular sound entry begun creation is dynamic rank' =
     let now = with_row agent rows call Leave in
     let makes : creation_of call ≡ Some creation = ap creation_in is in
-    let here = still_arrived agent.known.windows rows (next_row agent call Leave) call creation (sound.arrived begun call entry.here creation makes) in
+    let here = still_arrived agent.known.windows rows (next_row agent call Leave) call creation
+        (sound.arrived begun call entry.here creation makes) in
     let number = next_number agent.known.windows.created creation.win in
     let flavor = regular.flavors number in
     let made : creation.flavor ≡ flavor.0 =
-    each_get (MakesWith flavor.0 number) (acts now) here.place here.act flavor.1 here.there here.begins here.number creation (ap creation_of here.same ∙ makes) in
-    parts_by_address script now number (subst (λ f. AllByRecursion (MakesWith f number) (acts now)) (sym made ∙ is_dynamic_flavor creation.flavor dynamic) flavor.1) rank'
+    each_get (MakesWith flavor.0 number) (acts now) here.place here.act flavor.1 here.there here.begins here.number
+        creation (ap creation_of here.same ∙ makes) in
+    parts_by_address script now number
+        (subst (λ f. AllByRecursion (MakesWith f number) (acts now))
+        (sym made ∙ is_dynamic_flavor creation.flavor dynamic) flavor.1) rank'
   where
     is_dynamic_flavor : (f : Flavor) → is_same_flavor f Dynamic ≡ true → f ≡ Dynamic
     is_dynamic_flavor f e = same_flavor f Dynamic e
 
-entered_names : (stage : Stage) (agent : Agent) (call : Call) → agent.entered ≡ true → next_call stage agent ≡ Some call →
+entered_names : (stage : Stage) (agent : Agent) (call : Call) → agent.entered ≡ true →
+    next_call stage agent ≡ Some call →
     names_so_far stage agent ≡ agent.known.windows.created ++ name_made call
 entered_names stage agent call begun here =
-    ap (λ b. agent.known.windows.created ++ begun_names b (next_call stage agent)) begun ∙ ap (λ o. agent.known.windows.created ++ begun_names true o) here
+    ap (λ b. agent.known.windows.created ++ begun_names b (next_call stage agent)) begun ∙ ap
+        (λ o. agent.known.windows.created ++ begun_names true o) here
 
-new_names : (stage : Stage) (agent : Agent) (call : Call) → agent.entered ≡ false → IsOneEntry (course_of agent.known.windows call) →
+new_names : (stage : Stage) (agent : Agent) (call : Call) → agent.entered ≡ false →
+    IsOneEntry (course_of agent.known.windows call) →
     names_so_far stage agent ≡ agent.known.windows.created ++ name_made call
 new_names stage agent call new one =
-    ap (λ b. agent.known.windows.created ++ begun_names b (next_call stage agent)) new ∙ ap (λ l. agent.known.windows.created ++ l) (sym (by_creation (creation_of call) refl))
+    ap (λ b. agent.known.windows.created ++ begun_names b (next_call stage agent)) new ∙ ap
+        (λ l. agent.known.windows.created ++ l) (sym (by_creation (creation_of call) refl))
   where
-    by_creation : (o : Option Creation) → creation_of call ≡ o → option_map_or (λ (creation : Creation). creation.win ∷ []) o [] ≡ []
+    by_creation : (o : Option Creation) → creation_of call ≡ o →
+        option_map_or (λ (creation : Creation). creation.win ∷ []) o [] ≡ []
     by_creation None e = refl
-    by_creation (Some creation) e = absurd (one_entry_makes_none agent.known.windows call creation one (creates_it call creation e))
+    by_creation (Some creation) e = absurd
+        (one_entry_makes_none agent.known.windows call creation one (creates_it call creation e))
 
-turned_away_sound : (script : Script) (delay : Delay) (rank : ℕ) (agent : Agent) (rows : List Row) (item : Item) (shapes : ℕ → List Part) → IsSoundRank script delay rank agent rows →
-    agent.entered ≡ false → IsTurnedAway agent rows item → IsSoundRank script delay rank (finished (kept shapes (stage_of script delay) agent item)) rows
+turned_away_sound : (script : Script) (delay : Delay) (rank : ℕ) (agent : Agent) (rows : List Row) (item : Item)
+    (shapes : ℕ → List Part) → IsSoundRank script delay rank agent rows →
+    agent.entered ≡ false → IsTurnedAway agent rows item → IsSoundRank script delay rank
+        (finished (kept shapes (stage_of script delay) agent item)) rows
 turned_away_sound script delay rank agent rows item shapes sound new away =
-    subst (λ (k : Knowledge). IsSoundRank script delay rank (record (finished (kept shapes (stage_of script delay) agent item)) { known = k }) rows) (sym (same away)) (record {
+    subst (λ (k : Knowledge). IsSoundRank script delay rank
+        (record (finished (kept shapes (stage_of script delay) agent item)) { known = k }) rows) (sym (same away))
+        (record {
       mine = sound.mine;
       whose = sound.whose;
       space = sound.space;
       roomy = sound.roomy;
-      numbers = λ win. sound.numbers win ∙ ap (λ b. count_by (λ name. name == win) (agent.known.windows.created ++ begun_names b (next_call (stage_of script delay) agent))) new;
+      numbers = λ win. sound.numbers win ∙ ap
+          (λ b. count_by (λ name. name == win)
+          (agent.known.windows.created ++ begun_names b (next_call (stage_of script delay) agent))) new;
       arrived = λ e. absurd (cc e);
       looked = λ e. absurd (cc e);
       pending = sound.pending;
     })
   where
-    same : IsTurnedAway agent rows item → learn shapes (calls_at (stage_of script delay) agent.rank) agent.known item ≡ agent.known
+    same : IsTurnedAway agent rows item → learn shapes (calls_at (stage_of script delay) agent.rank) agent.known
+        item ≡ agent.known
     same (ByRefusal class is) = ap (learn shapes (calls_at (stage_of script delay) agent.rank) agent.known) is
     same (ByTest is) = ap (learn shapes (calls_at (stage_of script delay) agent.rank) agent.known) is
 
-pub entry_keeps : (script : Script) (delay : Delay) (rank : ℕ) (first : List Row) → IsWellFormed script → rank < script.ranks → (agent next : Agent) (rows now : List Row) →
-    IsSoundAt script delay rank first agent rows → EntryMove (stage_of script delay) agent rows next now → IsSoundAt script delay rank first next now
+pub entry_keeps : (script : Script) (delay : Delay) (rank : ℕ) (first : List Row) → IsWellFormed script →
+    rank < script.ranks → (agent next : Agent) (rows now : List Row) →
+    IsSoundAt script delay rank first agent rows → EntryMove (stage_of script delay) agent rows next now →
+        IsSoundAt script delay rank first next now
 entry_keeps script delay rank first formed inside agent next rows now at (TurnsAway call item here new away is still) =
     let stage = stage_of script delay in
     subst (λ r. IsSoundAt script delay rank first next r) (sym still) (record {
-      sound = subst (λ a. IsSoundRank script delay rank a rows) (sym is) (turned_away_sound script delay rank agent rows item (shapes_in stage rows) at.sound new away);
+      sound = subst (λ a. IsSoundRank script delay rank a rows) (sym is)
+          (turned_away_sound script delay rank agent rows item (shapes_in stage rows) at.sound new away);
       regular = at.regular;
       begun = begun_kept stage agent next rows now (TurnsAway call item here new away is still);
       others = at.others;
     })
 entry_keeps script delay rank first formed inside agent next rows now at (Arrives call entry new course is more) =
-    subst (λ r. IsSoundAt script delay rank first next r) (sym more) (pushed_at script delay rank first agent next rows call Arrive formed inside at entry
-    (subst (λ a. IsSoundRank script delay rank a (with_row agent rows call Arrive)) (sym is) (arrives_sound script delay rank agent rows call at.sound entry new course))
+    subst (λ r. IsSoundAt script delay rank first next r) (sym more)
+        (pushed_at script delay rank first agent next rows call Arrive formed inside at entry
+    (subst (λ a. IsSoundRank script delay rank a (with_row agent rows call Arrive)) (sym is)
+        (arrives_sound script delay rank agent rows call at.sound entry new course))
     (begun_kept (stage_of script delay) agent next rows now (Arrives call entry new course is more)))
 entry_keeps script delay rank first formed inside agent next rows now at (LooksUp call entry new course is more) =
-    subst (λ r. IsSoundAt script delay rank first next r) (sym more) (pushed_at script delay rank first agent next rows call One formed inside at entry
-    (subst (λ a. IsSoundRank script delay rank a (with_row agent rows call One)) (sym is) (looks_sound script delay rank agent rows call at.regular at.sound entry new course))
+    subst (λ r. IsSoundAt script delay rank first next r) (sym more)
+        (pushed_at script delay rank first agent next rows call One formed inside at entry
+    (subst (λ a. IsSoundRank script delay rank a (with_row agent rows call One)) (sym is)
+        (looks_sound script delay rank agent rows call at.regular at.sound entry new course))
     (begun_kept (stage_of script delay) agent next rows now (LooksUp call entry new course is more)))
 entry_keeps script delay rank first formed inside agent next rows now at (Leaves call entry begun course is more) =
-    let regular = regular_push script rows (next_row agent call Leave) formed at.regular (own_row_sound script delay rank agent rows call Leave inside at.sound entry) entry.allowed in
-    subst (λ r. IsSoundAt script delay rank first next r) (sym more) (pushed_at script delay rank first agent next rows call Leave formed inside at entry
+    let regular = regular_push script rows (next_row agent call Leave) formed at.regular
+        (own_row_sound script delay rank agent rows call Leave inside at.sound entry) entry.allowed in
+    subst (λ r. IsSoundAt script delay rank first next r) (sym more)
+        (pushed_at script delay rank first agent next rows call Leave formed inside at entry
     (subst (λ a. IsSoundRank script delay rank a (with_row agent rows call Leave)) (sym is)
-    (closes_sound script delay rank agent rows call Leave formed inside regular at.sound entry refl refl (leaves_by_address script delay rank agent rows call regular at.sound entry begun)
+    (closes_sound script delay rank agent rows call Leave formed inside regular at.sound entry refl refl
+        (leaves_by_address script delay rank agent rows call regular at.sound entry begun)
     (entered_names (stage_of script delay) agent call begun entry.here)))
     (begun_kept (stage_of script delay) agent next rows now (Leaves call entry begun course is more)))
 entry_keeps script delay rank first formed inside agent next rows now at (EntersOnce call entry new one is more) =
-    let regular = regular_push script rows (next_row agent call One) formed at.regular (own_row_sound script delay rank agent rows call One inside at.sound entry) entry.allowed in
-    subst (λ r. IsSoundAt script delay rank first next r) (sym more) (pushed_at script delay rank first agent next rows call One formed inside at entry
+    let regular = regular_push script rows (next_row agent call One) formed at.regular
+        (own_row_sound script delay rank agent rows call One inside at.sound entry) entry.allowed in
+    subst (λ r. IsSoundAt script delay rank first next r) (sym more)
+        (pushed_at script delay rank first agent next rows call One formed inside at entry
     (subst (λ a. IsSoundRank script delay rank a (with_row agent rows call One)) (sym is)
-    (closes_sound script delay rank agent rows call One formed inside regular at.sound entry (one_entry_moves_none agent.known.windows call one) refl
-    (λ creation made. absurd (one_entry_makes_none agent.known.windows call creation one made)) (new_names (stage_of script delay) agent call new one)))
+    (closes_sound script delay rank agent rows call One formed inside regular at.sound entry
+        (one_entry_moves_none agent.known.windows call one) refl
+    (λ creation made. absurd (one_entry_makes_none agent.known.windows call creation one made))
+        (new_names (stage_of script delay) agent call new one)))
     (begun_kept (stage_of script delay) agent next rows now (EntersOnce call entry new one is more)))

@@ -30,20 +30,23 @@ with_schedule world schedule = record world { schedule = schedule }
 
 -- P is kept by a pick
 abbrev pub KeptByPicks : (World → Type 0) → Type 0
-KeptByPicks P = (world : World) (schedule : Schedule) → schedule.waiting ≡ world.schedule.waiting → P world → P (with_schedule world schedule)
+KeptByPicks P = (world : World) (schedule : Schedule) → schedule.waiting ≡ world.schedule.waiting → P world →
+    P (with_schedule world schedule)
 
 -- P is kept by each turn
 abbrev pub KeptByTurns : Stage → (World → Type 0) → Type 0
 KeptByTurns stage P = (world : World) (rank : ℕ) → MayTurn stage world rank → P world → P (turn stage world rank)
 
 -- who waits is as it was, so who is ready is
-pub picked_may_turn : (stage : Stage) (world : World) (schedule : Schedule) (rank : ℕ) → schedule.waiting ≡ world.schedule.waiting → MayTurn stage world rank →
+pub picked_may_turn : (stage : Stage) (world : World) (schedule : Schedule) (rank : ℕ) →
+    schedule.waiting ≡ world.schedule.waiting → MayTurn stage world rank →
     MayTurn stage (with_schedule world schedule) rank
 picked_may_turn stage world schedule rank same may =
     (may.0, ap (λ waiting. not (agent_at stage world rank).ended && not (is_member rank waiting)) same ∙ may.1)
 
 -- what picks and turns keep holds after any number of turns
-pub run_keeps : (stage : Stage) (order : Order) (P : World → Type 0) → KeptByPicks P → KeptByTurns stage P → (turns : ℕ) (world : World) → P world →
+pub run_keeps : (stage : Stage) (order : Order) (P : World → Type 0) → KeptByPicks P → KeptByTurns stage P →
+    (turns : ℕ) (world : World) → P world →
     P (run_from stage order turns world)
 run_keeps stage order P picks turns_keep zero world old = old
 run_keeps stage order P picks turns_keep (suc turns) world old =
@@ -55,7 +58,8 @@ run_keeps stage order P picks turns_keep (suc turns) world old =
       | Some next ↦ λ e.
           let is = pick_is order (is_ready stage world) stage.script.ranks world.schedule next e in
           run_keeps stage order P picks turns_keep turns (turn stage (with_schedule world next.1) next.0)
-          (turns_keep (with_schedule world next.1) next.0 (picked_may_turn stage world next.1 next.0 is.1 is.0) (picks world next.1 is.1 old))
+          (turns_keep (with_schedule world next.1) next.0 (picked_may_turn stage world next.1 next.0 is.1 is.0)
+              (picks world next.1 is.1 old))
     ] in
     go (pick order (is_ready stage world) stage.script.ranks world.schedule) refl
 
@@ -69,12 +73,14 @@ not_ended stage world rank e =
 
 -- P is kept by a turn of a rank at the board, where the rank tries an entry
 abbrev pub KeptAtBoard : Stage → (World → Type 0) → Type 0
-KeptAtBoard stage P = (world : World) (rank : ℕ) → MayTurn stage world rank → tries_entry stage (agent_at stage world rank) ≡ true → P world →
+KeptAtBoard stage P = (world : World) (rank : ℕ) → MayTurn stage world rank →
+    tries_entry stage (agent_at stage world rank) ≡ true → P world →
     P (turn_at_board world rank (board_step stage (agent_at stage world rank) world.rows))
 
 -- P is kept by a turn of a rank on memory, where the rank tries none
 abbrev pub KeptOnMemory : Stage → (World → Type 0) → Type 0
-KeptOnMemory stage P = (world : World) (rank : ℕ) → MayTurn stage world rank → tries_entry stage (agent_at stage world rank) ≡ false → P world →
+KeptOnMemory stage P = (world : World) (rank : ℕ) → MayTurn stage world rank →
+    tries_entry stage (agent_at stage world rank) ≡ false → P world →
     P (turn_on_memory world rank (data_step stage (agent_at stage world rank) world.cells))
 
 pub turns_kept : (stage : Stage) (P : World → Type 0) → KeptAtBoard stage P → KeptOnMemory stage P → KeptByTurns stage P
@@ -103,8 +109,10 @@ regular_at_board stage world rank may tries regular =
     record {
       ranks = length-set world.agents rank step.agent ∙ regular.ranks;
       begun = each_set (λ _ (a : Agent). HasBegun stage a) world.agents (new_agent stage 0) rank step.agent
-          (moves_keep stage (λ a rows. HasBegun stage a) (λ a next rows now old move. begun_kept stage a next rows now move)
-          agent step.agent world.rows step.rows (regular.begun rank) (board_step_moves stage agent world.rows (regular.begun rank) tries)) regular.begun;
+          (moves_keep stage (λ a rows. HasBegun stage a)
+              (λ a next rows now old move. begun_kept stage a next rows now move)
+          agent step.agent world.rows step.rows (regular.begun rank)
+              (board_step_moves stage agent world.rows (regular.begun rank) tries)) regular.begun;
     }
 
 pub regular_on_memory : (stage : Stage) → KeptOnMemory stage (IsRegular stage)
@@ -121,18 +129,23 @@ pub regular_turns : (stage : Stage) → KeptByTurns stage (IsRegular stage)
 regular_turns stage = turns_kept stage (IsRegular stage) (regular_at_board stage) (regular_on_memory stage)
 
 -- a fact of new ranks
-pub new_agents_at : (stage : Stage) (seed : ℕ) (P : ℕ → Agent → Type 0) → ((rank some : ℕ) → P rank (new_agent stage some rank)) → (first count at : ℕ) →
+pub new_agents_at : (stage : Stage) (seed : ℕ) (P : ℕ → Agent → Type 0) →
+    ((rank some : ℕ) → P rank (new_agent stage some rank)) → (first count at : ℕ) →
     P (first + at) (get_or (map (new_agent stage seed) (numbers_from first count)) at (new_agent stage 0 (first + at)))
 new_agents_at stage seed P each first zero at = each (first + at) 0
-new_agents_at stage seed P each first (suc count) zero = subst (λ n. P n (new_agent stage seed first)) (omega arith) (each first seed)
+new_agents_at stage seed P each first (suc count) zero = subst (λ n. P n (new_agent stage seed first)) (omega arith)
+    (each first seed)
 new_agents_at stage seed P each first (suc count) (suc at) =
-    subst (λ n. P n (get_or (map (new_agent stage seed) (numbers_from (first + 1) count)) at (new_agent stage 0 n))) (omega arith)
+    subst (λ n. P n (get_or (map (new_agent stage seed) (numbers_from (first + 1) count)) at (new_agent stage 0 n)))
+        (omega arith)
     (new_agents_at stage seed P each (first + 1) count at)
 
-pub at_first : (stage : Stage) (order : Order) (seed : ℕ) (P : ℕ → Agent → Type 0) → ((rank some : ℕ) → P rank (new_agent stage some rank)) → (rank : ℕ) →
+pub at_first : (stage : Stage) (order : Order) (seed : ℕ) (P : ℕ → Agent → Type 0) →
+    ((rank some : ℕ) → P rank (new_agent stage some rank)) → (rank : ℕ) →
     P rank (agent_at stage (first_world stage order seed) rank)
 at_first stage order seed P each rank =
-    subst (λ n. P n (get_or (first_world stage order seed).agents rank (new_agent stage 0 n))) (omega arith) (new_agents_at stage seed P each 0 stage.script.ranks rank)
+    subst (λ n. P n (get_or (first_world stage order seed).agents rank (new_agent stage 0 n))) (omega arith)
+        (new_agents_at stage seed P each 0 stage.script.ranks rank)
 
 pub first_is_regular : (stage : Stage) (order : Order) (seed : ℕ) → IsRegular stage (first_world stage order seed)
 first_is_regular stage order seed = record {
