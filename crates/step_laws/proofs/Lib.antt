@@ -1,0 +1,23 @@
+-- The proofs.
+mod Lists
+mod Picks
+mod OwnTests
+mod EntryMoves
+mod Weights
+mod BoardWeights
+mod DataWeights
+mod DataBegun
+mod Turns
+mod Ending
+mod Bound
+mod Draining
+mod Memory
+mod OwnRoom
+mod Creations
+mod Flavors
+mod Sound
+mod CallCourses
+mod LookUps
+mod SoundEntries
+mod SoundSteps
+mod SoundRuns

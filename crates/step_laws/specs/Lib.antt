@@ -1,0 +1,4 @@
+-- What the theorems say.
+pub mod Drained
+pub mod Ends
+pub mod Inside
