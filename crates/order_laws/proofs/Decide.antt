@@ -11,7 +11,7 @@ use Rattle.lawful_runs.specs.LawfulRun.{IsLawful}
 use Rattle.order_rules.specs.Before.{NamedEvent, events_in, is_edge_between, StandsBefore, Before, Same, InLog, Across}
 use Rattle.clock_rules.specs.Clocks.{Stamp, count_in, stands_before, precedes, is_counted_by, is_counted, KeepClockLaws}
 use Rattle.order_laws.specs.ClockLaws.{ClocksDecide}
-use Rattle.order_laws.proofs.Members.{In, here, any_in, in_any, in_map, map_in, contains_in, in_contains}
+use Rattle.order_laws.proofs.Members.{In, any_in, in_any, in_map, map_in, contains_in, in_contains}
 use Rattle.order_laws.proofs.Order.{edge_between, edge_from, edge_ascends, log_ascends, log_before, same_event, same_place}
 
 -- an item that stands before another in its log

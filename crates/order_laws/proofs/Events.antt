@@ -1,5 +1,5 @@
 -- The entries of a lawful run as events: each with its item, its row and the board's answer.
-use Rattle.std.proofs.Common.{◌≡◌, ℕ, zero, suc, ◌+◌, ◌<◌, inl, inr, Bool, true, false, List, [], ◌∷◌, ◌++◌, length, Some, refl, ap, sym, subst, ◌∙◌, arith, length-append, append_assoc}
+use Rattle.std.proofs.Common.{◌≡◌, ℕ, zero, suc, ◌+◌, ◌<◌, inl, inr, Bool, true, List, [], ◌∷◌, ◌++◌, length, Some, refl, ap, sym, subst, ◌∙◌, arith, length-append, append_assoc}
 use Rattle.std.specs.Prelude.{cond, map, slice_get, slice_index_or, nat_lt}
 use Rattle.std.specs.List.{find, flat_map, count_by, zip, AllByRecursion}
 use Rattle.std.specs.Option.{option_map_or}
