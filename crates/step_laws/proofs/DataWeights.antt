@@ -13,7 +13,7 @@ use Rattle.call_rules.specs.Actions.{Transfer, transfer_of}
 use Rattle.lawful_runs.specs.Stages.{Stage, calls_at}
 use Rattle.rank_rules.specs.Courses.{Course, OneNull, OneIssue, LookUpAndIssue, OneFlush, OneRequest, ArriveAndLeave, EntryOrTested, OneEntry, course_of, has_entry, access_of}
 use Rattle.rank_rules.specs.Knowledge.{Knowledge, own_class}
-use Rattle.rank_rules.specs.Pending.{PendingAccess}
+use Rattle.rank_rules.specs.declared.pending.PendingAccess.{PendingAccess}
 use Rattle.step_runs.specs.Agents.{Agent, next_call, kept, finished, has_pending, is_seeded, must_draw, awaited_by, begins_with_entry, tries_entry}
 use Rattle.step_runs.specs.DataSteps.{OnMemory, with_delivery, deliver, Move, just_delivers, without_delivery, no_shapes, with_item, made_pending, with_issue, issue_of, issue, draw, first_item, wait_or_go_on, judge, begin, go_on, end, move_of, deliver_if, data_step}
 use Rattle.step_laws.proofs.EntryMoves.{HasBegun, IsTwofold}

@@ -10,7 +10,7 @@ use Rattle.rma_types.specs.declared.scripts.Script.{Script}
 use Rattle.call_rules.specs.declared.cells.Cell.{Cell}
 use Rattle.call_rules.specs.Pieces.{numbers_from}
 use Rattle.lawful_runs.specs.Stages.{Stage, stage_of}
-use Rattle.rank_rules.specs.Pending.{PendingAccess}
+use Rattle.rank_rules.specs.declared.pending.PendingAccess.{PendingAccess}
 use Rattle.step_runs.specs.Agents.{Agent, new_agent}
 use Rattle.step_runs.specs.DataSteps.{OnMemory, deliver}
 use Rattle.step_runs.specs.StepRun.{World, agent_at, deliver_each, drain_rank, drain, turn_on_memory, run_from, first_world, most_turns}

@@ -22,7 +22,7 @@ use Rattle.rank_rules.specs.Classes.{first_class}
 use Rattle.rank_rules.specs.Courses.{Course, OneNull, OneIssue, LookUpAndIssue, OneFlush, OneRequest, ArriveAndLeave, EntryOrTested, OneEntry, course_of_transfer, course_of_action, course_of, has_entry, access_on, access_of}
 use Rattle.rank_rules.specs.EpochTests.{epoch_class}
 use Rattle.rank_rules.specs.Knowledge.{Knowledge, own_class, known_after_call, learn}
-use Rattle.rank_rules.specs.Pending.{PendingAccess}
+use Rattle.rank_rules.specs.declared.pending.PendingAccess.{PendingAccess}
 use Rattle.rank_rules.specs.Windows.{Window, RankWindows, window_of_name, windows_after}
 use Rattle.rank_rules.specs.WindowTests.{place_tests, window_class}
 use Rattle.step_runs.specs.Agents.{Agent, next_call, kept, finished, has_pending, must_draw, awaited_by, begins_with_entry, tries_entry}

@@ -10,7 +10,7 @@ use Rattle.call_rules.specs.Pieces.{numbers_from}
 use Rattle.call_rules.specs.Ranks.{is_member}
 use Rattle.board_rules.specs.Entries.{Row}
 use Rattle.lawful_runs.specs.Stages.{Stage}
-use Rattle.rank_rules.specs.Pending.{PendingAccess}
+use Rattle.rank_rules.specs.declared.pending.PendingAccess.{PendingAccess}
 use Rattle.step_runs.specs.Agents.{Agent, new_agent, tries_entry}
 use Rattle.step_runs.specs.BoardSteps.{AtBoard, board_step}
 use Rattle.step_runs.specs.DataSteps.{OnMemory, data_step, deliver}

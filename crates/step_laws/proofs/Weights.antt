@@ -12,8 +12,9 @@ use Rattle.call_rules.specs.declared.cells.Cell.{Cell}
 use Rattle.call_rules.specs.Actions.{Transfer}
 use Rattle.lawful_runs.specs.Accesses.{transfer_at}
 use Rattle.lawful_runs.specs.Stages.{Stage, calls_at}
-use Rattle.rank_rules.specs.Pending.{PendingAccess, gives_way, first_in_way, way_in, way, must_wait, awaited}
-use Rattle.rank_rules.specs.Requests.{LiveRequest}
+use Rattle.rank_rules.specs.Pending.{gives_way, first_in_way, way_in, way, must_wait, awaited}
+use Rattle.rank_rules.specs.declared.pending.PendingAccess.{PendingAccess}
+use Rattle.rank_rules.specs.Requests.{Requests}
 use Rattle.step_runs.specs.Agents.{Agent, next_call}
 use Rattle.step_runs.specs.DataSteps.{OnMemory, with_touches, with_delivery, deliver}
 
@@ -202,7 +203,7 @@ pub way_within : (pending : List PendingAccess) (at : ℕ) → at < length pendi
 way_within pending at inside = way_in_within at pending at inside
 
 -- what a call must wait for is pending
-pub awaited_within : (requests : List LiveRequest) (call : Call) (pending : List PendingAccess) (at : ℕ) →
+pub awaited_within : (requests : Requests) (call : Call) (pending : List PendingAccess) (at : ℕ) →
     awaited requests call pending ≡ Some at → at < length pending
 awaited_within requests call [] at e = absurd (cc e)
 awaited_within requests call (first ∷ rest) at e = by_position (position (must_wait requests call) (first ∷ rest))

@@ -20,7 +20,7 @@ use Rattle.call_rules.specs.WellFormed.{IsWellFormed}
 use Rattle.lawful_runs.specs.Accesses.{transfer_at}
 use Rattle.lawful_runs.specs.Logs.{calls_of}
 use Rattle.lawful_runs.specs.Stages.{Stage, stage_of}
-use Rattle.rank_rules.specs.Pending.{PendingAccess}
+use Rattle.rank_rules.specs.declared.pending.PendingAccess.{PendingAccess}
 use Rattle.step_runs.specs.Agents.{Agent, next_call, tries_entry}
 use Rattle.step_runs.specs.DataSteps.{move_of}
 use Rattle.step_runs.specs.StepRun.{World, agent_at, run_from, first_world}
