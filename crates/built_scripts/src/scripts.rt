@@ -50,9 +50,7 @@ fn fences(calls: &[Call]) -> usize
 fn have_fences(wanted: usize, lists: &[Items<Call>]) -> bool
     ensures { IsTrue result ↔ AllByRecursion (λ calls. fences_of calls ≡ wanted) lists.now }
 {
-    lists
-        .iter()
-        .all(|calls| fences(calls.as_slice()) == wanted)
+    lists.iter().all(|calls| fences(calls.as_slice()) == wanted)
 }
 
 /// Whether all lists have as many fences as the first.

@@ -68,10 +68,10 @@ begins_awaited : (stage : Stage) (agent : Agent) (call : Call) (item : Item) →
     KeepsAwaited stage agent → is_ended item ≡ false → number_in item ≡ Some agent.at →
     (rows : List Row) (one : PendingAccess) → issued_at (calls_at stage agent.rank) agent.log one.index ≡ Some one →
     is_awaiting (rank_of stage agent.rank rows) agent.log one item ≡ true →
-        IsTouchedWhole (rank_of stage agent.rank rows) agent.log one
+    IsTouchedWhole (rank_of stage agent.rank rows) agent.log one
 begins_awaited stage agent call item begins h ended number rows one e waits =
     whole_or_pending stage agent one rows h.touches e (λ among. cc
-        (sym (among_each (λ p. must_wait agent.known.requests call p ≡ false) one agent.pending none among) ∙ must))
+    (sym (among_each (λ p. must_wait agent.known.requests call p ≡ false) one agent.pending none among) ∙ must))
   where
     here : RankOfRun
     here = rank_of stage agent.rank rows
@@ -79,14 +79,14 @@ begins_awaited stage agent call item begins h ended number rows one e waits =
     awaits : begins_awaiting here agent.log item one agent.at ≡ true
     awaits = ap (λ (o : Option ℕ). option_map_or (begins_awaiting here agent.log item one) o false) (sym number)
         ∙ ap (λ b. b || option_map_or (begins_awaiting here agent.log item one) (number_in item) false) (sym ended)
-            ∙ waits
+        ∙ waits
 
     at_call : must_wait (known_at here agent.log).requests call one ≡ true
     at_call = ap (λ (o : Option Call). option_map_or (λ c. must_wait
         (known_at here agent.log).requests c one) o false) (sym begins.here)
         ∙ and_right (not (is_own_refusal item) && not (list_any (belongs_to agent.at) agent.log))
-            (option_map_or (λ c. must_wait (known_at here agent.log).requests c one)
-            (slice_get (calls_here here) agent.at) false) awaits
+        (option_map_or (λ c. must_wait (known_at here agent.log).requests c one)
+        (slice_get (calls_here here) agent.at) false) awaits
 
     must : must_wait agent.known.requests call one ≡ true
     must = ap (λ (r : Requests). must_wait r call one) (sym (h.requests rows)) ∙ at_call
@@ -109,8 +109,8 @@ second_awaits_nothing here log one at item there ended number waits =
     ∙ ap (λ b. b || option_map_or (begins_awaiting here log item one) (number_in item) false) (sym ended) ∙ waits in
     let none = and_right (not (is_own_refusal item)) (not (list_any (belongs_to at) log))
     (and_left (not (is_own_refusal item) && not (list_any (belongs_to at) log))
-        (option_map_or (λ c. must_wait (known_at here log).requests c one)
-        (slice_get (calls_here here) at) false) awaits) in
+    (option_map_or (λ c. must_wait (known_at here log).requests c one)
+    (slice_get (calls_here here) at) false) awaits) in
     cc (sym none ∙ ap not there)
 
 any_left : {X : Type 0} (test : X → Bool) (xs ys : List X) → list_any test xs ≡ true → list_any test (xs ++ ys) ≡ true
@@ -143,13 +143,13 @@ abbrev NewAwaited : Stage → Agent → Item → Type 0
 NewAwaited stage agent item = (rows : List Row) (one : PendingAccess) →
     issued_at (calls_at stage agent.rank) agent.log one.index ≡ Some one →
     is_awaiting (rank_of stage agent.rank rows) agent.log one item ≡ true →
-        IsTouchedWhole (rank_of stage agent.rank rows) agent.log one
+    IsTouchedWhole (rank_of stage agent.rank rows) agent.log one
 
 second_new : (stage : Stage) (agent : Agent) (item : Item) → KeepsAwaited stage agent → agent.entered ≡ true →
     is_ended item ≡ false → number_in item ≡ Some agent.at → NewAwaited stage agent item
 second_new stage agent item h inside ended number rows one e waits =
     absurd (second_awaits_nothing (rank_of stage agent.rank rows) agent.log one agent.at item
-        (h.begun inside) ended number waits)
+    (h.begun inside) ended number waits)
 
 issue_new : (stage : Stage) (agent : Agent) (call : Call) (t : _) (access : _) → Issuing stage agent call t access →
     KeepsAwaited stage agent → NewAwaited stage agent (Issue agent.at access)
@@ -163,7 +163,7 @@ issue_new stage agent call t access issuing h = by issuing.begun
 awaited_entered : (stage : Stage) (agent : Agent) (call : Call) (step : Step) (after : Agent → Agent) (shapes : ℕ →
     List Part) (place : ℕ) → Entering stage agent call step after → KeepsAwaited stage agent →
     KeepsTouches stage (after (kept shapes stage agent (Entry agent.at place step))) →
-        KeepsAwaited stage (after (kept shapes stage agent (Entry agent.at place step)))
+    KeepsAwaited stage (after (kept shapes stage agent (Entry agent.at place step)))
 awaited_entered stage agent call _ _ shapes place (OnlyEntry begins course) h touches = record {
   touches = touches;
   requests = requests_push shapes stage agent.rank agent.known agent.log (Entry agent.at place One) h.requests;
@@ -203,7 +203,7 @@ awaited_kept stage p _ h (Ends past empty going) = record {
   begun = λ e. any_left (belongs_to p.agent.at) p.agent.log (Ended ∷ []) (h.begun e);
   awaited = awaited_push stage p.agent.rank p.agent.log Ended h.awaited
       (λ rows one e waits. whole_or_pending stage p.agent one rows h.touches e
-          (λ among. subst (Among one) empty among));
+      (λ among. subst (Among one) empty among));
 }
 awaited_kept stage p _ h (RefusesAlone call class here new refuses) = record {
   touches = touches_kept stage p _ h.touches (RefusesAlone call class here new refuses);
@@ -240,7 +240,7 @@ awaited_kept stage p _ h (Passes call item begins plain) =
     }
 awaited_kept stage p _ h (Enters call step after entering answer) =
     awaited_entered stage p.agent call step after (shapes_in stage (p.rows ++ next_row p.agent call step ∷ []))
-        (length p.rows) entering h (touches_kept stage p _ h.touches (Enters call step after entering answer))
+    (length p.rows) entering h (touches_kept stage p _ h.touches (Enters call step after entering answer))
 awaited_kept stage p _ h (Issues call t access issuing later) = record {
   touches = touches_kept stage p _ h.touches (Issues call t access issuing later);
   requests = requests_push no_shapes stage p.agent.rank p.agent.known p.agent.log
@@ -264,8 +264,12 @@ awaited_kept stage p _ h (IssuesWhole call t access items after issuing once tou
           (issue_new stage p.agent call t access issuing h));
     }
 awaited_kept stage p _ h (Draws state new) =
-    let old = touches_kept stage p _ h.touches (Draws state new) in record { touches = old; requests = h.requests;
-        begun = h.begun; awaited = h.awaited }
+    let old = touches_kept stage p _ h.touches (Draws state new) in record {
+      touches = old;
+      requests = h.requests;
+      begun = h.begun;
+      awaited = h.awaited;
+    }
 awaited_kept stage p _ h (Delivers at one items after there due touches) =
     let own = touches_of_own stage one _ p.lows items after touches in
     record {

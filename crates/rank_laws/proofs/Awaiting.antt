@@ -31,7 +31,7 @@ rank_of stage rank rows = record { stage = stage; rank = rank; rows = rows }
 requests_by_number : (s other : ℕ → List Part) (calls : List Call) (a b : Knowledge) (number : ℕ) (o : Option Call) →
     a.requests ≡ b.requests →
     (option_map_or (known_after_call s a number) o a).requests ≡
-        (option_map_or (known_after_call other b number) o b).requests
+    (option_map_or (known_after_call other b number) o b).requests
 requests_by_number s other calls a b number None e = e
 requests_by_number s other calls a b number (Some call) e = ap
     (λ (r : Requests). requests_after r number (action_of call)) e
@@ -39,7 +39,7 @@ requests_by_number s other calls a b number (Some call) e = ap
 requests_by_item : (s other : ℕ → List Part) (calls : List Call) (a b : Knowledge) (o : Option ℕ) →
     a.requests ≡ b.requests →
     (option_map_or (known_after_number s calls a) o a).requests ≡
-        (option_map_or (known_after_number other calls b) o b).requests
+    (option_map_or (known_after_number other calls b) o b).requests
 requests_by_item s other calls a b None e = e
 requests_by_item s other calls a b (Some number) e = requests_by_number s other calls a b number
     (slice_get calls number) e
@@ -66,7 +66,7 @@ pub requests_push : (shapes : ℕ → List Part) (stage : Stage) (rank : ℕ) (k
 requests_push shapes stage rank known log item h rows =
     ap (λ (k : Knowledge). k.requests) (known_push (rank_of stage rank rows) log item)
     ∙ requests_learnt (shapes_in stage rows) shapes (calls_at stage rank)
-        (known_at (rank_of stage rank rows) log) known item (h rows)
+    (known_at (rank_of stage rank rows) log) known item (h rows)
 
 touch_teaches_nothing : (shapes : ℕ → List Part) (calls : List Call) (known : Knowledge) (issue : ℕ) (item : Item) →
     IsTouchOf issue item → learn shapes calls known item ≡ known
@@ -102,18 +102,18 @@ past_waits here log index one e = rw e refl
 -- one more item, before which all that it waits for is touched
 pub awaited_push : (stage : Stage) (rank : ℕ) (log : List Item) (item : Item) → AreAwaited stage rank log →
     ((rows : List Row) (one : PendingAccess) → issued_at (calls_at stage rank) log one.index ≡ Some one →
-        is_awaiting (rank_of stage rank rows) log one item ≡ true →
-        IsTouchedWhole (rank_of stage rank rows) log one) →
+    is_awaiting (rank_of stage rank rows) log one item ≡ true →
+    IsTouchedWhole (rank_of stage rank rows) log one) →
     AreAwaited stage rank (log ++ item ∷ [])
 awaited_push stage rank log item h new rows index = elim (place_in index (length log)) [
   | inl less ↦
       subst (λ (before : List Item). AllByRecursion (λ one. IsTrue
-          (option_map_or (is_awaiting here before one) (slice_get (log ++ item ∷ []) index) false) →
-          IsTouchedWhole here before one) (issued_in here before))
+      (option_map_or (is_awaiting here before one) (slice_get (log ++ item ∷ []) index) false) →
+      IsTouchedWhole here before one) (issued_in here before))
       (sym (take-append-le index log (item ∷ []) (omega arith)))
       (subst (λ (o : Option Item). AllByRecursion (λ one. IsTrue
-          (option_map_or (is_awaiting here (take index log) one) o false) → IsTouchedWhole here (take index log) one)
-          (issued_in here (take index log)))
+      (option_map_or (is_awaiting here (take index log) one) o false) → IsTouchedWhole here (take index log) one)
+      (issued_in here (take index log)))
       (sym (get_front log (item ∷ []) index less)) (h rows index))
   | inr past ↦ at_end past.0 past.1
 ]
@@ -126,21 +126,21 @@ awaited_push stage rank log item h new rows index = elim (place_in index (length
         let same : length log ≡ index = omega arith in
         subst (IsAwaitedWhole here (log ++ item ∷ [])) same
         (subst (λ (before : List Item). AllByRecursion (λ one. IsTrue
-            (option_map_or (is_awaiting here before one) (slice_get (log ++ item ∷ []) (length log)) false) →
-            IsTouchedWhole here before one) (issued_in here before))
+        (option_map_or (is_awaiting here before one) (slice_get (log ++ item ∷ []) (length log)) false) →
+        IsTouchedWhole here before one) (issued_in here before))
         (sym (take-append_seam log (item ∷ [])))
         (subst (λ (o : Option Item). AllByRecursion (λ one. IsTrue
-            (option_map_or (is_awaiting here log one) o false) → IsTouchedWhole here log one) (issued_in here log))
+        (option_map_or (is_awaiting here log one) o false) → IsTouchedWhole here log one) (issued_in here log))
         (sym (get_rest log (item ∷ []) (length log) 0 (omega arith)))
         (each_issued (calls_at stage rank) (λ one. IsTrue (is_awaiting here log one item) →
-            IsTouchedWhole here log one) log
+        IsTouchedWhole here log one) log
         (λ at one issued waits. new rows one (subst (λ n. issued_at (calls_at stage rank) log n ≡ Some one)
-            (sym (issued_inside (calls_at stage rank) log at one issued).1) issued) waits))))
+        (sym (issued_inside (calls_at stage rank) log at one issued).1) issued) waits))))
     at_end (suc at) e =
         let gone : slice_get (log ++ item ∷ []) index ≡ None = slice_get_past (log ++ item ∷ []) index
-            (omega (arith, length-append log (item ∷ []))) in
+        (omega (arith, length-append log (item ∷ []))) in
         each_of (λ one. IsTrue (waits_at here (log ++ item ∷ []) index one) →
-            IsTouchedWhole here (take index (log ++ item ∷ [])) one)
+        IsTouchedWhole here (take index (log ++ item ∷ [])) one)
         (λ one waits. let none = past_waits here (log ++ item ∷ []) index one gone in absurd (cc (sym none ∙ waits)))
         (issued_in here (take index (log ++ item ∷ [])))
 
@@ -163,4 +163,4 @@ awaited_touches stage rank issue (item ∷ items) log own h =
     subst (AreAwaited stage rank) (append_assoc log (item ∷ []) items)
     (awaited_touches stage rank issue items (log ++ item ∷ []) own.1
     (awaited_push stage rank log item h (λ rows one e waits. let none = touch_awaits_nothing
-        (rank_of stage rank rows) log one issue item own.0 in absurd (cc (sym none ∙ waits)))))
+    (rank_of stage rank rows) log one issue item own.0 in absurd (cc (sym none ∙ waits)))))

@@ -62,19 +62,32 @@ pub record FitsBoard (ranks : ℕ) (calls : List Call) (rank : ℕ) (rows : List
   pub within : AllByRecursion (IsWithin (length rows)) (moments_in log)
 
 pub nothing_fits : (ranks : ℕ) (calls : List Call) (rank : ℕ) → FitsBoard ranks calls rank [] []
-nothing_fits ranks calls rank = record { allowed = tt; entries = λ place. refl; amount = refl; named = tt; looks = tt;
-    seen = tt; moments = tt; within = tt }
+nothing_fits ranks calls rank = record {
+  allowed = tt;
+  entries = λ place. refl;
+  amount = refl;
+  named = tt;
+  looks = tt;
+  seen = tt;
+  moments = tt;
+  within = tt;
+}
 
 -- ---- rows more
 
 allowed_more : (ranks : ℕ) (calls : List Call) (rank : ℕ) (before rows : List Row) (row : Row) →
     AreOwnAllowed ranks calls rank before rows → IsOwnAllowed ranks calls rank (before ++ rows) row →
     AreOwnAllowed ranks calls rank before (rows ++ row ∷ [])
-allowed_more ranks calls rank before [] row h k = (subst (λ (b : List Row). IsOwnAllowed ranks calls rank b row)
-    (append-nil before) k, tt)
-allowed_more ranks calls rank before (r ∷ rows) row h k =
-    (h.0, allowed_more ranks calls rank (before ++ r ∷ []) rows row h.1
-        (subst (λ (b : List Row). IsOwnAllowed ranks calls rank b row) (sym (append_assoc before (r ∷ []) rows)) k))
+allowed_more ranks calls rank before [] row h k = (
+  subst (λ (b : List Row). IsOwnAllowed ranks calls rank b row)
+      (append-nil before) k,
+  tt,
+)
+allowed_more ranks calls rank before (r ∷ rows) row h k = (
+  h.0,
+  allowed_more ranks calls rank (before ++ r ∷ []) rows row h.1
+      (subst (λ (b : List Row). IsOwnAllowed ranks calls rank b row) (sym (append_assoc before (r ∷ []) rows)) k),
+)
 
 own_more : (rank : ℕ) (rows : List Row) (row : Row) → own_of rank (rows ++ row ∷ []) ≡ own_of rank rows + cond {A = ℕ}
     (eqb row.rank rank) 1 0
@@ -87,12 +100,12 @@ look_grows : (ranks : ℕ) (calls : List Call) (rows more : List Row) (rank : �
 look_grows ranks calls rows more rank (Refused number class zero) look seen = tt
 look_grows ranks calls rows more rank (Refused number class (suc before)) look seen =
     subst (λ (first : List Row). IsSomeAnd (slice_get calls number)
-        (λ call. shared_class ranks first (first_row rank number call) ≡ Some class))
-        (sym (take-append-le (suc before) rows more seen)) look
+    (λ call. shared_class ranks first (first_row rank number call) ≡ Some class))
+    (sym (take-append-le (suc before) rows more seen)) look
 look_grows ranks calls rows more rank (Tested number before) look seen =
     subst (λ (first : List Row). IsSomeAnd (slice_get calls number)
-        (λ call. decide ranks first (first_row rank number call) ≡ NotYet))
-        (sym (take-append-le before rows more seen)) look
+    (λ call. decide ranks first (first_row rank number call) ≡ NotYet))
+    (sym (take-append-le before rows more seen)) look
 look_grows ranks calls rows more rank (Issue number access) look seen = tt
 look_grows ranks calls rows more rank (Null number) look seen = tt
 look_grows ranks calls rows more rank (Touch issue element cell place bits) look seen = tt
@@ -123,7 +136,7 @@ longer rows row = omega (arith, length-append rows (row ∷ []))
 row_at : (rows : List Row) (row : Row) (place : ℕ) → ((place < length rows) ×
     (slice_get (rows ++ row ∷ []) place ≡ slice_get rows place))
     ⊎ (((place ≡ length rows) × (slice_get (rows ++ row ∷ []) place ≡ Some row)) ⊎
-        ((length rows < place) × (slice_get (rows ++ row ∷ []) place ≡ None)))
+    ((length rows < place) × (slice_get (rows ++ row ∷ []) place ≡ None)))
 row_at rows row place = elim (place_in place (length rows)) [
   | inl less ↦ inl (less, get_front rows (row ∷ []) place less)
   | inr past ↦ inr (at_end past.0 past.1)
@@ -154,8 +167,8 @@ other_fits ranks calls rank rows row log other fits = record {
 }
   where
     same_entries : (place : ℕ) → ((place < length rows) × (slice_get (rows ++ row ∷ []) place ≡ slice_get rows place))
-            ⊎ (((place ≡ length rows) × (slice_get (rows ++ row ∷ []) place ≡ Some row)) ⊎
-                ((length rows < place) × (slice_get (rows ++ row ∷ []) place ≡ None))) →
+        ⊎ (((place ≡ length rows) × (slice_get (rows ++ row ∷ []) place ≡ Some row)) ⊎
+        ((length rows < place) × (slice_get (rows ++ row ∷ []) place ≡ None))) →
         entries_for rank place (slice_get rows place) ≡ entries_for rank place (slice_get (rows ++ row ∷ []) place)
     same_entries place (inl old) = ap (entries_for rank place) (sym old.1)
     same_entries place (inr (inl new)) =
@@ -185,7 +198,7 @@ pub own_fits : (ranks : ℕ) (calls : List Call) (rank : ℕ) (rows : List Row) 
     row.rank ≡ rank → decide ranks rows row ≡ Allow → slice_get calls row.number ≡ Some row.call →
     row.number < length calls →
     FitsBoard ranks calls rank rows log → FitsBoard ranks calls rank (rows ++ row ∷ [])
-        (log ++ Entry row.number (length rows) row.step ∷ [])
+    (log ++ Entry row.number (length rows) row.step ∷ [])
 own_fits ranks calls rank rows row log mine answer call inside fits = record {
   allowed = allowed_more ranks calls rank [] rows row fits.allowed (λ same. (answer, call));
   entries = λ place. filter-append (is_entry_at place) log (item ∷ [])
@@ -196,18 +209,18 @@ own_fits ranks calls rank rows row log mine answer call inside fits = record {
   named = each_append (IsOfCall calls) log (item ∷ []) fits.named (inside, tt);
   looks = each_append (IsLook ranks (rows ++ row ∷ []) rank calls) log (item ∷ [])
       (each_with (IsLook ranks rows rank calls) (IsSeen (length rows)) (IsLook ranks (rows ++ row ∷ []) rank calls)
-          (look_grows ranks calls rows (row ∷ []) rank) log fits.looks fits.seen) (tt, tt);
+      (look_grows ranks calls rows (row ∷ []) rank) log fits.looks fits.seen) (tt, tt);
   seen = each_append (IsSeen (length (rows ++ row ∷ []))) log (item ∷ [])
       (each_turned (IsSeen (length rows)) (IsSeen (length (rows ++ row ∷ [])))
-          (seen_grows (length rows) (length (rows ++ row ∷ [])) (longer rows row)) log fits.seen) (tt, tt);
+      (seen_grows (length rows) (length (rows ++ row ∷ [])) (longer rows row)) log fits.seen) (tt, tt);
   moments = subst (EachPair IsBefore) (sym (moments_push log item))
       (pair_push IsBefore (moments_in log) (EntryAt (length rows)) fits.moments
       (each_turned (IsWithin (length rows)) (λ m. IsBefore m (EntryAt (length rows))) entry_after
-          (moments_in log) fits.within));
+      (moments_in log) fits.within));
   within = subst (AllByRecursion (IsWithin (length (rows ++ row ∷ [])))) (sym (moments_push log item))
       (each_append (IsWithin (length (rows ++ row ∷ []))) (moments_in log) (EntryAt (length rows) ∷ [])
       (each_turned (IsWithin (length rows)) (IsWithin (length (rows ++ row ∷ [])))
-          (within_grows (length rows) (length (rows ++ row ∷ [])) (longer rows row)) (moments_in log) fits.within)
+      (within_grows (length rows) (length (rows ++ row ∷ [])) (longer rows row)) (moments_in log) fits.within)
       (omega (arith, length-append rows (row ∷ [])), tt));
 }
   where
@@ -224,7 +237,7 @@ own_fits ranks calls rank rows row log mine answer call inside fits = record {
       | inl old ↦
           let less = old.0 in
           ap (λ b. entries_for rank place (slice_get rows place) ++ cond b (item ∷ []) [])
-              (ne_eqb (length rows) place (λ e. omega arith))
+          (ne_eqb (length rows) place (λ e. omega arith))
           ∙ append-nil (entries_for rank place (slice_get rows place)) ∙ ap (entries_for rank place) (sym old.1)
       | inr rest ↦ elim rest [
         | inl new ↦
@@ -262,16 +275,28 @@ pub record AddsLook (ranks : ℕ) (calls : List Call) (rank : ℕ) (rows : List 
 
 quiet_adds : (ranks : ℕ) (calls : List Call) (rank : ℕ) (rows : List Row) (item : Item) → IsQuiet item →
     AddsLook ranks calls rank rows item
-quiet_adds ranks calls rank rows (Refused number class zero) q = record { entry = refl; look = tt; seen = omega arith;
-    moment = inl refl }
+quiet_adds ranks calls rank rows (Refused number class zero) q = record {
+  entry = refl;
+  look = tt;
+  seen = omega arith;
+  moment = inl refl;
+}
 quiet_adds ranks calls rank rows (Refused number class (suc before)) q = absurd q
 quiet_adds ranks calls rank rows (Tested number seen) q = absurd q
 quiet_adds ranks calls rank rows (Entry number place step) q = absurd q
-quiet_adds ranks calls rank rows (Issue number access) q = record { entry = refl; look = tt; seen = tt;
-    moment = inl refl }
+quiet_adds ranks calls rank rows (Issue number access) q = record {
+  entry = refl;
+  look = tt;
+  seen = tt;
+  moment = inl refl;
+}
 quiet_adds ranks calls rank rows (Null number) q = record { entry = refl; look = tt; seen = tt; moment = inl refl }
-quiet_adds ranks calls rank rows (Touch issue element cell place bits) q = record { entry = refl; look = tt;
-    seen = tt; moment = inl refl }
+quiet_adds ranks calls rank rows (Touch issue element cell place bits) q = record {
+  entry = refl;
+  look = tt;
+  seen = tt;
+  moment = inl refl;
+}
 quiet_adds ranks calls rank rows (Flush number) q = record { entry = refl; look = tt; seen = tt; moment = inl refl }
 quiet_adds ranks calls rank rows (Request number) q = record { entry = refl; look = tt; seen = tt; moment = inl refl }
 quiet_adds ranks calls rank rows Ended q = record { entry = refl; look = tt; seen = tt; moment = inl refl }
@@ -329,8 +354,8 @@ item_fits ranks calls rank rows log item adds fits = record {
         (subst (EachPair IsBefore) (sym (append-nil (moments_in log))) fits.moments)
     pairs (inr one) = subst (λ m. EachPair IsBefore (moments_in log ++ (m ++ []))) (sym one)
         (pair_push IsBefore (moments_in log) (LookAfter (length rows)) fits.moments
-            (each_turned (IsWithin (length rows)) (λ m. IsBefore m (LookAfter (length rows))) look_after
-            (moments_in log) fits.within))
+        (each_turned (IsWithin (length rows)) (λ m. IsBefore m (LookAfter (length rows))) look_after
+        (moments_in log) fits.within))
 
     inside : ((moment_by item ≡ []) ⊎ (moment_by item ≡ LookAfter (length rows) ∷ [])) →
         AllByRecursion (IsWithin (length rows)) (moment_by item ++ [])
@@ -349,5 +374,5 @@ quiet_items_fit ranks calls rank rows [] log q fits = subst (FitsBoard ranks cal
     (sym (append-nil log)) fits
 quiet_items_fit ranks calls rank rows (item ∷ items) log q fits =
     subst (FitsBoard ranks calls rank rows) (append_assoc log (item ∷ []) items)
-        (quiet_items_fit ranks calls rank rows items (log ++ item ∷ []) q.1
-        (quiet_fits ranks calls rank rows log item q.0 fits))
+    (quiet_items_fit ranks calls rank rows items (log ++ item ∷ []) q.1
+    (quiet_fits ranks calls rank rows log item q.0 fits))

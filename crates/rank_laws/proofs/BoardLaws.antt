@@ -34,10 +34,10 @@ fit_there script delay seed run is rank inside =
     let stage = stage_of script delay in
     let there = rank_there script delay seed run is rank inside in
     let kept = (lived_holds stage seed rank (FitsAt stage) (fits_kept stage)
-        (nothing_fits script.ranks (calls_of script rank) rank) is.puts there.agent there.lived).0 in
+    (nothing_fits script.ranks (calls_of script rank) rank) is.puts there.agent there.lived).0 in
     subst (FitsBoard script.ranks (calls_of script rank) rank (rows_put is.puts)) (sym there.log)
     (subst (λ r. FitsBoard script.ranks (calls_of script r) r (rows_put is.puts) there.agent.log)
-        (lived_rank stage seed rank is.puts there.agent there.lived) kept)
+    (lived_rank stage seed rank is.puts there.agent there.lived) kept)
 
 -- ---- the logs of the run
 
@@ -59,7 +59,7 @@ fits_at script delay seed run is at log e =
     let inside = slice_get_within run.logs at log e in
     let many = logs_of_ranks script delay seed run is in
     subst (FitsBoard script.ranks (calls_of script at) at (rows_put is.puts)) (get_or_there run.logs at log [] e)
-        (fit_there script delay seed run is at (omega arith))
+    (fit_there script delay seed run is at (omega arith))
 
 owners_of : (ranks : ℕ) (puts : List Put) → AllByRecursion (λ (put : Put). put.row.rank < ranks) puts →
     AllByRecursion (λ (row : Row). row.rank < ranks) (rows_put puts)
@@ -85,7 +85,7 @@ amount script delay seed run is =
     sym (length-filter is_some_entry (named_items run))
     ∙ amount_in_logs run.logs (rows_put is.puts)
     (subst (λ n. AllByRecursion (λ (row : Row). row.rank < n) (rows_put is.puts))
-        (sym (logs_of_ranks script delay seed run is)) (owners_of script.ranks is.puts is.owners))
+    (sym (logs_of_ranks script delay seed run is)) (owners_of script.ranks is.puts is.owners))
     (λ at log e. (fits_at script delay seed run is at log e).amount)
 
 -- the one entry at a place that has a row
@@ -97,7 +97,7 @@ entry_there script delay seed run is place row e =
     let many = logs_of_ranks script delay seed run is in
     one_in_logs place 0 row run.logs (omega arith) (omega arith)
     (λ at log there. (fits_at script delay seed run is at log there).entries place ∙ ap (entries_for at place) e
-        ∙ ap (λ n. entries_for n place (Some row)) (omega arith))
+    ∙ ap (λ n. entries_for n place (Some row)) (omega arith))
 
 place_counted : (script : Script) (delay : Delay) (seed : ℕ) (run : Run) (is : IsAssembled script delay seed run)
     (place : ℕ) (o : Option Row) → slice_get (rows_put is.puts) place ≡ o →
@@ -106,7 +106,7 @@ place_counted script delay seed run is place None e =
     let none = none_in_logs place 0 run.logs
     (λ at log there. (fits_at script delay seed run is at log there).entries place ∙ ap (entries_for at place) e) in
     sym (length-filter (is_named_entry_at place) (named_items run)) ∙ ap length none
-        ∙ beyond (nat_lt place (length (rows_put is.puts))) refl
+    ∙ beyond (nat_lt place (length (rows_put is.puts))) refl
   where
     beyond : (b : Bool) → nat_lt place (length (rows_put is.puts)) ≡ b → 0 ≡ cond {A = ℕ} b 1 0
     beyond true t = absurd (some_there (rows_put is.puts) place (ltb-true place (length (rows_put is.puts)) t) e)
@@ -115,7 +115,7 @@ place_counted script delay seed run is place (Some row) e =
     let there = entry_there script delay seed run is place row e in
     let inside = slice_get_within (rows_put is.puts) place row e in
     sym (length-filter (is_named_entry_at place) (named_items run)) ∙ ap length there.alone
-        ∙ within (nat_lt place (length (rows_put is.puts))) refl inside
+    ∙ within (nat_lt place (length (rows_put is.puts))) refl inside
   where
     within : (b : Bool) → nat_lt place (length (rows_put is.puts)) ≡ b → place < length (rows_put is.puts) →
         1 ≡ cond {A = ℕ} b 1 0
@@ -127,7 +127,7 @@ entries : (script : Script) (delay : Delay) (seed : ℕ) (run : Run) → IsAssem
 entries script delay seed run is = record {
   calls = names_in_logs script 0 run.logs
       (λ at log e. subst (λ n. AllByRecursion (IsOfCall (calls_of script n)) log) (omega arith)
-          (fits_at script delay seed run is at log e).named);
+      (fits_at script delay seed run is at log e).named);
   places = λ place. place_counted script delay seed run is place (slice_get (rows_put is.puts) place) refl
       ∙ ap (λ n. cond {A = ℕ} (nat_lt place n) 1 0) (sym (amount script delay seed run is));
 }
@@ -137,14 +137,14 @@ pub rows_are : (script : Script) (delay : Delay) (seed : ℕ) (run : Run) (is : 
     rows_of script run ≡ rows_put is.puts
 rows_are script delay seed run is =
     ap (λ n. flat_map (row_of script) (flat_map (entry_at (named_items run)) (numbers_from 0 n)))
-        (amount script delay seed run is)
+    (amount script delay seed run is)
     ∙ rows_by_place script (named_items run) 0 (rows_put is.puts)
     (λ at row e.
     ap (λ n. flat_map (row_of script) (entry_at (named_items run) n)) (omega arith)
     ∙ row_there script (named_items run) at row (entry_there script delay seed run is at row e)
     (call_of_row script.ranks (calls_of script row.rank) row.rank [] (rows_put is.puts)
     (fit_there script delay seed run is row.rank (owner_at script.ranks (rows_put is.puts) at row
-        (owners_of script.ranks is.puts is.owners) e)).allowed at row e refl))
+    (owners_of script.ranks is.puts is.owners) e)).allowed at row e refl))
 
 -- ---- the law
 
@@ -153,10 +153,10 @@ board_is_lawful script delay seed run is = record {
   entries = entries script delay seed run is;
   allowed = subst (AreAllowed script.ranks []) (sym (rows_are script delay seed run is))
       (allowed_by_owners script [] (rows_put is.puts) (owners_of script.ranks is.puts is.owners)
-          (λ rank inside. (fit_there script delay seed run is rank inside).allowed));
+      (λ rank inside. (fit_there script delay seed run is rank inside).allowed));
   looks = λ rank inside.
       let fits = fit_there script delay seed run is rank inside in
       subst (λ (rows : List Row). HasLawfulLooks script rows rank (log_of run rank))
-          (sym (rows_are script delay seed run is))
+      (sym (rows_are script delay seed run is))
       (record { looks = fits.looks; moments = fits.moments; within = fits.within });
 }

@@ -50,9 +50,13 @@ at_all rows before e = ap (λ n. take n rows) (sym e) ∙ take-length rows
 refusal_adds : (ranks : ℕ) (calls : List Call) (rank number : ℕ) (rows : List Row) (call : Call) (class : Class) →
     slice_get calls number ≡ Some call →
     shared_class ranks rows (first_row rank number call) ≡ Some class → (entries : ℕ) → length rows ≡ entries →
-        AddsLook ranks calls rank rows (Refused number class entries)
-refusal_adds ranks calls rank number rows call class here e zero none = record { entry = refl; look = tt;
-    seen = omega arith; moment = inl refl }
+    AddsLook ranks calls rank rows (Refused number class entries)
+refusal_adds ranks calls rank number rows call class here e zero none = record {
+  entry = refl;
+  look = tt;
+  seen = omega arith;
+  moment = inl refl;
+}
 refusal_adds ranks calls rank number rows call class here e (suc before) some = record {
   entry = refl;
   look = rw here (subst (λ (seen : List Row). shared_class ranks seen (first_row rank number call) ≡ Some class)
@@ -64,7 +68,7 @@ refusal_adds ranks calls rank number rows call class here e (suc before) some = 
 test_adds : (ranks : ℕ) (calls : List Call) (rank number : ℕ) (rows : List Row) (call : Call) →
     slice_get calls number ≡ Some call →
     decide ranks rows (first_row rank number call) ≡ NotYet →
-        AddsLook ranks calls rank rows (Tested number (length rows))
+    AddsLook ranks calls rank rows (Tested number (length rows))
 test_adds ranks calls rank number rows call here e = record {
   entry = refl;
   look = rw here (subst (λ (seen : List Row). decide ranks seen (first_row rank number call) ≡ NotYet)
@@ -107,7 +111,7 @@ touch_is_quiet issue Ended is = absurd is
 entered_fits : (stage : Stage) (agent : Agent) (call : Call) (step : Step) (after : Agent → Agent) (next : Agent)
     (rows : List Row) → Entering stage agent call step after →
     FitsBoard stage.script.ranks (calls_at stage next.rank) next.rank rows next.log →
-        FitsBoard stage.script.ranks (calls_at stage (after next).rank) (after next).rank rows (after next).log
+    FitsBoard stage.script.ranks (calls_at stage (after next).rank) (after next).rank rows (after next).log
 entered_fits stage agent call _ _ next rows (OnlyEntry begins course) h = h
 entered_fits stage agent call _ _ next rows (LookUp begins course) h = h
 entered_fits stage agent call _ _ next rows (Arriving begins course) h = h
@@ -128,41 +132,41 @@ fits_kept stage p _ h (Ends past empty going) = quiet_fits stage.script.ranks
     (calls_at stage p.agent.rank) p.agent.rank p.rows p.agent.log Ended tt h
 fits_kept stage p _ h (RefusesAlone call class here new refuses) =
     quiet_fits stage.script.ranks (calls_at stage p.agent.rank) p.agent.rank p.rows p.agent.log
-        (Refused p.agent.at class 0) tt h
+    (Refused p.agent.at class 0) tt h
 fits_kept stage p _ h (IsRefused call class begins has answer) =
     item_fits stage.script.ranks (calls_at stage p.agent.rank) p.agent.rank p.rows p.agent.log
-        (Refused p.agent.at class (length p.rows))
+    (Refused p.agent.at class (length p.rows))
     (refusal_adds stage.script.ranks (calls_at stage p.agent.rank) p.agent.rank p.agent.at p.rows call class
-        begins.here
+    begins.here
     (refused_by stage.script.ranks p.rows (first_row p.agent.rank p.agent.at call) class
     (ap (decide stage.script.ranks p.rows) (sym (first_is p.agent call (course_at p.agent call) refl)) ∙ answer))
-        (length p.rows) refl) h
+    (length p.rows) refl) h
 fits_kept stage p _ h (Tests call begins course answer) =
     item_fits stage.script.ranks (calls_at stage p.agent.rank) p.agent.rank p.rows p.agent.log
-        (Tested p.agent.at (length p.rows))
+    (Tested p.agent.at (length p.rows))
     (test_adds stage.script.ranks (calls_at stage p.agent.rank) p.agent.rank p.agent.at p.rows call begins.here
     (ap (decide stage.script.ranks p.rows) (sym (first_is p.agent call EntryOrTested course)) ∙ answer)) h
 fits_kept stage p _ h (Passes call item begins plain) =
     quiet_fits stage.script.ranks (calls_at stage p.agent.rank) p.agent.rank p.rows p.agent.log item
-        (plain_is_quiet (course_at p.agent call) p.agent.at item plain) h
+    (plain_is_quiet (course_at p.agent call) p.agent.at item plain) h
 fits_kept stage p _ h (Enters call step after entering answer) =
     let here = entering_here stage p.agent call step after entering in
     entered_fits stage p.agent call step after _ (p.rows ++ next_row p.agent call step ∷ []) entering
     (own_fits stage.script.ranks (calls_at stage p.agent.rank) p.agent.rank p.rows
-        (next_row p.agent call step) p.agent.log refl answer here
+    (next_row p.agent call step) p.agent.log refl answer here
     (slice_get_within (calls_at stage p.agent.rank) p.agent.at call here) h)
 fits_kept stage p _ h (Issues call t access issuing later) =
     quiet_fits stage.script.ranks (calls_at stage p.agent.rank) p.agent.rank p.rows p.agent.log
-        (Issue p.agent.at access) tt h
+    (Issue p.agent.at access) tt h
 fits_kept stage p _ h (IssuesWhole call t access items after issuing once touches) =
     quiet_items_fit stage.script.ranks (calls_at stage p.agent.rank) p.agent.rank p.rows items
-        (p.agent.log ++ Issue p.agent.at access ∷ [])
+    (p.agent.log ++ Issue p.agent.at access ∷ [])
     (each_turned (IsTouchOf (length p.agent.log)) IsQuiet (touch_is_quiet (length p.agent.log)) items
-        (touches_own t (length p.agent.log) 0 _ p.lows items after touches))
+    (touches_own t (length p.agent.log) 0 _ p.lows items after touches))
     (quiet_fits stage.script.ranks (calls_at stage p.agent.rank) p.agent.rank p.rows p.agent.log
-        (Issue p.agent.at access) tt h)
+    (Issue p.agent.at access) tt h)
 fits_kept stage p _ h (Draws state new) = h
 fits_kept stage p _ h (Delivers at one items after there due touches) =
     quiet_items_fit stage.script.ranks (calls_at stage p.agent.rank) p.agent.rank p.rows items p.agent.log
     (each_turned (IsTouchOf one.index) IsQuiet (touch_is_quiet one.index) items
-        (touches_of_own stage one _ p.lows items after touches)) h
+    (touches_of_own stage one _ p.lows items after touches)) h

@@ -30,8 +30,11 @@ each_passing : {X : Type 0} (P : X → Type 0) (test : X → Bool) (xs : List X)
     AllByRecursion P (filter test xs)
 each_passing P test [] h = tt
 each_passing {X} P test (x ∷ xs) h =
-    elim (test x) as (λ b. AllByRecursion P (cond b (x ∷ filter test xs) (filter test xs))) [ true ↦
-        (h.0, each_passing P test xs h.1) | false ↦ each_passing P test xs h.1 ]
+    elim (test x) as (λ b. AllByRecursion P (cond b (x ∷ filter test xs) (filter test xs))) [
+      | true ↦
+          (h.0, each_passing P test xs h.1)
+      | false ↦ each_passing P test xs h.1
+    ]
 
 -- what is found passes, and has what each element has
 found_has : {X : Type 0} (P : X → Type 0) (test : X → Bool) (xs : List X) (x : X) → AllByRecursion P xs →
@@ -48,7 +51,7 @@ nothing_found : {X : Type 0} (test : X → Bool) (xs : List X) → find test xs 
 nothing_found test [] e = refl
 nothing_found {X} test (y ∷ ys) e =
     elim (test y) as (λ b. cond b (Some y) (find test ys) ≡ None →
-        cond b (y ∷ filter test ys) (filter test ys) ≡ []) [
+    cond b (y ∷ filter test ys) (filter test ys) ≡ []) [
       | true ↦ λ k. absurd (cc k)
       | false ↦ λ k. nothing_found test ys k
     ] e
@@ -80,15 +83,15 @@ rank_in_order script delay seed run is cell rank inside =
     let mine = lived_rank stage seed rank is.puts there.agent there.lived in
     let kept = (lived_holds stage seed rank (KeepsOrderOfCells stage) (order_kept stage)
     (record { touches = new_touches stage seed rank; seen = λ name more. record { order = tt; passed = tt } }) is.puts
-        there.agent there.lived).0 in
+    there.agent there.lived).0 in
     let seen : SeenInOrder stage rank rank there.agent.log there.lived.last = subst
-        (λ r. SeenInOrder stage r rank there.agent.log there.lived.last) mine (kept.seen rank) in
+    (λ r. SeenInOrder stage r rank there.agent.log there.lived.last) mine (kept.seen rank) in
     let last : AreInOrder there.lived.last (touches_among stage.layout (calls_at stage rank) there.agent.log
-        (named_in rank there.agent.log)) =
+    (named_in rank there.agent.log)) =
     subst (λ (log : List Item). AreInOrder there.lived.last (touches_among stage.layout (calls_at stage rank) log
-        (named_in rank there.agent.log))) (append-nil there.agent.log) (seen []) in
+    (named_in rank there.agent.log))) (append-nil there.agent.log) (seen []) in
     subst (λ (log : List Item). EachPair KeepsOrder (on_cell cell
-        (touches_among stage.layout (calls_at stage rank) log (named_in rank log)))) (sym there.log)
+    (touches_among stage.layout (calls_at stage rank) log (named_in rank log)))) (sym there.log)
     (pairs_there cell _ last.order)
 
 -- ---- the states of a cell
@@ -99,19 +102,19 @@ state_is : (values : ℕ → ℕ) (touches : List Touching) (final : ℕ) → Is
 state_is values touches final history zero h = sym history.first
 state_is values touches final history (suc k) h =
     elim (find (has_place k) updates) as (λ (o : Option Touching). find (has_place k) updates ≡ o →
-        option_map_or (λ (update : Touching). changed (state updates k) update.change) o (state updates k) ≡ values
-            (suc k)) [
+    option_map_or (λ (update : Touching). changed (state updates k) update.change) o (state updates k) ≡ values
+    (suc k)) [
       | None ↦ λ e. let none = sym (length-filter (has_place k) updates)
           ∙ ap length (nothing_found (has_place k) updates e) in absurd (cc (sym none ∙ one))
       | Some update ↦ λ e.
           let both : AllByRecursion (λ (u : Touching). LeavesNext values u × ReadsValue values
-              (length updates) u) updates =
+          (length updates) u) updates =
           each_with (LeavesNext values) (ReadsValue values (length updates))
-              (λ (u : Touching). LeavesNext values u × ReadsValue values (length updates) u)
-              (λ u a b. (a, b)) updates history.changes
+          (λ (u : Touching). LeavesNext values u × ReadsValue values (length updates) u)
+          (λ u a b. (a, b)) updates history.changes
           (each_passing (ReadsValue values (length updates)) is_update touches history.reads) in
           let found = found_has (λ (u : Touching). LeavesNext values u × ReadsValue values (length updates) u)
-              (has_place k) updates update both e in
+          (has_place k) updates update both e in
           let at = place_is update found.1 in
           let old = state_is values touches final history k (omega arith) in
           let read : update.bits ≡ values k = found.0.1.reads ∙ ap values at in
@@ -136,22 +139,25 @@ cell_history : (script : Script) (delay : Delay) (seed : ℕ) (run : Run) (is : 
     (cell : ℕ) (final : ℕ) →
     IsHistoryOf (is.values cell) (on_cell cell (all_touches script run)) final →
     IsHistory (on_cell cell (all_touches script run)) (map (λ rank. on_cell cell (touches_of script run rank))
-        (numbers_from 0 script.ranks)) final
+    (numbers_from 0 script.ranks)) final
 cell_history script delay seed run is cell final history =
     let touches = on_cell cell (all_touches script run) in
     record {
       places = history.places;
       states = each_turned (ReadsValue (is.values cell) (length (updates_in touches)))
           (ReadsState (updates_in touches))
-          (λ touch reads. record { within = reads.within; reads = reads.reads
-              ∙ sym (state_is (is.values cell) touches final history touch.place reads.within) }) touches
-              history.reads;
+          (λ touch reads. record {
+            within = reads.within;
+            reads = reads.reads
+                ∙ sym (state_is (is.values cell) touches final history touch.place reads.within);
+          }) touches
+          history.reads;
       last = history.last ∙ sym (state_is (is.values cell) touches final history (length (updates_in touches))
           (omega arith));
       order = each_image (EachPair KeepsOrder) (λ rank. on_cell cell (touches_of script run rank))
           (numbers_from 0 script.ranks)
           (each_number (λ rank. EachPair KeepsOrder (on_cell cell (touches_of script run rank))) script.ranks
-              (rank_in_order script delay seed run is cell));
+          (rank_in_order script delay seed run is cell));
     }
 
 pub cells_are_lawful : AssembledRunsHaveLawfulCells

@@ -68,10 +68,10 @@ in_order_joined lows after xs ys rise first second above = record {
   order = pair_joined KeepsOnCell xs ys first.order second.order
       (each_turned (IsPassed lows) (λ a. AllByRecursion (KeepsOnCell a) ys)
       (λ a passed. each_turned (IsAbove lows) (KeepsOnCell a)
-          (λ b over. passed_before lows a b a.change refl passed over) ys above) xs first.passed);
+      (λ b over. passed_before lows a b a.change refl passed over) ys above) xs first.passed);
   passed = each_append (IsPassed after) xs ys
       (each_turned (IsPassed lows) (IsPassed after) (λ a passed. let h = rise a.cell in omega arith) xs first.passed)
-          second.passed;
+      second.passed;
 }
 
 pub touches_rise : (t : Transfer) (issue element : ℕ) (places : List Piece) (lows : Lows) (items : List Item)
@@ -88,27 +88,30 @@ record OwnTouches (lows after : Lows) (touches : List Touching) : Type 0 where
 own_first : (memory : Layout) (calls : List Call) (log : List Item) (one : PendingAccess) (t : Transfer) →
     issued_at calls log one.index ≡ Some one → transfer_at calls one.number ≡ Some t →
     (rank index element place bits : ℕ) (piece : Piece) (lows middle after : Lows) (others : List Item) →
-        slice_get (pieces memory one.access t.dtype) element ≡ Some piece →
+    slice_get (pieces memory one.access t.dtype) element ≡ Some piece →
     lows piece.cell ≤ place → AreAtMost lows middle → place_after place
-        (change_of t element piece.first_byte) ≤ middle piece.cell → AreAtMost middle after →
+    (change_of t element piece.first_byte) ≤ middle piece.cell → AreAtMost middle after →
     OwnTouches middle after (touches_among memory calls log (named_from rank (index + 1) others)) →
     OwnTouches lows after (touches_among memory calls log (named_from rank index
-        (Touch one.index element piece.cell place bits ∷ others)))
+    (Touch one.index element piece.cell place bits ∷ others)))
 own_first memory calls log one t issued moves rank index element place bits piece lows middle after others at above
     rise passed rest later = record {
-  order = in_order_joined middle after (first ∷ []) (touches_among memory calls log
-      (named_from rank (index + 1) others)) rest now later.order later.above;
-  above = (above, each_turned (IsAbove middle) (IsAbove lows) (λ u over. let more = rise u.cell in omega arith)
-      (touches_among memory calls log (named_from rank (index + 1) others)) later.above);
-}
+      order = in_order_joined middle after (first ∷ []) (touches_among memory calls log
+          (named_from rank (index + 1) others)) rest now later.order later.above;
+      above = (
+        above,
+        each_turned (IsAbove middle) (IsAbove lows) (λ u over. let more = rise u.cell in omega arith)
+            (touches_among memory calls log (named_from rank (index + 1) others)) later.above,
+      );
+    }
   where
     its : option_map_or (λ other. change_made memory calls other element) (issued_at calls log one.index) None
         ≡ change_of t element piece.first_byte
     its = ap (λ (o : Option PendingAccess). option_map_or (λ other. change_made memory calls other element) o None)
         issued
         ∙ ap (λ (o : Option Transfer). option_map_or (λ (u : Transfer). option_map_or
-            (λ (p : Piece). change_of u element p.first_byte)
-            (slice_get (pieces memory one.access u.dtype) element) None) o None) moves
+        (λ (p : Piece). change_of u element p.first_byte)
+        (slice_get (pieces memory one.access u.dtype) element) None) o None) moves
         ∙ ap (λ (o : Option Piece). option_map_or (λ (p : Piece). change_of t element p.first_byte) o None) at
 
     first : Touching
@@ -123,24 +126,29 @@ own_first memory calls log one t issued moves rank index element place bits piec
     }
 
     now : AreInOrder middle (first ∷ [])
-    now = record { order = (tt, tt); passed = (subst (λ c. place_after place c ≤ middle piece.cell) (sym its) passed,
-        tt) }
+    now = record {
+      order = (tt, tt);
+      passed = (
+        subst (λ c. place_after place c ≤ middle piece.cell) (sym its) passed,
+        tt,
+      );
+    }
 
 own_touches : (memory : Layout) (calls : List Call) (log : List Item) (one : PendingAccess) (t : Transfer) →
     issued_at calls log one.index ≡ Some one → transfer_at calls one.number ≡ Some t →
     (rank index element : ℕ) (places : List Piece) (lows : Lows) (items : List Item) (after : Lows) →
-        AreTouches t one.index element places lows items after →
+    AreTouches t one.index element places lows items after →
     ((k : ℕ) → slice_get (pieces memory one.access t.dtype) (element + k) ≡ slice_get places k) →
     OwnTouches lows after (touches_among memory calls log (named_from rank index items))
 own_touches memory calls log one t issued moves rank index element [] lows items after h at =
     subst (λ (i : List Item). OwnTouches lows after (touches_among memory calls log (named_from rank index i)))
-        (sym h.0) (record { order = record { order = tt; passed = tt }; above = tt })
+    (sym h.0) (record { order = record { order = tt; passed = tt }; above = tt })
 own_touches memory calls log one t issued moves rank index element (piece ∷ rest) lows items after h at =
     subst (λ (i : List Item). OwnTouches lows after (touches_among memory calls log (named_from rank index i)))
-        (sym h.4)
+    (sym h.4)
     (own_first memory calls log one t issued moves rank index element h.0 h.1 piece lows h.3 after h.2
     (ap (slice_get (pieces memory one.access t.dtype)) (omega arith) ∙ at 0) h.5 h.6 h.7
-        (touches_rise t one.index (element + 1) rest h.3 h.2 after h.8)
+    (touches_rise t one.index (element + 1) rest h.3 h.2 after h.8)
     (own_touches memory calls log one t issued moves rank (index + 1) (element + 1) rest h.3 h.2 after h.8
     (λ k. ap (slice_get (pieces memory one.access t.dtype)) (omega arith) ∙ at (suc k))))
 
@@ -152,19 +160,19 @@ named_joined rank index [] ys = ap (λ n. named_from rank n ys) (omega arith)
 named_joined rank index (x ∷ xs) ys =
     ap (λ rest. (let one : Named = record { id = record { rank = rank; index = index }; item = x } in one) ∷ rest)
     (named_joined rank (index + 1) xs ys ∙ ap (λ n. named_from rank (index + 1) xs ++ named_from rank n ys)
-        (omega arith))
+    (omega arith))
 
 -- the touches of a log, as a log sees them that goes on after it
 abbrev pub SeenInOrder : Stage → ℕ → ℕ → List Item → Lows → Type 0
 SeenInOrder stage rank name log lows =
     (more : List Item) → AreInOrder lows (touches_among stage.layout (calls_at stage rank) (log ++ more)
-        (named_from name 0 log))
+    (named_from name 0 log))
 
 -- some items more, whose touches are in order after those before
 seen_more : (stage : Stage) (rank name : ℕ) (log items : List Item) (lows after : Lows) →
     SeenInOrder stage rank name log lows → AreAtMost lows after →
     ((more : List Item) → OwnTouches lows after (touches_among stage.layout (calls_at stage rank)
-        ((log ++ items) ++ more) (named_from name (0 + length log) items))) →
+    ((log ++ items) ++ more) (named_from name (0 + length log) items))) →
     SeenInOrder stage rank name (log ++ items) after
 seen_more stage rank name log items lows after h rise new more =
     let calls = calls_at stage rank in
@@ -172,13 +180,13 @@ seen_more stage rank name log items lows after h rise new more =
     let touching = touches_among stage.layout calls all in
     let old : AreInOrder lows (touching (named_from name 0 log)) =
     subst (λ (whole : List Item). AreInOrder lows (touches_among stage.layout calls whole (named_from name 0 log)))
-        (sym (append_assoc log items more)) (h (items ++ more)) in
+    (sym (append_assoc log items more)) (h (items ++ more)) in
     subst (AreInOrder after)
     (sym (ap touching (named_joined name 0 log items)
     ∙ flat_map-append (λ (one : Named). touching_by stage.layout calls all one.id one.item) (named_from name 0 log)
-        (named_from name (0 + length log) items)))
+    (named_from name (0 + length log) items)))
     (in_order_joined lows after (touching (named_from name 0 log))
-        (touching (named_from name (0 + length log) items)) rise old (new more).order (new more).above)
+    (touching (named_from name (0 + length log) items)) rise old (new more).order (new more).above)
 
 plain_no_touching : (memory : Layout) (calls : List Call) (log : List Item) (rank index : ℕ) (item : Item) →
     is_touch item ≡ false → touches_among memory calls log (named_from rank index (item ∷ [])) ≡ []
@@ -197,26 +205,26 @@ plain_seen : (stage : Stage) (rank name : ℕ) (log : List Item) (item : Item) (
 plain_seen stage rank name log item lows plain h =
     seen_more stage rank name log (item ∷ []) lows lows h (most_same lows)
     (λ more. subst (OwnTouches lows lows) (sym (plain_no_touching stage.layout (calls_at stage rank)
-        ((log ++ item ∷ []) ++ more) name (0 + length log) item plain))
+    ((log ++ item ∷ []) ++ more) name (0 + length log) item plain))
     (record { order = record { order = tt; passed = tt }; above = tt }))
 
 -- the touches of an access whose Issue stands in the log
 access_seen : (stage : Stage) (rank name : ℕ) (log items : List Item) (one : PendingAccess) (lows after : Lows) →
     SeenInOrder stage rank name log lows → issued_at (calls_at stage rank) log one.index ≡ Some one →
     (o : Option Transfer) → transfer_at (calls_at stage rank) one.number ≡ o →
-        AreTouchesOf stage one o lows items after → SeenInOrder stage rank name (log ++ items) after
+    AreTouchesOf stage one o lows items after → SeenInOrder stage rank name (log ++ items) after
 access_seen stage rank name log items one lows after h issued None e touches =
     seen_more stage rank name log items lows after h touches.1
     (λ more. subst (λ (i : List Item). OwnTouches lows after
-        (touches_among stage.layout (calls_at stage rank) ((log ++ items) ++ more)
-        (named_from name (0 + length log) i))) (sym touches.0)
+    (touches_among stage.layout (calls_at stage rank) ((log ++ items) ++ more)
+    (named_from name (0 + length log) i))) (sym touches.0)
     (record { order = record { order = tt; passed = tt }; above = tt }))
 access_seen stage rank name log items one lows after h issued (Some t) e touches =
     seen_more stage rank name log items lows after h (touches_rise t one.index 0 _ lows items after touches)
     (λ more. own_touches stage.layout (calls_at stage rank) ((log ++ items) ++ more) one t
     (issued_still (calls_at stage rank) (log ++ items) more one.index one
-        (issued_still (calls_at stage rank) log items one.index one issued)) e name
-        (0 + length log) 0 _ lows items after touches
+    (issued_still (calls_at stage rank) log items one.index one issued)) e name
+    (0 + length log) 0 _ lows items after touches
     (λ k. ap (slice_get (pieces stage.layout one.access t.dtype)) (omega arith)))
 
 -- ---- moves
@@ -228,7 +236,7 @@ pub record KeepsOrderOfCells (stage : Stage) (p : Point) : Type 0 where
 entered_seen : (stage : Stage) (p : Point) (call : Call) (step : _) (after : Agent → Agent) (next : Agent)
     (lows : Lows) → Entering stage p.agent call step after →
     ((name : ℕ) → SeenInOrder stage next.rank name next.log lows) → (name : ℕ) →
-        SeenInOrder stage (after next).rank name (after next).log lows
+    SeenInOrder stage (after next).rank name (after next).log lows
 entered_seen stage p call _ _ next lows (OnlyEntry begins course) h = h
 entered_seen stage p call _ _ next lows (LookUp begins course) h = h
 entered_seen stage p call _ _ next lows (Arriving begins course) h = h
@@ -238,14 +246,19 @@ seen_rises : (stage : Stage) (rank name : ℕ) (log : List Item) (lows after : L
     SeenInOrder stage rank name log lows → SeenInOrder stage rank name log after
 seen_rises stage rank name log lows after rise h more =
     let old = h more in
-    record { order = old.order; passed = each_turned (IsPassed lows) (IsPassed after)
-        (λ a passed. let low = rise a.cell in omega arith) (touches_among stage.layout (calls_at stage rank)
-        (log ++ more) (named_from name 0 log)) old.passed }
+    record {
+      order = old.order;
+      passed = each_turned (IsPassed lows) (IsPassed after)
+          (λ a passed. let low = rise a.cell in omega arith) (touches_among stage.layout (calls_at stage rank)
+          (log ++ more) (named_from name 0 log)) old.passed;
+    }
 
 pub order_kept : (stage : Stage) → Keeps stage (KeepsOrderOfCells stage)
 order_kept stage p _ h (Learns more others) = record { touches = h.touches; seen = h.seen }
-order_kept stage p _ h (Rises after rise) = record { touches = h.touches;
-    seen = λ name. seen_rises stage p.agent.rank name p.agent.log p.lows after rise (h.seen name) }
+order_kept stage p _ h (Rises after rise) = record {
+  touches = h.touches;
+  seen = λ name. seen_rises stage p.agent.rank name p.agent.log p.lows after rise (h.seen name);
+}
 order_kept stage p _ h (Ends past empty going) = record {
   touches = touches_kept stage p _ h.touches (Ends past empty going);
   seen = λ name. plain_seen stage p.agent.rank name p.agent.log Ended p.lows refl (h.seen name);
@@ -287,17 +300,17 @@ order_kept stage p _ h (IssuesWhole call t access items after issuing once touch
       let item = Issue p.agent.at access in
       let its : issued_at calls (p.agent.log ++ item ∷ []) (length p.agent.log) ≡ Some (made_by p.agent access t) =
       ap (λ (o : Option Item). option_map_or (issued_by calls (length p.agent.log)) o None)
-          (get_rest p.agent.log (item ∷ []) (length p.agent.log) 0 (omega arith))
-          ∙ made_is stage p.agent call t access issuing in
+      (get_rest p.agent.log (item ∷ []) (length p.agent.log) 0 (omega arith))
+      ∙ made_is stage p.agent call t access issuing in
       access_seen stage p.agent.rank name (p.agent.log ++ item ∷ []) items (made_by p.agent access t) p.lows after
       (plain_seen stage p.agent.rank name p.agent.log item p.lows refl (h.seen name)) its (Some t)
-          (its_transfer stage p.agent call t issuing.here issuing.moves) touches;
+      (its_transfer stage p.agent call t issuing.here issuing.moves) touches;
 }
 order_kept stage p _ h (Draws state new) =
     let old = touches_kept stage p _ h.touches (Draws state new) in record { touches = old; seen = h.seen }
 order_kept stage p _ h (Delivers at one items after there due touches) =
     let here : IsUntouched (calls_at stage p.agent.rank) p.agent.log one = each_at
-        (IsUntouched (calls_at stage p.agent.rank) p.agent.log) p.agent.pending at one h.touches.has.waiting there in
+    (IsUntouched (calls_at stage p.agent.rank) p.agent.log) p.agent.pending at one h.touches.has.waiting there in
     record {
       touches = touches_kept stage p _ h.touches (Delivers at one items after there due touches);
       seen = λ name. access_seen stage p.agent.rank name p.agent.log items one p.lows after

@@ -37,7 +37,7 @@ still_path : (stage : Stage) (agent next : Agent) (rows : List Row) (lows after 
     Path stage (point agent rows lows) (point next rows after)
 still_path stage agent next rows lows after h =
     subst (λ (a : Agent). Path stage (point agent rows lows) (point a rows after)) (sym h.0)
-        (one_move stage (point agent rows lows) _ (Rises after h.1))
+    (one_move stage (point agent rows lows) _ (Rises after h.1))
 
 -- a move, and then nothing but that lows may rise
 moved_path : (stage : Stage) (agent middle next : Agent) (rows : List Row) (lows after : Lows) →
@@ -46,13 +46,13 @@ moved_path : (stage : Stage) (agent middle next : Agent) (rows : List Row) (lows
 moved_path stage agent middle next rows lows after move h =
     paths_join stage (point agent rows lows) (point middle rows lows) (point next rows after)
     (one_move stage (point agent rows lows) (point middle rows lows) move)
-        (still_path stage middle next rows lows after h)
+    (still_path stage middle next rows lows after h)
 
 -- a delivery
 pub delivery_path : (stage : Stage) (agent next : Agent) (rows : List Row) (lows after : Lows) (at : ℕ) →
     IsDue stage agent at → (o : Option PendingAccess) →
     slice_get agent.pending at ≡ o → IsDelivered stage agent at o lows next after →
-        Path stage (point agent rows lows) (point next rows after)
+    Path stage (point agent rows lows) (point next rows after)
 delivery_path stage agent next rows lows after at due None e h = still_path stage agent next rows lows after h
 delivery_path stage agent next rows lows after at due (Some one) e h =
     subst (λ (a : Agent). Path stage (point agent rows lows) (point a rows after)) (sym h.2)
@@ -69,7 +69,7 @@ closed_new stage agent new call here e = absurd (cc (sym new ∙ e))
 ends_path : (stage : Stage) (agent next : Agent) (rows : List Row) (lows after : Lows) →
     next_call stage agent ≡ None → agent.pending ≡ [] → (b : Bool) → agent.ended ≡ b →
     IsMade stage (cond b (without_delivery agent) (without_delivery
-        (record (kept no_shapes stage agent Ended) { ended = true }))) lows next after →
+    (record (kept no_shapes stage agent Ended) { ended = true }))) lows next after →
     Path stage (point agent rows lows) (point next rows after)
 ends_path stage agent next rows lows after none empty true e made = still_path stage agent next rows lows after made
 ends_path stage agent next rows lows after none empty false e made = moved_path stage agent _ next rows lows after
@@ -78,16 +78,19 @@ ends_path stage agent next rows lows after none empty false e made = moved_path 
 end_path : (stage : Stage) (agent next : Agent) (rows : List Row) (lows after : Lows) → next_call stage agent ≡ None →
     (pending : List PendingAccess) → agent.pending ≡ pending →
     IsMade stage (cond (not (eqb (length pending) 0)) (just_delivers agent 0)
-        (cond agent.ended (without_delivery agent) (without_delivery
-        (record (kept no_shapes stage agent Ended) { ended = true })))) lows next after →
+    (cond agent.ended (without_delivery agent) (without_delivery
+    (record (kept no_shapes stage agent Ended) { ended = true })))) lows next after →
     Path stage (point agent rows lows) (point next rows after)
 end_path stage agent next rows lows after none [] e made = ends_path stage agent next rows lows after none e
     agent.ended refl made
 end_path stage agent next rows lows after none (one ∷ rest) e made =
-    let due : IsDue stage agent 0 = record { closed = closed_past stage agent none;
-        free = first_is_free agent.pending; reason = IsAtEnd none refl } in
+    let due : IsDue stage agent 0 = record {
+      closed = closed_past stage agent none;
+      free = first_is_free agent.pending;
+      reason = IsAtEnd none refl;
+    } in
     delivery_path stage agent next rows lows after 0 due (slice_get agent.pending 0) refl
-        (delivers_if (eqb (suc (length rest)) 0) (ne_eqb (suc (length rest)) 0 (λ e. absurd (omega arith))) made)
+    (delivers_if (eqb (suc (length rest)) 0) (ne_eqb (suc (length rest)) 0 (λ e. absurd (omega arith))) made)
   where
     delivers_if : (b : Bool) → b ≡ false → IsMade stage (cond (not b) (just_delivers agent 0)
         (cond agent.ended (without_delivery agent) (without_delivery
@@ -133,41 +136,49 @@ its_transfer stage agent call t here moves = rw here moves
 at_once_path : (stage : Stage) (agent next : Agent) (rows : List Row) (lows after : Lows) (call : Call) (t : Transfer)
     (access : Access) → Issuing stage agent call t access →
     is_at_once stage.delay access ≡ true → (b : Bool) → nat_lt 0 access.len ≡ b →
-    (let one : PendingAccess = record { index = length agent.log; number = agent.at; access = access;
-        fetches = t.fetches } in
+    (let one : PendingAccess = record {
+      index = length agent.log;
+      number = agent.at;
+      access = access;
+      fetches = t.fetches;
+    } in
     let issued = with_item stage agent (Issue agent.at access) in
     let now = record issued { pending = issued.pending ++ cond b (one ∷ []) [] } in
     IsDelivered stage now (length agent.pending) (slice_get (agent.pending ++ cond b (one ∷ []) [])
-        (length agent.pending)) lows next after) →
+    (length agent.pending)) lows next after) →
     Path stage (point agent rows lows) (point next rows after)
 at_once_path stage agent next rows lows after call t access issuing once true e made =
-    let one : PendingAccess = record { index = length agent.log; number = agent.at; access = access;
-        fetches = t.fetches } in
+    let one : PendingAccess = record {
+      index = length agent.log;
+      number = agent.at;
+      access = access;
+      fetches = t.fetches;
+    } in
     let issued = with_item stage agent (Issue agent.at access) in
     let now = record issued { pending = issued.pending ++ one ∷ [] } in
     let is : IsDelivered stage now (length agent.pending) (Some one) lows next after = subst
-        (λ (o : Option PendingAccess). IsDelivered stage now (length agent.pending) o lows next after)
-        (get_last agent.pending one) made in
+    (λ (o : Option PendingAccess). IsDelivered stage now (length agent.pending) o lows next after)
+    (get_last agent.pending one) made in
     let touches : AreTouches t (length agent.log) 0 (pieces stage.layout access t.dtype) lows is.0 after =
     subst (λ (o : Option Transfer). AreTouchesOf stage one o lows is.0 after)
-        (its_transfer stage agent call t issuing.here issuing.moves) is.1 in
+    (its_transfer stage agent call t issuing.here issuing.moves) is.1 in
     let same : next ≡ issued_whole stage agent access is.0 = is.2
-        ∙ ap (λ (p : List PendingAccess). record (issued_whole stage agent access is.0) { pending = p })
-        (remove_last agent.pending one) in
+    ∙ ap (λ (p : List PendingAccess). record (issued_whole stage agent access is.0) { pending = p })
+    (remove_last agent.pending one) in
     subst (λ (a : Agent). Path stage (point agent rows lows) (point a rows after)) (sym same)
     (one_move stage (point agent rows lows) _ (IssuesWhole call t access is.0 after issuing once touches))
 at_once_path stage agent next rows lows after call t access issuing once false e made =
     let issued = with_item stage agent (Issue agent.at access) in
     let now = record issued { pending = issued.pending ++ [] } in
     let is : IsDelivered stage now (length agent.pending) None lows next after = subst
-        (λ (o : Option PendingAccess). IsDelivered stage now (length agent.pending) o lows next after)
-        (get_none agent.pending) made in
+    (λ (o : Option PendingAccess). IsDelivered stage now (length agent.pending) o lows next after)
+    (get_none agent.pending) made in
     let low = ltb-false 0 access.len e in
     let none = no_pieces stage access t (omega arith) in
     let touches : AreTouches t (length agent.log) 0 (pieces stage.layout access t.dtype) lows [] after =
     subst (λ places. AreTouches t (length agent.log) 0 places lows [] after) (sym none) (refl, is.1) in
     let same : next ≡ issued_whole stage agent access [] = is.0
-        ∙ ap (λ (p : List PendingAccess). record issued { pending = p }) (append-nil agent.pending)
+    ∙ ap (λ (p : List PendingAccess). record issued { pending = p }) (append-nil agent.pending)
     ∙ ap (λ (l : List Item). record issued { log = l }) (sym (append-nil issued.log)) in
     subst (λ (a : Agent). Path stage (point agent rows lows) (point a rows after)) (sym same)
     (one_move stage (point agent rows lows) _ (IssuesWhole call t access [] after issuing once touches))
@@ -176,8 +187,10 @@ at_once_path stage agent next rows lows after call t access issuing once false e
 issue_path : (stage : Stage) (agent next : Agent) (rows : List Row) (lows after : Lows) (call : Call) (t : Transfer)
     (access : Access) → Issuing stage agent call t access →
     (b : Bool) → is_at_once stage.delay access ≡ b →
-    IsMade stage (record { agent = with_issue stage agent access t;
-        delivers = cond b (Some (length agent.pending)) None }) lows next after →
+    IsMade stage (record {
+      agent = with_issue stage agent access t;
+      delivers = cond b (Some (length agent.pending)) None;
+    }) lows next after →
     Path stage (point agent rows lows) (point next rows after)
 issue_path stage agent next rows lows after call t access issuing true e made = at_once_path stage agent next rows
     lows after call t access issuing e (nat_lt 0 access.len) refl made
@@ -191,20 +204,20 @@ issues_path : (stage : Stage) (agent next : Agent) (rows : List Row) (lows after
     IsMade stage (issue stage agent call) lows next after → Path stage (point agent rows lows) (point next rows after)
 issues_path stage agent next rows lows after call here begun made =
     elim (transfer_of call) as (λ (o : Option Transfer). transfer_of call ≡ o →
-        IsMade stage (option_map_or (λ t. option_map_or (issue_of stage agent t) (access_of agent.known.windows call)
-            (without_delivery agent)) o (without_delivery agent)) lows next after →
-        Path stage (point agent rows lows) (point next rows after)) [
+    IsMade stage (option_map_or (λ t. option_map_or (issue_of stage agent t) (access_of agent.known.windows call)
+    (without_delivery agent)) o (without_delivery agent)) lows next after →
+    Path stage (point agent rows lows) (point next rows after)) [
       | None ↦ λ moves is. still_path stage agent next rows lows after is
       | Some t ↦ λ moves is.
           elim (access_of agent.known.windows call) as (λ (o : Option Access). access_of agent.known.windows call
-              ≡ o →
-              IsMade stage (option_map_or (issue_of stage agent t) o (without_delivery agent)) lows next after →
-                  Path stage (point agent rows lows) (point next rows after)) [
+          ≡ o →
+          IsMade stage (option_map_or (issue_of stage agent t) o (without_delivery agent)) lows next after →
+          Path stage (point agent rows lows) (point next rows after)) [
             | None ↦ λ none it. still_path stage agent next rows lows after it
             | Some access ↦ λ some it.
                 issue_path stage agent next rows lows after call t access
-                    (record { here = here; moves = moves; reaches = some; begun = begun })
-                    (is_at_once stage.delay access) refl it
+                (record { here = here; moves = moves; reaches = some; begun = begun })
+                (is_at_once stage.delay access) refl it
           ] refl is
     ] refl made
 
@@ -213,20 +226,20 @@ issues_path stage agent next rows lows after call here begun made =
 item_path : (stage : Stage) (agent next : Agent) (rows : List Row) (lows after : Lows) (call : Call) →
     Begins stage agent call → (course : Course) → course_at agent call ≡ course →
     IsMade stage (first_item course stage agent call) lows next after →
-        Path stage (point agent rows lows) (point next rows after)
+    Path stage (point agent rows lows) (point next rows after)
 item_path stage agent next rows lows after call begins OneNull is made =
     moved_path stage agent _ next rows lows after (Passes call (Null agent.at) begins
-        (subst (λ (c : Course). IsPlainItem c agent.at (Null agent.at)) (sym is) refl)) made
+    (subst (λ (c : Course). IsPlainItem c agent.at (Null agent.at)) (sym is) refl)) made
 item_path stage agent next rows lows after call begins OneIssue is made = issues_path stage agent next rows lows after
     call begins.here (inl (begins, is)) made
 item_path stage agent next rows lows after call begins LookUpAndIssue is made = still_path stage agent next rows lows
     after made
 item_path stage agent next rows lows after call begins OneFlush is made =
     moved_path stage agent _ next rows lows after (Passes call (Flush agent.at) begins
-        (subst (λ (c : Course). IsPlainItem c agent.at (Flush agent.at)) (sym is) refl)) made
+    (subst (λ (c : Course). IsPlainItem c agent.at (Flush agent.at)) (sym is) refl)) made
 item_path stage agent next rows lows after call begins OneRequest is made =
     moved_path stage agent _ next rows lows after (Passes call (Request agent.at) begins
-        (subst (λ (c : Course). IsPlainItem c agent.at (Request agent.at)) (sym is) refl)) made
+    (subst (λ (c : Course). IsPlainItem c agent.at (Request agent.at)) (sym is) refl)) made
 item_path stage agent next rows lows after call begins ArriveAndLeave is made = still_path stage agent next rows lows
     after made
 item_path stage agent next rows lows after call begins EntryOrTested is made = still_path stage agent next rows lows
@@ -239,8 +252,8 @@ awaited_free : (agent : Agent) (call : Call) (at : ℕ) → awaited_by agent cal
     first_in_way agent.pending at ≡ None
 awaited_free agent call at e =
     elim (position (must_wait agent.known.requests call) agent.pending) as
-        (λ (o : Option ℕ). option_map_or (λ n. Some (way agent.pending n)) o None ≡ Some at →
-        first_in_way agent.pending at ≡ None) [
+    (λ (o : Option ℕ). option_map_or (λ n. Some (way agent.pending n)) o None ≡ Some at →
+    first_in_way agent.pending at ≡ None) [
       | None ↦ λ none. absurd (cc none)
       | Some n ↦ λ some. let same : way agent.pending n ≡ at = cc some in subst
           (λ m. first_in_way agent.pending m ≡ None) same (way_is_free agent.pending n)
@@ -250,20 +263,23 @@ wait_path : (stage : Stage) (agent next : Agent) (rows : List Row) (lows after :
     next_call stage agent ≡ Some call → agent.entered ≡ false →
     own_class agent.known call ≡ None → (o : Option ℕ) → awaited_by agent call ≡ o →
     IsMade stage (wait_or_go_on o stage agent call) lows next after →
-        Path stage (point agent rows lows) (point next rows after)
+    Path stage (point agent rows lows) (point next rows after)
 wait_path stage agent next rows lows after call here new passes None e made =
     item_path stage agent next rows lows after call (record { here = here; new = new; passes = passes; awaits = e })
-        (course_at agent call) refl made
+    (course_at agent call) refl made
 wait_path stage agent next rows lows after call here new passes (Some at) e made =
-    let due : IsDue stage agent at = record { closed = closed_new stage agent new;
-        free = awaited_free agent call at e; reason = IsAwaited call here new passes e } in
+    let due : IsDue stage agent at = record {
+      closed = closed_new stage agent new;
+      free = awaited_free agent call at e;
+      reason = IsAwaited call here new passes e;
+    } in
     delivery_path stage agent next rows lows after at due (slice_get agent.pending at) refl made
 
 judge_path : (stage : Stage) (agent next : Agent) (rows : List Row) (lows after : Lows) (call : Call) →
     next_call stage agent ≡ Some call → agent.entered ≡ false →
     (o : Option Class) → own_class agent.known call ≡ o →
     IsMade stage (judge o stage agent call) lows next after →
-        Path stage (point agent rows lows) (point next rows after)
+    Path stage (point agent rows lows) (point next rows after)
 judge_path stage agent next rows lows after call here new None e made = wait_path stage agent next rows lows after
     call here new e (awaited_by agent call) refl made
 judge_path stage agent next rows lows after call here new (Some class) e made = moved_path stage agent _ next rows
@@ -273,16 +289,21 @@ judge_path stage agent next rows lows after call here new (Some class) e made = 
 draw_path : (stage : Stage) (agent next : Agent) (rows : List Row) (lows after : Lows) → agent.entered ≡ false →
     is_seeded stage.delay ≡ true → (b : Bool) →
     (let state = stirred agent.draws in
-    IsMade stage (record { agent = record agent { drawn = true; draws = state };
-        delivers = cond b (Some (way agent.pending (drawn_from state / 2 % length agent.pending))) None }) lows next
-        after) →
+    IsMade stage (record {
+      agent = record agent { drawn = true; draws = state };
+      delivers = cond b (Some (way agent.pending (drawn_from state / 2 % length agent.pending))) None;
+    }) lows next
+    after) →
     Path stage (point agent rows lows) (point next rows after)
 draw_path stage agent next rows lows after new seeded true made =
     let state = stirred agent.draws in
     let drawn : Agent = record agent { drawn = true; draws = state } in
     let at = way agent.pending (drawn_from state / 2 % length agent.pending) in
-    let due : IsDue stage drawn at = record { closed = closed_new stage drawn new;
-        free = way_is_free agent.pending (drawn_from state / 2 % length agent.pending); reason = IsDrawn seeded } in
+    let due : IsDue stage drawn at = record {
+      closed = closed_new stage drawn new;
+      free = way_is_free agent.pending (drawn_from state / 2 % length agent.pending);
+      reason = IsDrawn seeded;
+    } in
     paths_join stage (point agent rows lows) (point drawn rows lows) (point next rows after)
     (one_move stage (point agent rows lows) (point drawn rows lows) (Draws state new))
     (delivery_path stage drawn next rows lows after at due (slice_get agent.pending at) refl made)
@@ -293,10 +314,10 @@ begin_path : (stage : Stage) (agent next : Agent) (rows : List Row) (lows after 
     next_call stage agent ≡ Some call → agent.entered ≡ false →
     (b : Bool) → must_draw stage agent ≡ b →
     IsMade stage (cond b (draw agent) (judge (own_class agent.known call) stage agent call)) lows next after →
-        Path stage (point agent rows lows) (point next rows after)
+    Path stage (point agent rows lows) (point next rows after)
 begin_path stage agent next rows lows after call here new true e made =
     let seeded = both_left (is_seeded stage.delay) (not agent.drawn)
-        (both_left (is_seeded stage.delay && not agent.drawn) (has_pending agent) e) in
+    (both_left (is_seeded stage.delay && not agent.drawn) (has_pending agent) e) in
     draw_path stage agent next rows lows after new seeded (drawn_from (stirred agent.draws) % 2 == 1) made
 begin_path stage agent next rows lows after call here new false e made = judge_path stage agent next rows lows after
     call here new (own_class agent.known call) refl made
@@ -304,7 +325,7 @@ begin_path stage agent next rows lows after call here new false e made = judge_p
 call_path : (stage : Stage) (agent next : Agent) (rows : List Row) (lows after : Lows) (call : Call) →
     next_call stage agent ≡ Some call → (b : Bool) → agent.entered ≡ b →
     IsMade stage (cond b (issue stage agent call) (begin stage agent call)) lows next after →
-        Path stage (point agent rows lows) (point next rows after)
+    Path stage (point agent rows lows) (point next rows after)
 call_path stage agent next rows lows after call here true e made = issues_path stage agent next rows lows after call
     here (inr e) made
 call_path stage agent next rows lows after call here false e made = begin_path stage agent next rows lows after call
@@ -316,8 +337,8 @@ pub step_path : (stage : Stage) (agent next : Agent) (rows : List Row) (lows aft
     Path stage (point agent rows lows) (point next rows after)
 step_path stage agent next rows lows after made =
     elim (next_call stage agent) as (λ (o : Option Call). next_call stage agent ≡ o →
-        IsMade stage (option_map_or (go_on stage agent) o (end stage agent)) lows next after →
-        Path stage (point agent rows lows) (point next rows after)) [
+    IsMade stage (option_map_or (go_on stage agent) o (end stage agent)) lows next after →
+    Path stage (point agent rows lows) (point next rows after)) [
       | None ↦ λ none is. end_path stage agent next rows lows after none agent.pending refl is
       | Some call ↦ λ here is. call_path stage agent next rows lows after call here agent.entered refl is
     ] refl made

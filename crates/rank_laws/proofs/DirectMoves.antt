@@ -40,7 +40,7 @@ StandsAfterIssue calls log = (index issue element cell place bits : ℕ) →
 abbrev pub IsDirect : Layout → List Call → List Item → PendingAccess → Type 0
 IsDirect memory calls log one =
     let count = length (pieces_of memory calls one) in length
-        (touched_by one.index (take count (drop (one.index + 1) log))) ≡ count
+    (touched_by one.index (take count (drop (one.index + 1) log))) ≡ count
 
 -- the accesses that are touched at once
 abbrev pub AreDirect : Stage → List Call → List Item → Type 0
@@ -72,15 +72,17 @@ touches_after : (calls : List Call) (log items : List Item) (issued : ℕ) → i
     StandsAfterIssue calls log → StandsAfterIssue calls (log ++ items)
 touches_after calls log items issued inside some own h index issue element cell place bits e = elim
     (place_in index (length log)) [
-  | inl less ↦ after_still calls log items index issue less (h index issue element cell place bits
-      (sym (get_front log items index less) ∙ e))
-  | inr past ↦
-      let same : issue ≡ issued = each_at (IsTouchOf issued) items past.0 (Touch issue element cell place bits) own
+      | inl less ↦ after_still calls log items index issue less (h index issue element cell place bits
+          (sym (get_front log items index less) ∙ e))
+      | inr past ↦
+          let same : issue ≡ issued = each_at (IsTouchOf issued) items past.0 (Touch issue element cell place bits) own
           (sym (get_rest log items index past.0 past.1) ∙ e) in
-      let far = past.1 in
-      (omega arith, subst (λ n. IsSome (issued_at calls (log ++ items) n)) (sym same)
-          (subst IsSome (sym (issued_front calls log items issued inside)) some))
-]
+          let far = past.1 in (
+            omega arith,
+            subst (λ n. IsSome (issued_at calls (log ++ items) n)) (sym same)
+                (subst IsSome (sym (issued_front calls log items issued inside)) some),
+          )
+    ]
 
 -- ---- touches that follow
 
@@ -103,7 +105,7 @@ touched_few : (index : ℕ) (items : List Item) → length (touched_by index ite
 touched_few index [] = omega arith
 touched_few index (item ∷ items) =
     let one = few_of index item in let rest = touched_few index items in omega
-        (arith, length-append (touch_of index item) (touched_by index items))
+    (arith, length-append (touch_of index item) (touched_by index items))
 
 take_short : {X : Type 0} (n : ℕ) (xs : List X) → length (take n xs) ≤ length xs
 take_short zero xs = omega arith
@@ -143,7 +145,7 @@ direct_new memory calls log items item one at whole count =
     ∙ ap (take (length places)) (drop-append-add log (item ∷ items) 1)
     ∙ subst (λ n. take n items ≡ items) count (take-length items) in
     subst (λ n. length (touched_by n (take (length places) (drop (n + 1) ((log ++ item ∷ []) ++ items))))
-        ≡ length places) (sym at)
+    ≡ length places) (sym at)
     (ap (λ all. length (touched_by (length log) all)) list ∙ ap length whole ∙ elements_count 0 places)
 
 -- ---- moves
@@ -155,7 +157,7 @@ pub record KeepsDirect (stage : Stage) (agent : Agent) : Type 0 where
 
 direct_push : (stage : Stage) (calls : List Call) (log : List Item) (item : Item) → AreDirect stage calls log →
     ((one : PendingAccess) → issued_by calls (length log) item ≡ Some one → is_at_once stage.delay one.access ≡ true →
-        ⊥) → AreDirect stage calls (log ++ item ∷ [])
+    ⊥) → AreDirect stage calls (log ++ item ∷ [])
 direct_push stage calls log item h new index one e once = elim (issued_push calls log item index one e) [
   | inl old ↦
       let inside = issued_inside calls log index one old in let less = inside.0 in let at = inside.1 in
@@ -174,12 +176,12 @@ direct_more stage calls log items issue own h index one e once =
 plain_direct : (stage : Stage) (agent next : Agent) (item : Item) → KeepsDirect stage agent →
     KeepsTouches stage next → next.rank ≡ agent.rank → next.log ≡ agent.log ++ item ∷ [] →
     is_touch item ≡ false → issued_by (calls_at stage agent.rank) (length agent.log) item ≡ None →
-        KeepsDirect stage next
+    KeepsDirect stage next
 plain_direct stage agent next item h touches rank log plain none = record {
   touches = touches;
   after = subst (λ (l : List Item). StandsAfterIssue (calls_at stage next.rank) l) (sym log)
       (subst (λ r. StandsAfterIssue (calls_at stage r) (agent.log ++ item ∷ [])) (sym rank)
-          (plain_after (calls_at stage agent.rank) agent.log item plain h.after));
+      (plain_after (calls_at stage agent.rank) agent.log item plain h.after));
   direct = subst (λ (l : List Item). AreDirect stage (calls_at stage next.rank) l) (sym log)
       (subst (λ r. AreDirect stage (calls_at stage r) (agent.log ++ item ∷ [])) (sym rank)
       (direct_push stage (calls_at stage agent.rank) agent.log item h.direct (λ one e once. cc (sym none ∙ e))));
@@ -188,7 +190,7 @@ plain_direct stage agent next item h touches rank log plain none = record {
 entered_direct : (stage : Stage) (p : Point) (call : Call) (step : _) (after : Agent → Agent) (next : Agent)
     (item : Item) → Entering stage p.agent call step after → KeepsDirect stage p.agent →
     KeepsTouches stage (after next) → next.rank ≡ p.agent.rank → next.log ≡ p.agent.log ++ item ∷ [] →
-        is_touch item ≡ false → issued_by (calls_at stage p.agent.rank) (length p.agent.log) item ≡ None →
+    is_touch item ≡ false → issued_by (calls_at stage p.agent.rank) (length p.agent.log) item ≡ None →
     KeepsDirect stage (after next)
 entered_direct stage p call _ _ next item (OnlyEntry begins course) h touches rank log plain none = plain_direct stage
     p.agent _ item h touches rank log plain none
@@ -203,17 +205,17 @@ entered_direct stage p call _ _ next item (Leaving here inside moves) h touches 
 its_access : (stage : Stage) (agent : Agent) (call : Call) (t : Transfer) (access : Access) (one : PendingAccess) →
     Issuing stage agent call t access →
     issued_by (calls_at stage agent.rank) (length agent.log) (Issue agent.at access) ≡ Some one →
-        made_by agent access t ≡ one
+    made_by agent access t ≡ one
 its_access stage agent call t access one issuing e = let both = sym (made_is stage agent call t access issuing)
     ∙ e in cc both
 
 made_count : (stage : Stage) (agent : Agent) (call : Call) (t : Transfer) (access : Access) →
     Issuing stage agent call t access →
     length (pieces_of stage.layout (calls_at stage agent.rank) (made_by agent access t)) ≡ length
-        (pieces stage.layout access t.dtype)
+    (pieces stage.layout access t.dtype)
 made_count stage agent call t access issuing =
     ap (λ (o : Option Transfer). length (option_map_or (λ (u : Transfer). pieces stage.layout access u.dtype) o []))
-        (its_transfer stage agent call t issuing.here issuing.moves)
+    (its_transfer stage agent call t issuing.here issuing.moves)
 
 pub direct_kept : (stage : Stage) → Keeps stage (λ p. KeepsDirect stage p.agent)
 direct_kept stage p _ h (Learns more others) = h
@@ -222,25 +224,25 @@ direct_kept stage p _ h (Ends past empty going) = plain_direct stage p.agent _ _
     (touches_kept stage p _ h.touches (Ends past empty going)) refl refl refl refl
 direct_kept stage p _ h (RefusesAlone call class here new refuses) =
     plain_direct stage p.agent _ _ h (touches_kept stage p _ h.touches
-        (RefusesAlone call class here new refuses)) refl refl refl refl
+    (RefusesAlone call class here new refuses)) refl refl refl refl
 direct_kept stage p _ h (IsRefused call class begins has answer) =
     plain_direct stage p.agent _ _ h (touches_kept stage p _ h.touches
-        (IsRefused call class begins has answer)) refl refl refl refl
+    (IsRefused call class begins has answer)) refl refl refl refl
 direct_kept stage p _ h (Tests call begins course answer) = plain_direct stage p.agent _ _ h
     (touches_kept stage p _ h.touches (Tests call begins course answer)) refl refl refl refl
 direct_kept stage p _ h (Passes call item begins plain) =
     let is = plain_by_course (calls_at stage p.agent.rank) (length p.agent.log) _ p.agent.at item plain in
     plain_direct stage p.agent _ item h (touches_kept stage p _ h.touches
-        (Passes call item begins plain)) refl refl is.0 is.1
+    (Passes call item begins plain)) refl refl is.0 is.1
 direct_kept stage p _ h (Enters call step after entering answer) =
     entered_direct stage p call step after _ _ entering h (touches_kept stage p _ h.touches
-        (Enters call step after entering answer)) refl refl refl refl
+    (Enters call step after entering answer)) refl refl refl refl
 direct_kept stage p _ h (Issues call t access issuing later) = record {
   touches = touches_kept stage p _ h.touches (Issues call t access issuing later);
   after = plain_after (calls_at stage p.agent.rank) p.agent.log (Issue p.agent.at access) refl h.after;
   direct = direct_push stage (calls_at stage p.agent.rank) p.agent.log (Issue p.agent.at access) h.direct
       (λ one e once. let same = its_access stage p.agent call t access one issuing e in cc (sym later
-          ∙ ap (λ (i : PendingAccess). is_at_once stage.delay i.access) same ∙ once));
+      ∙ ap (λ (i : PendingAccess). is_at_once stage.delay i.access) same ∙ once));
 }
 direct_kept stage p _ h (IssuesWhole call t access items after issuing once touches) =
     let calls = calls_at stage p.agent.rank in
@@ -250,39 +252,42 @@ direct_kept stage p _ h (IssuesWhole call t access items after issuing once touc
     let longer : length log ≡ length p.agent.log + 1 = length-append p.agent.log (item ∷ []) in
     let its : issued_at calls log (length p.agent.log) ≡ Some (made_by p.agent access t) =
     ap (λ (o : Option Item). option_map_or (issued_by calls (length p.agent.log)) o None)
-        (get_rest p.agent.log (item ∷ []) (length p.agent.log) 0 (omega arith))
-        ∙ made_is stage p.agent call t access issuing in
+    (get_rest p.agent.log (item ∷ []) (length p.agent.log) 0 (omega arith))
+    ∙ made_is stage p.agent call t access issuing in
     record {
       touches = touches_kept stage p _ h.touches (IssuesWhole call t access items after issuing once touches);
       after = touches_after calls log items (length p.agent.log) (omega arith) (subst IsSome (sym its) refl) own
           (plain_after calls p.agent.log item refl h.after);
       direct = λ index one e at_once.
           elim (issued_push calls p.agent.log item index one
-              (issued_before_touches calls log items (length p.agent.log) index one own e)) [
+          (issued_before_touches calls log items (length p.agent.log) index one own e)) [
             | inl old ↦
                 let inside = issued_inside calls p.agent.log index one old in let less = inside.0 in let at = inside.1
-                    in
+                in
                 direct_still stage.layout calls log items one (omega arith)
                 (direct_still stage.layout calls p.agent.log (item ∷ []) one (omega arith)
-                    (h.direct index one old at_once))
+                (h.direct index one old at_once))
             | inr fresh ↦
                 let same = its_access stage p.agent call t access one issuing fresh.1 in
                 subst (IsDirect stage.layout calls (log ++ items)) same
                 (direct_new stage.layout calls p.agent.log items item (made_by p.agent access t) refl
                 (touches_elements t (length p.agent.log) 0 _ p.lows items after touches
-                    ∙ sym (made_elements stage p.agent call t access issuing))
+                ∙ sym (made_elements stage p.agent call t access issuing))
                 (touches_count t (length p.agent.log) 0 _ p.lows items after touches
-                    ∙ sym (made_count stage p.agent call t access issuing)))
+                ∙ sym (made_count stage p.agent call t access issuing)))
           ];
     }
 direct_kept stage p _ h (Draws state new) =
-    let old = touches_kept stage p _ h.touches (Draws state new) in record { touches = old; after = h.after;
-        direct = h.direct }
+    let old = touches_kept stage p _ h.touches (Draws state new) in record {
+      touches = old;
+      after = h.after;
+      direct = h.direct;
+    }
 direct_kept stage p _ h (Delivers at one items after there due touches) =
     let calls = calls_at stage p.agent.rank in
     let own = touches_of_own stage one _ p.lows items after touches in
     let here : IsUntouched calls p.agent.log one = each_at (IsUntouched calls p.agent.log) p.agent.pending at one
-        h.touches.has.waiting there in
+    h.touches.has.waiting there in
     record {
       touches = touches_kept stage p _ h.touches (Delivers at one items after there due touches);
       after = touches_after calls p.agent.log items one.index (issued_inside calls p.agent.log one.index one here.0).0

@@ -14,7 +14,6 @@ use Rattle.rank_laws.proofs.Lists.{get_rest}
 use Rattle.rank_laws.proofs.Moves.{Point, course_at, Entering, OnlyEntry, LookUp, Arriving, Leaving, IsPlainItem, Learns, Rises, Ends, RefusesAlone, IsRefused, Tests, Passes, Enters, Issues, IssuesWhole, Draws, Delivers}
 use Rattle.rank_laws.proofs.Touching.{IsTouchOf, touches_own, touches_of_own}
 use Rattle.rank_laws.specs.Lawful.{AssembledRunsEndAlike}
-
 use Rattle.rank_rules.specs.Courses.{Course, OneNull, OneIssue, LookUpAndIssue, OneFlush, OneRequest, ArriveAndLeave, EntryOrTested, OneEntry}
 use Rattle.rank_rules.specs.declared.pending.PendingAccess.{PendingAccess}
 use Rattle.step_runs.specs.Agents.{Agent, next_call}
@@ -24,7 +23,7 @@ use Rattle.step_runs.specs.Agents.{Agent, next_call}
 pub ends_with : (log : List Item) (item : Item) → has_ended (log ++ item ∷ []) ≡ is_ended item
 ends_with log item =
     ap (λ n. option_map_or is_ended (slice_get (log ++ item ∷ []) n) false)
-        (omega (arith, length-append log (item ∷ [])))
+    (omega (arith, length-append log (item ∷ [])))
     ∙ ap (λ (o : Option Item). option_map_or is_ended o false) (get_rest log (item ∷ []) (length log) 0 (omega arith))
 
 touch_is_no_end : (issue : ℕ) (item : Item) → IsTouchOf issue item → is_ended item ≡ false
@@ -86,8 +85,10 @@ alike_push stage p call item h here plain = going_at stage p call h here ∙ sym
 pub alike_kept : (stage : Stage) → Keeps stage (EndsAlike stage)
 alike_kept stage p _ h (Learns more others) = record { over = h.over; alike = h.alike }
 alike_kept stage p _ h (Rises after rise) = record { over = h.over; alike = h.alike }
-alike_kept stage p _ h (Ends past empty going) = record { over = over_kept stage p _ h.over (Ends past empty going);
-    alike = sym (ends_with p.agent.log Ended) }
+alike_kept stage p _ h (Ends past empty going) = record {
+  over = over_kept stage p _ h.over (Ends past empty going);
+  alike = sym (ends_with p.agent.log Ended);
+}
 alike_kept stage p _ h (RefusesAlone call class here new refuses) = record {
   over = over_kept stage p _ h.over (RefusesAlone call class here new refuses);
   alike = alike_push stage p call (Refused p.agent.at class 0) h here refl;
@@ -119,14 +120,16 @@ alike_kept stage p _ h (IssuesWhole call t access items after issuing once touch
   over = over_kept stage p _ h.over (IssuesWhole call t access items after issuing once touches);
   alike = going_at stage p call h issuing.here
       ∙ sym (ends_with_touches (length p.agent.log) items (p.agent.log ++ Issue p.agent.at access ∷ [])
-          (touches_own t (length p.agent.log) 0 _ p.lows items after touches)
+      (touches_own t (length p.agent.log) 0 _ p.lows items after touches)
       (ends_with p.agent.log (Issue p.agent.at access)));
 }
-alike_kept stage p _ h (Draws state new) = record { over = over_kept stage p _ h.over (Draws state new);
-    alike = h.alike }
+alike_kept stage p _ h (Draws state new) = record {
+  over = over_kept stage p _ h.over (Draws state new);
+  alike = h.alike;
+}
 alike_kept stage p _ h (Delivers at one items after there due touches) =
     let going = going_if p.agent.ended (λ e. let empty = (h.over e).empty in cc
-        (sym (ap (λ (pending : List PendingAccess). slice_get pending at) empty) ∙ there)) in
+    (sym (ap (λ (pending : List PendingAccess). slice_get pending at) empty) ∙ there)) in
     record {
       over = over_kept stage p _ h.over (Delivers at one items after there due touches);
       alike = going ∙ sym (ends_with_touches one.index items p.agent.log
@@ -148,6 +151,6 @@ runs_end_alike script delay seed run is =
     is.ended
     ∙ all_alike is.agents (λ rank agent e.
     (lived_holds (stage_of script delay) seed rank (EndsAlike (stage_of script delay))
-        (alike_kept (stage_of script delay)) (record { over = λ k. absurd (cc k); alike = refl }) is.puts agent
-        (is.lives rank agent e)).0.alike)
+    (alike_kept (stage_of script delay)) (record { over = λ k. absurd (cc k); alike = refl }) is.puts agent
+    (is.lives rank agent e)).0.alike)
     ∙ ap (list_all has_ended) (sym is.logs)

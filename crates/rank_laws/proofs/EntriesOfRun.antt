@@ -28,7 +28,7 @@ named_none place rank index (item ∷ items) e =
     let one : Named = record { id = record { rank = rank; index = index }; item = item } in
     let rest = filter (is_named_entry_at place) (named_from rank (index + 1) items) in
     elim (is_entry_at place item) as (λ b. cond b (item ∷ filter (is_entry_at place) items)
-        (filter (is_entry_at place) items) ≡ [] → cond b (one ∷ rest) rest ≡ []) [
+    (filter (is_entry_at place) items) ≡ [] → cond b (one ∷ rest) rest ≡ []) [
       | true ↦ λ k. absurd (cc k)
       | false ↦ λ k. named_none place rank (index + 1) items k
     ] e
@@ -45,8 +45,8 @@ named_one : (place rank index : ℕ) (log : List Item) (x : Item) → filter (is
 named_one place rank index [] x e = absurd (cc e)
 named_one place rank index (item ∷ items) x e =
     elim (is_entry_at place item) as (λ b. is_entry_at place item ≡ b →
-        cond b (item ∷ filter (is_entry_at place) items) (filter (is_entry_at place) items) ≡ x ∷ [] →
-        OneThere place (named_from rank index (item ∷ items)) x rank) [
+    cond b (item ∷ filter (is_entry_at place) items) (filter (is_entry_at place) items) ≡ x ∷ [] →
+    OneThere place (named_from rank index (item ∷ items)) x rank) [
       | true ↦ λ t k.
           let one : Named = record { id = record { rank = rank; index = index }; item = item } in
           let same : item ≡ x = cc k in
@@ -87,7 +87,7 @@ none_in_logs place first [] h = refl
 none_in_logs place first (log ∷ logs) h =
     filter-append (is_named_entry_at place) (named_in first log) (named_logs (first + 1) logs)
     ∙ ap (λ front. front ++ filter (is_named_entry_at place) (named_logs (first + 1) logs))
-        (named_none place first 0 log (h 0 log refl))
+    (named_none place first 0 log (h 0 log refl))
     ∙ none_in_logs place (first + 1) logs (says_later place first None log logs h)
 
 -- ranks above that of the row have no entry there
@@ -98,7 +98,7 @@ none_above place first row (log ∷ logs) less h =
     filter-append (is_named_entry_at place) (named_in first log) (named_logs (first + 1) logs)
     ∙ ap (λ front. front ++ filter (is_named_entry_at place) (named_logs (first + 1) logs))
     (named_none place first 0 log (h 0 log refl ∙ ap (λ b. cond b (Entry row.number place row.step ∷ []) [])
-        (ne_eqb row.rank (first + 0) (λ e. omega arith))))
+    (ne_eqb row.rank (first + 0) (λ e. omega arith))))
     ∙ none_above place (first + 1) row logs (omega arith) (says_later place first (Some row) log logs h)
 
 pub one_in_logs : (place first : ℕ) (row : Row) (logs : List (List Item)) → first ≤ row.rank →
@@ -111,27 +111,27 @@ one_in_logs place first row (log ∷ logs) low high h =
       | inl mine ↦
           let same : row.rank ≡ first = mine.1 in
           let here = named_one place first 0 log (Entry row.number place row.step) (h 0 log refl
-              ∙ ap (λ b. cond b (Entry row.number place row.step ∷ []) [])
-              (eq-eqb row.rank (first + 0) (omega arith))) in
+          ∙ ap (λ b. cond b (Entry row.number place row.step ∷ []) [])
+          (eq-eqb row.rank (first + 0) (omega arith))) in
           record {
             one = here.one;
             alone = seam ∙ ap (λ front. front ++ filter (is_named_entry_at place)
                 (named_logs (first + 1) logs)) here.alone
                 ∙ ap (λ rest. here.one ∷ rest) (none_above place (first + 1) row logs (omega arith)
-                    (says_later place first (Some row) log logs h));
+                (says_later place first (Some row) log logs h));
             same = here.same;
             by = here.by ∙ sym same;
           }
       | inr other ↦
           let apart = other.1 in
           let rest = one_in_logs place (first + 1) row logs (omega arith) (omega arith)
-              (says_later place first (Some row) log logs h) in
+          (says_later place first (Some row) log logs h) in
           record {
             one = rest.one;
             alone = seam ∙ ap (λ front. front ++ filter (is_named_entry_at place) (named_logs (first + 1) logs))
                 (named_none place first 0 log (h 0 log refl ∙ ap
-                    (λ b. cond b (Entry row.number place row.step ∷ []) [])
-                    (ne_eqb row.rank (first + 0) (λ e. apart (omega arith))))) ∙ rest.alone;
+                (λ b. cond b (Entry row.number place row.step ∷ []) [])
+                (ne_eqb row.rank (first + 0) (λ e. apart (omega arith))))) ∙ rest.alone;
             same = rest.same;
             by = rest.by;
           }
@@ -146,8 +146,8 @@ named_amount rank index (item ∷ items) =
     let one : Named = record { id = record { rank = rank; index = index }; item = item } in
     let rest = named_amount rank (index + 1) items in
     elim (is_entry item) as (λ b. length (cond b (one ∷ filter is_some_entry (named_from rank (index + 1) items))
-        (filter is_some_entry (named_from rank (index + 1) items))) ≡
-        length (cond b (item ∷ filter is_entry items) (filter is_entry items))) [
+    (filter is_some_entry (named_from rank (index + 1) items))) ≡
+    length (cond b (item ∷ filter is_entry items) (filter is_entry items))) [
       | true ↦ ap suc rest
       | false ↦ rest
     ]
@@ -172,7 +172,7 @@ unfolding hits
 hits_past first zero row less = refl
 hits_past first (suc count) row less =
     ap (λ b. cond {A = ℕ} b 1 0 + hits (first + 1) count row) (ne_eqb row.rank first (λ e. omega arith))
-        ∙ ap (λ n. 0 + n) (hits_past (first + 1) count row (omega arith))
+    ∙ ap (λ n. 0 + n) (hits_past (first + 1) count row (omega arith))
 
 hits_once : (first count : ℕ) (row : Row) → first ≤ row.rank → row.rank < first + count → hits first count row ≡ 1
 unfolding hits
@@ -209,18 +209,18 @@ amount_from first (log ∷ logs) rows h =
     ap length (filter-append is_some_entry (named_in first log) (named_logs (first + 1) logs))
     ∙ length-append (filter is_some_entry (named_in first log)) (filter is_some_entry (named_logs (first + 1) logs))
     ∙ ap (λ n. n + length (filter is_some_entry (named_logs (first + 1) logs))) (named_amount first 0 log
-        ∙ h 0 log refl ∙ ap (λ n. own_of n rows) (omega arith))
+    ∙ h 0 log refl ∙ ap (λ n. own_of n rows) (omega arith))
     ∙ ap (λ n. own_of first rows + n) (amount_from (first + 1) logs rows (λ at other e. h (suc at) other e
-        ∙ ap (λ n. own_of n rows) (omega arith)))
+    ∙ ap (λ n. own_of n rows) (omega arith)))
 
 -- as many as there are rows
 pub amount_in_logs : (logs : List (List Item)) (rows : List Row) →
     AllByRecursion (λ (row : Row). row.rank < length logs) rows →
     ((at : ℕ) (log : List Item) → slice_get logs at ≡ Some log → length (filter is_entry log) ≡ own_of at rows) →
-        length (filter is_some_entry (named_logs 0 logs)) ≡ length rows
+    length (filter is_some_entry (named_logs 0 logs)) ≡ length rows
 amount_in_logs logs rows owners h =
     amount_from 0 logs rows (λ at log e. h at log e ∙ ap (λ n. own_of n rows) (omega arith))
-        ∙ total_all (length logs) rows owners
+    ∙ total_all (length logs) rows owners
 
 -- ---- rows
 
@@ -229,7 +229,7 @@ found_first : {X : Type 0} (test : X → Bool) (xs : List X) (x : X) (ys : List 
 found_first test [] x ys e = absurd (cc e)
 found_first {X} test (y ∷ xs) x ys e =
     elim (test y) as (λ b. cond b (y ∷ filter test xs) (filter test xs) ≡ x ∷ ys →
-        cond b (Some y) (find test xs) ≡ Some x) [
+    cond b (Some y) (find test xs) ≡ Some x) [
       | true ↦ λ k. let same : y ≡ x = cc k in ap Some same
       | false ↦ λ k. found_first test xs x ys k
     ] e
@@ -238,26 +238,30 @@ found_first {X} test (y ∷ xs) x ys e =
 pub row_there : (script : Script) (items : List Named) (place : ℕ) (row : Row) →
     OneThere place items (Entry row.number place row.step) row.rank →
     slice_get (calls_of script row.rank) row.number ≡ Some row.call →
-        flat_map (row_of script) (entry_at items place) ≡ row ∷ []
+    flat_map (row_of script) (entry_at items place) ≡ row ∷ []
 row_there script items place row there call =
     ap (λ (o : Option Named). flat_map (row_of script) (option_map_or (λ one. one ∷ []) o []))
-        (found_first (is_named_entry_at place) items there.one [] there.alone)
+    (found_first (is_named_entry_at place) items there.one [] there.alone)
     ∙ append-nil (row_of script there.one)
     ∙ ap (λ rank. row_by script rank there.one.item) there.by
     ∙ ap (row_by script row.rank) there.same
-    ∙ ap (λ (o : Option Call). option_map_or (λ c. (let made : Row = record { rank = row.rank; number = row.number;
-        call = c; step = row.step } in made) ∷ []) o []) call
+    ∙ ap (λ (o : Option Call). option_map_or (λ c. (let made : Row = record {
+      rank = row.rank;
+      number = row.number;
+      call = c;
+      step = row.step;
+    } in made) ∷ []) o []) call
 
 pub rows_by_place : (script : Script) (items : List Named) (first : ℕ) (rows : List Row) →
     ((at : ℕ) (row : Row) → slice_get rows at ≡ Some row → flat_map (row_of script) (entry_at items (first + at))
-        ≡ row ∷ []) →
+    ≡ row ∷ []) →
     flat_map (row_of script) (flat_map (entry_at items) (numbers_from first (length rows))) ≡ rows
 rows_by_place script items first [] h = refl
 rows_by_place script items first (row ∷ rows) h =
     flat_map-append (row_of script) (entry_at items first) (flat_map (entry_at items)
-        (numbers_from (first + 1) (length rows)))
+    (numbers_from (first + 1) (length rows)))
     ∙ ap (λ front. front ++ flat_map (row_of script) (flat_map (entry_at items)
-        (numbers_from (first + 1) (length rows))))
+    (numbers_from (first + 1) (length rows))))
     (ap (λ n. flat_map (row_of script) (entry_at items n)) (omega arith) ∙ h 0 row refl)
     ∙ ap (λ rest. row ∷ rest) (rows_by_place script items (first + 1) rows
     (λ at other e. ap (λ n. flat_map (row_of script) (entry_at items n)) (omega arith) ∙ h (suc at) other e))
@@ -270,7 +274,7 @@ pub call_of_row : (ranks : ℕ) (calls : List Call) (rank : ℕ) (before rows : 
 call_of_row ranks calls rank before [] h at row e mine = absurd (cc e)
 call_of_row ranks calls rank before (r ∷ rows) h zero row e mine =
     let same : r ≡ row = cc e in subst (λ (x : Row). slice_get calls x.number ≡ Some x.call) same
-        (h.0 (ap (λ (x : Row). x.rank) same ∙ mine)).1
+    (h.0 (ap (λ (x : Row). x.rank) same ∙ mine)).1
 call_of_row ranks calls rank before (r ∷ rows) h (suc at) row e mine = call_of_row ranks calls rank
     (before ++ r ∷ []) rows h.1 at row e mine
 
@@ -278,11 +282,13 @@ call_of_row ranks calls rank before (r ∷ rows) h (suc at) row e mine = call_of
 pub allowed_by_owners : (script : Script) (before rows : List Row) →
     AllByRecursion (λ (row : Row). row.rank < script.ranks) rows →
     ((rank : ℕ) → rank < script.ranks → AreOwnAllowed script.ranks (calls_of script rank) rank before rows) →
-        AreAllowed script.ranks before rows
+    AreAllowed script.ranks before rows
 allowed_by_owners script before [] owners h = tt
-allowed_by_owners script before (row ∷ rows) owners h =
-    (((h row.rank owners.0).0 refl).0, allowed_by_owners script (before ++ row ∷ []) rows owners.1
-        (λ rank inside. (h rank inside).1))
+allowed_by_owners script before (row ∷ rows) owners h = (
+  ((h row.rank owners.0).0 refl).0,
+  allowed_by_owners script (before ++ row ∷ []) rows owners.1
+      (λ rank inside. (h rank inside).1),
+)
 
 -- ---- the calls of entries
 
@@ -302,17 +308,19 @@ names_in_log : (script : Script) (rank index : ℕ) (log : List Item) →
     AllByRecursion (IsOfCall (calls_of script rank)) log → AllByRecursion (NamesItsCall script)
     (named_from rank index log)
 names_in_log script rank index [] h = tt
-names_in_log script rank index (item ∷ items) h = (names_call script rank item h.0,
-    names_in_log script rank (index + 1) items h.1)
+names_in_log script rank index (item ∷ items) h = (
+  names_call script rank item h.0,
+  names_in_log script rank (index + 1) items h.1,
+)
 
 pub names_in_logs : (script : Script) (first : ℕ) (logs : List (List Item)) →
     ((at : ℕ) (log : List Item) → slice_get logs at ≡ Some log →
-        AllByRecursion (IsOfCall (calls_of script (first + at))) log) →
-        AllByRecursion (NamesItsCall script) (named_logs first logs)
+    AllByRecursion (IsOfCall (calls_of script (first + at))) log) →
+    AllByRecursion (NamesItsCall script) (named_logs first logs)
 names_in_logs script first [] h = tt
 names_in_logs script first (log ∷ logs) h =
     each_append (NamesItsCall script) (named_in first log) (named_logs (first + 1) logs)
     (names_in_log script first 0 log (subst (λ n. AllByRecursion (IsOfCall (calls_of script n)) log) (omega arith)
-        (h 0 log refl)))
+    (h 0 log refl)))
     (names_in_logs script (first + 1) logs (λ at other e. subst
-        (λ n. AllByRecursion (IsOfCall (calls_of script n)) other) (omega arith) (h (suc at) other e)))
+    (λ n. AllByRecursion (IsOfCall (calls_of script n)) other) (omega arith) (h (suc at) other e)))

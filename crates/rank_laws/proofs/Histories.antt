@@ -46,7 +46,7 @@ refused_path : (stage : Stage) (agent : Agent) (rows : List Row) (lows : Lows) (
     (class : _) → Begins stage agent call → course_at agent call ≡ course →
     has_entry course ≡ true → decide stage.script.ranks rows (next_row agent call (step_by course)) ≡ Refuse class →
     (after : Agent → Agent) → Path stage (point agent rows lows)
-        (point_at (enter_by (Refuse class) stage agent rows call (step_by course) after) lows)
+    (point_at (enter_by (Refuse class) stage agent rows call (step_by course) after) lows)
 refused_path stage agent rows lows call course class begins is has answer after =
     one_move stage (point agent rows lows) _ (IsRefused call class begins (ap has_entry is ∙ has)
     (ap (λ (c : Course). decide stage.script.ranks rows (next_row agent call (step_by c))) is ∙ answer))
@@ -79,7 +79,7 @@ arrive_path : (stage : Stage) (agent : Agent) (rows : List Row) (lows : Lows) (c
     Begins stage agent call → course_at agent call ≡ ArriveAndLeave →
     (d : Decision) → decide stage.script.ranks rows (next_row agent call Arrive) ≡ d →
     Path stage (point agent rows lows) (point_at (leave_if_entered stage call
-        (enter_by d stage agent rows call Arrive opened)) lows)
+    (enter_by d stage agent rows call Arrive opened)) lows)
 arrive_path stage agent rows lows call begins is (Refuse class) e = refused_path stage agent rows lows call
     ArriveAndLeave class begins is refl e opened
 arrive_path stage agent rows lows call begins is Allow e =
@@ -88,10 +88,10 @@ arrive_path stage agent rows lows call begins is Allow e =
     paths_join stage (point agent rows lows) (point_at arrived lows) _
     (one_move stage (point agent rows lows) _ (Enters call Arrive opened (Arriving begins is) e))
     (leave_path stage arrived.agent arrived.rows lows call (Leaving begins.here refl none)
-        (decide stage.script.ranks arrived.rows (next_row arrived.agent call Leave)) refl)
+    (decide stage.script.ranks arrived.rows (next_row arrived.agent call Leave)) refl)
 arrive_path stage agent rows lows call begins is NotYet e =
     subst (λ b. Path stage (point agent rows lows) (point_at
-        (cond b (leave stage agent rows call) (waiting agent rows)) lows)) (sym begins.new) Stays
+    (cond b (leave stage agent rows call) (waiting agent rows)) lows)) (sym begins.new) Stays
 
 test_path : (stage : Stage) (agent : Agent) (rows : List Row) (lows : Lows) (call : Call) → Begins stage agent call →
     course_at agent call ≡ EntryOrTested →
@@ -112,17 +112,17 @@ entry_path stage agent rows lows call begins OneNull is = Stays
 entry_path stage agent rows lows call begins OneIssue is = Stays
 entry_path stage agent rows lows call begins LookUpAndIssue is =
     first_path stage agent rows lows call LookUpAndIssue opened begins is refl (LookUp begins is)
-        (decide stage.script.ranks rows (next_row agent call One)) refl
+    (decide stage.script.ranks rows (next_row agent call One)) refl
 entry_path stage agent rows lows call begins OneFlush is = Stays
 entry_path stage agent rows lows call begins OneRequest is = Stays
 entry_path stage agent rows lows call begins ArriveAndLeave is =
     arrive_path stage agent rows lows call begins is (decide stage.script.ranks rows
-        (next_row agent call Arrive)) refl
+    (next_row agent call Arrive)) refl
 entry_path stage agent rows lows call begins EntryOrTested is =
     test_path stage agent rows lows call begins is (decide stage.script.ranks rows (next_row agent call One)) refl
 entry_path stage agent rows lows call begins OneEntry is =
     first_path stage agent rows lows call OneEntry finished begins is refl (OnlyEntry begins (inl is))
-        (decide stage.script.ranks rows (next_row agent call One)) refl
+    (decide stage.script.ranks rows (next_row agent call One)) refl
 
 -- what it says that a call begins with an entry
 begins_if : (stage : Stage) (agent : Agent) (call : Call) → next_call stage agent ≡ Some call →
@@ -144,10 +144,10 @@ call_path : (stage : Stage) (agent : Agent) (rows : List Row) (lows : Lows) (cal
     next_call stage agent ≡ Some call → (b : Bool) → agent.entered ≡ b →
     cond b (is_none (transfer_of call)) (begins_with_entry stage agent call) ≡ true →
     Path stage (point agent rows lows) (point_at (cond b (leave stage agent rows call)
-        (first_entry (course_at agent call) stage agent rows call)) lows)
+    (first_entry (course_at agent call) stage agent rows call)) lows)
 call_path stage agent rows lows call here true e tries =
     leave_path stage agent rows lows call (Leaving here e (is_none_of (transfer_of call) tries))
-        (decide stage.script.ranks rows (next_row agent call Leave)) refl
+    (decide stage.script.ranks rows (next_row agent call Leave)) refl
 call_path stage agent rows lows call here false e tries = entry_path stage agent rows lows call
     (begins_if stage agent call here e tries) (course_at agent call) refl
 
@@ -156,10 +156,10 @@ pub look_path : (stage : Stage) (agent : Agent) (rows : List Row) (lows : Lows) 
     Path stage (point agent rows lows) (point_at (board_step stage agent rows) lows)
 look_path stage agent rows lows tries =
     elim (next_call stage agent) as (λ (o : Option Call). next_call stage agent ≡ o →
-        option_map_or (λ call. cond agent.entered (is_none (transfer_of call))
-            (begins_with_entry stage agent call)) o false ≡ true →
-        Path stage (point agent rows lows) (point_at (option_map_or (entry_of stage agent rows) o
-            (waiting agent rows)) lows)) [
+    option_map_or (λ call. cond agent.entered (is_none (transfer_of call))
+    (begins_with_entry stage agent call)) o false ≡ true →
+    Path stage (point agent rows lows) (point_at (option_map_or (entry_of stage agent rows) o
+    (waiting agent rows)) lows)) [
       | None ↦ λ e t. Stays
       | Some call ↦ λ e t. call_path stage agent rows lows call e agent.entered refl t
     ] refl tries
@@ -177,7 +177,7 @@ pub put_rises : (ranks : ℕ) (before : List Put) (lows : Lows) (puts : List Put
 put_rises ranks before lows [] after h = h
 put_rises ranks before lows (put ∷ puts) after h =
     most_join lows put.front after h.1 (most_join put.front h.0 after h.2
-        (put_rises ranks (before ++ put ∷ []) h.0 puts after h.4))
+    (put_rises ranks (before ++ put ∷ []) h.0 puts after h.4))
 
 pub others_rows : (rank : ℕ) (puts : List Put) → AreOthers rank puts →
     AllByRecursion (λ (row : Row). row.rank ≢ rank) (rows_put puts)

@@ -59,28 +59,28 @@ rank_kept stage rank p _ h (DeliversOne at one items after there due touches) = 
 look_holds : (stage : Stage) (rank : ℕ) (P : Point → Type 0) → Keeps stage P →
     (agent : Agent) (known others puts : List Put) (lows after : Lows) → agent.rank ≡ rank →
     P (point agent (rows_put known) lows) → AreOthers rank others →
-        LooksAfter stage agent (known ++ others) lows puts after →
+    LooksAfter stage agent (known ++ others) lows puts after →
     P (point (board_step stage agent (rows_put (known ++ others))).agent (rows_put ((known ++ others) ++ puts)) after)
 look_holds stage rank P keeps agent known others puts lows after mine h apart looks =
     let before = rows_put (known ++ others) in
     let step = board_step stage agent before in
     let theirs : AllByRecursion (λ (row : Row). row.rank ≢ agent.rank) (rows_put others) =
     subst (λ r. AllByRecursion (λ (row : Row). row.rank ≢ r) (rows_put others)) (sym mine)
-        (others_rows rank others apart) in
+    (others_rows rank others apart) in
     let learnt : P (point agent before lows) =
     subst (λ (rows : List Row). P (point agent rows lows)) (sym (rows_joined known others))
     (keeps (point agent (rows_put known) lows) _ h (Learns (rows_put others) theirs)) in
     let looked : P (point_at step lows) = path_keeps stage P keeps (point agent before lows)
-        (point_at step lows) learnt (look_path stage agent before lows looks.tries) in
+    (point_at step lows) learnt (look_path stage agent before lows looks.tries) in
     let moved : P (point step.agent (rows_put ((known ++ others) ++ puts)) lows) = subst
-        (λ (rows : List Row). P (point step.agent rows lows)) looks.rows looked in
+    (λ (rows : List Row). P (point step.agent rows lows)) looks.rows looked in
     keeps (point step.agent (rows_put ((known ++ others) ++ puts)) lows) _ moved
-        (Rises after (put_rises stage.script.ranks (known ++ others) lows puts after looks.fronts))
+    (Rises after (put_rises stage.script.ranks (known ++ others) lows puts after looks.fronts))
 
 pub life_holds : (stage : Stage) (seed rank : ℕ) (P : Point → Type 0) → Keeps stage P →
     P (point (new_agent stage seed rank) [] first_lows) →
     (agent : Agent) (known : List Put) (lows : Lows) → Lives stage seed rank agent known lows →
-        P (point agent (rows_put known) lows) × (agent.rank ≡ rank)
+    P (point agent (rows_put known) lows) × (agent.rank ≡ rank)
 life_holds stage seed rank P keeps h _ _ _ BeginsLife = (h, refl)
 life_holds stage seed rank P keeps h _ _ _ (Looks agent known others puts lows after life apart looks) =
     let old = life_holds stage seed rank P keeps h agent known lows life in (
@@ -134,7 +134,7 @@ over_kept stage p _ h (IssuesWhole call t access items after issuing once touche
 over_kept stage p _ h (Draws state new) = λ e. let over = h e in record { past = over.past; empty = over.empty }
 over_kept stage p _ h (DeliversOne at one items after there due touches) =
     λ e. let over = (h e).empty in absurd (cc (sym (ap (λ (pending : List PendingAccess). slice_get pending at) over)
-        ∙ there))
+    ∙ there))
 
 -- ---- after the last step
 
@@ -145,8 +145,8 @@ stops_closed stage agent rows lows over (inl ended) call here inside = let past 
     (cc (sym past ∙ here))
 stops_closed stage agent rows lows over (inr waits) call here inside =
     is_none_of (transfer_of call) (tries_if agent.entered inside
-        (ap (λ (o : Option Call). option_map_or (λ c. cond agent.entered (is_none (transfer_of c))
-        (begins_with_entry stage agent c)) o false) (sym here) ∙ waits.0))
+    (ap (λ (o : Option Call). option_map_or (λ c. cond agent.entered (is_none (transfer_of c))
+    (begins_with_entry stage agent c)) o false) (sym here) ∙ waits.0))
   where
     tries_if : (b : Bool) → b ≡ true → cond b (is_none (transfer_of call)) (begins_with_entry stage agent call)
         ≡ true → is_none (transfer_of call) ≡ true
@@ -164,8 +164,11 @@ drains_hold : (stage : Stage) (P : Point → Type 0) → Keeps stage P → (rows
 drains_hold stage P keeps rows agent lows closed h _ _ StaysDry = (h, closed)
 drains_hold stage P keeps rows agent lows closed h _ _ (Drained now next low after drains made) =
     let old = drains_hold stage P keeps rows agent lows closed h now low drains in
-    let due : IsDue stage now 0 = record { closed = old.1; free = first_is_free now.pending;
-        reason = IsDrained refl } in (
+    let due : IsDue stage now 0 = record {
+      closed = old.1;
+      free = first_is_free now.pending;
+      reason = IsDrained refl;
+    } in (
       path_keeps stage P keeps (point now rows low) (point next rows after) old.0
           (delivery_path stage now next rows low after 0 due (slice_get now.pending 0) refl made),
       closed_delivered stage now next low after (slice_get now.pending 0) old.1 made,
@@ -184,16 +187,16 @@ last_point stage seed rank puts agent lived = point agent (rows_put puts) lived.
 pub stops_holding : (stage : Stage) (seed rank : ℕ) (P : Point → Type 0) → Keeps stage P →
     P (point (new_agent stage seed rank) [] first_lows) →
     (puts : List Put) (agent : Agent) (lived : HasLived stage seed rank puts agent) →
-        P (stopped_point stage seed rank puts agent lived) × (lived.stopped.rank ≡ rank)
+    P (stopped_point stage seed rank puts agent lived) × (lived.stopped.rank ≡ rank)
 stops_holding stage seed rank P keeps h puts agent lived =
     let old = life_holds stage seed rank P keeps h lived.stopped lived.known lived.lows lived.life in
     let theirs : AllByRecursion (λ (row : Row). row.rank ≢ lived.stopped.rank) (rows_put lived.later) =
     subst (λ r. AllByRecursion (λ (row : Row). row.rank ≢ r) (rows_put lived.later)) (sym old.1)
-        (others_rows rank lived.later lived.apart) in (
+    (others_rows rank lived.later lived.apart) in (
       subst (λ (rows : List Row). P (point lived.stopped rows lived.lows))
           (sym (ap rows_put lived.entries ∙ rows_joined lived.known lived.later))
           (keeps (point lived.stopped (rows_put lived.known) lived.lows) _ old.0
-              (Learns (rows_put lived.later) theirs)),
+          (Learns (rows_put lived.later) theirs)),
       old.1,
     )
 
@@ -201,11 +204,11 @@ stops_holding stage seed rank P keeps h puts agent lived =
 pub lived_holds : (stage : Stage) (seed rank : ℕ) (P : Point → Type 0) → Keeps stage P →
     P (point (new_agent stage seed rank) [] first_lows) →
     (puts : List Put) (agent : Agent) (lived : HasLived stage seed rank puts agent) →
-        P (last_point stage seed rank puts agent lived) × IsClosed stage agent
+    P (last_point stage seed rank puts agent lived) × IsClosed stage agent
 lived_holds stage seed rank P keeps h puts agent lived =
     let stopped = stops_holding stage seed rank P keeps h puts agent lived in
     let over = stops_holding stage seed rank (EndsOver stage) (over_kept stage)
-        (λ e. absurd (cc e)) puts agent lived in
+    (λ e. absurd (cc e)) puts agent lived in
     let closed = stops_closed stage lived.stopped (rows_put puts) lived.lows over.0 lived.stops in
     drains_hold stage P keeps (rows_put puts) lived.stopped lived.lows closed stopped.0 agent lived.last lived.drains
 

@@ -21,7 +21,7 @@ touches_are_lawful script delay seed run is rank inside =
     let there = rank_there script delay seed run is rank inside in
     subst (HasLawfulTouches (rank_in script delay run rank)) (sym there.log)
     (lawful_touches stage seed rank is.puts there.agent (rows_of script run) there.lived
-        (lived_rank stage seed rank is.puts there.agent there.lived))
+    (lived_rank stage seed rank is.puts there.agent there.lived))
 
 pub undelayed_is_direct : UndelayedRunsTouchDirectly
 undelayed_is_direct script seed run is rank inside =
@@ -29,13 +29,13 @@ undelayed_is_direct script seed run is rank inside =
     let there = rank_there script NoDelay seed run is rank inside in
     subst (KeepsDelay NoDelay (rank_in script NoDelay run rank)) (sym there.log)
     (keeps_none stage seed rank is.puts there.agent (rows_of script run) there.lived
-        (lived_rank stage seed rank is.puts there.agent there.lived) refl)
+    (lived_rank stage seed rank is.puts there.agent there.lived) refl)
 
 pub look_ups_are_followed : AssembledRunsFollowLookUps
 look_ups_are_followed script delay seed run is rank inside =
     let stage = stage_of script delay in
     let there = rank_there script delay seed run is rank inside in
     subst (λ (log : List Item). AllByRecursion (IsLookUpFollowed (rank_in script delay run rank) log)
-        (numbers_from 0 (length log))) (sym there.log)
+    (numbers_from 0 (length log))) (sym there.log)
     (look_ups_followed stage seed rank is.puts there.agent (rows_of script run) there.lived
-        (lived_rank stage seed rank is.puts there.agent there.lived))
+    (lived_rank stage seed rank is.puts there.agent there.lived))

@@ -67,8 +67,8 @@ pub none_passes : {X : Type 0} (test : X → Bool) (xs : List X) → position te
     AllByRecursion (λ x. test x ≡ false) xs
 none_passes {X} test xs e =
     elim (nat_lt (position_or_len test xs) (length xs)) as (λ b. nat_lt (position_or_len test xs) (length xs) ≡ b →
-        cond b (Some (position_or_len test xs)) None ≡ None →
-        AllByRecursion (λ x. test x ≡ false) xs) [
+    cond b (Some (position_or_len test xs)) None ≡ None →
+    AllByRecursion (λ x. test x ≡ false) xs) [
       | true ↦ λ t some. absurd (cc some)
       | false ↦ λ t none. all_fail xs (ltb-false (position_or_len test xs) (length xs) t)
     ] refl e
@@ -77,8 +77,8 @@ none_passes {X} test xs e =
     all_fail [] h = tt
     all_fail (y ∷ ys) h =
         elim (test y) as (λ b. test y ≡ b → suc (length ys) ≤ cond
-            (elim b as (λ x. Bool) [ true ↦ false | false ↦ true ]) (1 + position_or_len test ys) 0 →
-            (test y ≡ false) × AllByRecursion (λ x. test x ≡ false) ys) [
+        (elim b as (λ x. Bool) [ true ↦ false | false ↦ true ]) (1 + position_or_len test ys) 0 →
+        (test y ≡ false) × AllByRecursion (λ x. test x ≡ false) ys) [
           | true ↦ λ t less. absurd (omega arith)
           | false ↦ λ t less. (t, all_fail ys (omega arith))
         ] refl h
@@ -95,8 +95,10 @@ pair_turned R S h (x ∷ xs) all = (each_turned (R x) (S x) (h x) xs all.0, pair
 pub pair_joined : {X : Type 0} (R : X → X → Type 0) (xs ys : List X) → EachPair R xs → EachPair R ys →
     AllByRecursion (λ x. AllByRecursion (R x) ys) xs → EachPair R (xs ++ ys)
 pair_joined R [] ys first second both = second
-pair_joined R (x ∷ xs) ys first second both = (each_append (R x) xs ys first.0 both.0,
-    pair_joined R xs ys first.1 second both.1)
+pair_joined R (x ∷ xs) ys first second both = (
+  each_append (R x) xs ys first.0 both.0,
+  pair_joined R xs ys first.1 second both.1,
+)
 
 pub pair_push : {X : Type 0} (R : X → X → Type 0) (xs : List X) (y : X) → EachPair R xs →
     AllByRecursion (λ x. R x y) xs → EachPair R (xs ++ y ∷ [])
@@ -122,8 +124,11 @@ pair_left R (x ∷ xs) (suc at) h = (each_left (R x) xs at h.0, pair_left R xs a
 pub place_in : (at count : ℕ) → (at < count) ⊎ ((past : ℕ) × (at ≡ count + past))
 place_in at zero = inr (at, omega arith)
 place_in zero (suc count) = inl (omega arith)
-place_in (suc at) (suc count) = elim (place_in at count) [ inl h ↦ inl (omega arith) | inr h ↦ let same = h.1 in inr
-    (h.0, omega arith) ]
+place_in (suc at) (suc count) = elim (place_in at count) [
+  | inl h ↦ inl (omega arith)
+  | inr h ↦ let same = h.1 in inr
+      (h.0, omega arith)
+]
 
 -- the front of a list is found at its own indices
 pub get_front : {X : Type 0} (xs ys : List X) (at : ℕ) → at < length xs → slice_get (xs ++ ys) at ≡ slice_get xs at
@@ -188,7 +193,7 @@ others_apart number [] at x h e = absurd (cc e)
 others_apart {X} number (y ∷ xs) zero x h e =
     let same : y ≡ x = cc e in
     each_turned (λ z. number y < number z) (λ z. number z ≡ number x → ⊥)
-        (λ z less k. let k2 = ap number same in absurd (omega arith)) xs h.0
+    (λ z less k. let k2 = ap number same in absurd (omega arith)) xs h.0
 others_apart {X} number (y ∷ xs) (suc at) x h e =
     let less = each_at (λ z. number y < number z) xs at x h.0 e in
     (λ k. absurd (omega arith), others_apart number xs at x h.1 e)
@@ -201,12 +206,14 @@ smaller_before number P [] at x h e k = absurd (cc e)
 smaller_before number P (y ∷ xs) zero x h e k =
     let same : y ≡ x = cc e in
     each_turned (λ z. number y < number z) (λ z. number z < number x → P z)
-        (λ z more less. let k2 = ap number same in absurd (omega arith)) xs h.0
+    (λ z more less. let k2 = ap number same in absurd (omega arith)) xs h.0
 smaller_before number P (y ∷ xs) (suc at) x h e k = (λ less. k.0, smaller_before number P xs at x h.1 e k.1)
 
 -- one relation of each pair follows from another, where each element has a property
 pub pair_within : {X : Type 0} (P : X → Type 0) (R S : X → X → Type 0) → ((x y : X) → P x → P y → R x y → S x y) →
     (xs : List X) → AllByRecursion P xs → EachPair R xs → EachPair S xs
 pair_within P R S h [] all pairs = tt
-pair_within P R S h (x ∷ xs) all pairs = (each_with P (R x) (S x) (λ y p r. h x y all.0 p r) xs all.1 pairs.0,
-    pair_within P R S h xs all.1 pairs.1)
+pair_within P R S h (x ∷ xs) all pairs = (
+  each_with P (R x) (S x) (λ y p r. h x y all.0 p r) xs all.1 pairs.0,
+  pair_within P R S h xs all.1 pairs.1,
+)

@@ -129,8 +129,10 @@ pub data Move (stage : Stage) (p : Point) : Point → Type 0 where
   -- the board refuses its call
   IsRefused : (call : Call) (class : Class) → Begins stage p.agent call → has_entry (course_at p.agent call) ≡ true →
       decide stage.script.ranks p.rows (next_row p.agent call (step_by (course_at p.agent call))) ≡ Refuse class →
-      Move stage p (record p { agent = (turned_away stage p.agent p.rows
-          (Refused p.agent.at class (length p.rows))).agent })
+      Move stage p (record p {
+        agent = (turned_away stage p.agent p.rows
+            (Refused p.agent.at class (length p.rows))).agent;
+      })
   -- a testwin is false
   Tests : (call : Call) → Begins stage p.agent call → course_at p.agent call ≡ EntryOrTested →
       decide stage.script.ranks p.rows (next_row p.agent call One) ≡ NotYet →

@@ -40,7 +40,7 @@ IsFree calls log pending issue = AllByRecursion (IsFreeOf calls log issue) pendi
 abbrev pub KeepsWay : List Call → List Item → ℕ → ℕ → Type 0
 KeepsWay calls log first second =
     second < first → IfSome (issued_at calls log first) (λ later. IfSome (issued_at calls log second)
-        (λ earlier. gives_way later earlier ≡ false))
+    (λ earlier. gives_way later earlier ≡ false))
 
 pub record HasTouches (memory : Layout) (calls : List Call) (log : List Item)
     (pending : List PendingAccess) : Type 0 where
@@ -53,8 +53,14 @@ pub record HasTouches (memory : Layout) (calls : List Call) (log : List Item)
   pub order : EachPair (KeepsWay calls log) (issues_touched log)
 
 pub no_touches : (memory : Layout) (calls : List Call) → HasTouches memory calls [] []
-no_touches memory calls = record { each = λ index one e. absurd (cc e); waiting = tt; ascending = tt; below = tt;
-    free = tt; order = tt }
+no_touches memory calls = record {
+  each = λ index one e. absurd (cc e);
+  waiting = tt;
+  ascending = tt;
+  below = tt;
+  free = tt;
+  order = tt;
+}
 
 -- ---- one item more
 
@@ -75,17 +81,17 @@ way_still : (calls : List Call) (log more : List Item) (first second : ℕ) → 
     KeepsWay calls log first second → KeepsWay calls (log ++ more) first second
 way_still calls log more first second a b k =
     subst (λ (o : Option PendingAccess). second < first → IfSome o
-        (λ later. IfSome (issued_at calls (log ++ more) second) (λ earlier. gives_way later earlier ≡ false)))
-        (sym (issued_front calls log more first a))
+    (λ later. IfSome (issued_at calls (log ++ more) second) (λ earlier. gives_way later earlier ≡ false)))
+    (sym (issued_front calls log more first a))
     (subst (λ (o : Option PendingAccess). second < first → IfSome (issued_at calls log first)
-        (λ later. IfSome o (λ earlier. gives_way later earlier ≡ false)))
-        (sym (issued_front calls log more second b)) k)
+    (λ later. IfSome o (λ earlier. gives_way later earlier ≡ false)))
+    (sym (issued_front calls log more second b)) k)
 
 free_still : (calls : List Call) (log more : List Item) (issue : ℕ) (one : PendingAccess) → issue < length log →
     IsFreeOf calls log issue one → IsFreeOf calls (log ++ more) issue one
 free_still calls log more issue one less k =
     subst (λ (o : Option PendingAccess). one.index < issue → IfSome o (λ later. gives_way later one ≡ false))
-        (sym (issued_front calls log more issue less)) k
+    (sym (issued_front calls log more issue less)) k
 
 pub item_more : (memory : Layout) (calls : List Call) (log : List Item) (pending made : List PendingAccess)
     (item : Item) → HasTouches memory calls log pending →
@@ -98,19 +104,21 @@ item_more memory calls log pending made item has makes = record {
   ];
   waiting = each_append (IsUntouched calls next) pending made
       (each_turned (IsUntouched calls log) (IsUntouched calls next)
-          (λ one h. (issued_still calls log (item ∷ []) one.index one h.0,
-          touched_plain one.index log item makes.plain ∙ h.1)) pending has.waiting)
+      (λ one h. (
+        issued_still calls log (item ∷ []) one.index one h.0,
+        touched_plain one.index log item makes.plain ∙ h.1,
+      )) pending has.waiting)
       (each_turned (λ (one : PendingAccess). issued_by calls (length log) item ≡ Some one) (IsUntouched calls next)
-          (λ one h. is_last one (made_at calls (length log) item one h) h) made makes.its);
+      (λ one h. is_last one (made_at calls (length log) item one h) h) made makes.its);
   ascending = pair_joined (λ (a : PendingAccess) (b : PendingAccess).
       a.index < b.index) pending made has.ascending makes.single
       (each_turned (IsUntouched calls log) (λ (a : PendingAccess). AllByRecursion
-          (λ (b : PendingAccess). a.index < b.index) made)
+      (λ (b : PendingAccess). a.index < b.index) made)
       (λ a h. let inside = issued_inside calls log a.index a h.0 in
       each_turned (λ (one : PendingAccess). issued_by calls (length log) item ≡ Some one)
-          (λ (b : PendingAccess). a.index < b.index)
+      (λ (b : PendingAccess). a.index < b.index)
       (λ b k. let at = made_at calls (length log) item b k in let less = inside.0 in omega arith) made makes.its)
-          pending has.waiting);
+      pending has.waiting);
   below = subst (AllByRecursion (λ n. n < length next)) (sym same)
       (each_turned (λ n. n < length log) (λ n. n < length next) (λ n less. omega (arith, longer))
       (issues_touched log) has.below);
@@ -118,13 +126,13 @@ item_more memory calls log pending made item has makes = record {
       (each_with (λ n. n < length log) (IsFree calls log pending) (IsFree calls next (pending ++ made))
       (λ n less h. each_append (IsFreeOf calls next n) pending made
       (each_turned (IsFreeOf calls log n) (IsFreeOf calls next n)
-          (λ one k. free_still calls log (item ∷ []) n one less k) pending h)
+      (λ one k. free_still calls log (item ∷ []) n one less k) pending h)
       (each_turned (λ (one : PendingAccess). issued_by calls (length log) item ≡ Some one) (IsFreeOf calls next n)
       (λ one k earlier. let at = made_at calls (length log) item one k in absurd (omega arith)) made makes.its))
-          (issues_touched log) has.below has.free);
+      (issues_touched log) has.below has.free);
   order = subst (EachPair (KeepsWay calls next)) (sym same)
       (pair_within (λ n. n < length log) (KeepsWay calls log) (KeepsWay calls next)
-          (λ x y a b k. way_still calls log (item ∷ []) x y a b k) (issues_touched log) has.below has.order);
+      (λ x y a b k. way_still calls log (item ∷ []) x y a b k) (issues_touched log) has.below has.order);
 }
   where
     next : List Item
@@ -139,8 +147,11 @@ item_more memory calls log pending made item has makes = record {
     still : (one : PendingAccess) → IsSettled memory calls log pending one →
         IsSettled memory calls next (pending ++ made) one
     still one (inl whole) = inl (touched_plain one.index log item makes.plain ∙ whole)
-    still one (inr none) = inr (touched_plain one.index log item makes.plain
-        ∙ none.0, among_left one pending made none.1)
+    still one (inr none) = inr (
+      touched_plain one.index log item makes.plain
+          ∙ none.0,
+      among_left one pending made none.1,
+    )
 
     untouched_there : (one : PendingAccess) → one.index ≡ length log → touched_by one.index next ≡ []
     untouched_there one at = touched_plain one.index log item makes.plain
@@ -156,7 +167,7 @@ item_more memory calls log pending made item has makes = record {
     is_last one at h = (
       subst (λ n. issued_at calls next n ≡ Some one) (sym at)
           (ap (λ (o : Option Item). option_map_or (issued_by calls (length log)) o None)
-              (get_rest log (item ∷ []) (length log) 0 (omega arith)) ∙ h),
+          (get_rest log (item ∷ []) (length log) 0 (omega arith)) ∙ h),
       untouched_there one at,
     )
 
@@ -184,29 +195,29 @@ touches_more memory calls log pending at one items has touches = record {
   below = subst (AllByRecursion (λ n. n < length next)) (sym seam)
       (each_append (λ n. n < length next) (issues_touched log) (issues_touched items)
       (each_turned (λ n. n < length log) (λ n. n < length next) (λ n less. omega (arith, longer))
-          (issues_touched log) has.below)
+      (issues_touched log) has.below)
       (each_turned (λ n. n ≡ one.index) (λ n. n < length next) (λ n is. let less = inside.0 in omega (arith, longer))
-          (issues_touched items) last));
+      (issues_touched items) last));
   free = subst (AllByRecursion (IsFree calls next (remove pending at))) (sym seam)
       (each_append (IsFree calls next (remove pending at)) (issues_touched log) (issues_touched items)
       (each_with (λ n. n < length log) (IsFree calls log pending) (IsFree calls next (remove pending at))
       (λ n less h. each_turned (IsFreeOf calls log n) (IsFreeOf calls next n)
-          (λ other k. free_still calls log items n other less k) (remove pending at)
-          (each_left (IsFreeOf calls log n) pending at h))
+      (λ other k. free_still calls log items n other less k) (remove pending at)
+      (each_left (IsFreeOf calls log n) pending at h))
       (issues_touched log) has.below has.free)
       (each_turned (λ n. n ≡ one.index) (IsFree calls next (remove pending at))
-          (λ n is. subst (IsFree calls next (remove pending at)) (sym is) free_now) (issues_touched items) last));
+      (λ n is. subst (IsFree calls next (remove pending at)) (sym is) free_now) (issues_touched items) last));
   order = subst (EachPair (KeepsWay calls next)) (sym seam)
       (pair_joined (KeepsWay calls next) (issues_touched log) (issues_touched items)
       (pair_within (λ n. n < length log) (KeepsWay calls log) (KeepsWay calls next)
-          (λ x y a b k. way_still calls log items x y a b k) (issues_touched log) has.below has.order)
+      (λ x y a b k. way_still calls log items x y a b k) (issues_touched log) has.below has.order)
       (pair_alike (λ n. n ≡ one.index) (KeepsWay calls next) (λ x y a b less. absurd (omega arith))
-          (issues_touched items) last)
+      (issues_touched items) last)
       (each_with (λ n. n < length log) (IsFree calls log pending)
-          (λ x. AllByRecursion (KeepsWay calls next x) (issues_touched items))
+      (λ x. AllByRecursion (KeepsWay calls next x) (issues_touched items))
       (λ x less h. each_turned (λ n. n ≡ one.index) (KeepsWay calls next x)
       (λ y is. subst (KeepsWay calls next x) (sym is) (keeps x less
-          (each_at (IsFreeOf calls log x) pending at one h touches.there))) (issues_touched items) last)
+      (each_at (IsFreeOf calls log x) pending at one h touches.there))) (issues_touched items) last)
       (issues_touched log) has.below has.free));
 }
   where
@@ -237,8 +248,8 @@ touches_more memory calls log pending at one items has touches = record {
     unchanged : (index : ℕ) → (index ≡ one.index → ⊥) → touched_by index next ≡ touched_by index log
     unchanged index apart =
         touched_joined index log items ∙ ap (λ more. touched_by index log ++ more)
-            (touched_by_other index one.index items (λ e. apart (sym e)) touches.own)
-            ∙ append-nil (touched_by index log)
+        (touched_by_other index one.index items (λ e. apart (sym e)) touches.own)
+        ∙ append-nil (touched_by index log)
 
     now_whole : touched_by one.index next ≡ elements_of memory calls one
     now_whole = touched_joined one.index log items ∙ ap (λ front. front ++ touched_by one.index items) here.1
@@ -247,24 +258,27 @@ touches_more memory calls log pending at one items has touches = record {
     free_now : IsFree calls next (remove pending at) one.index
     free_now =
         subst (λ (o : Option PendingAccess). AllByRecursion (λ (other : PendingAccess). other.index < one.index →
-            IfSome o (λ later. gives_way later other ≡ false)) (remove pending at)) (sym there_still)
+        IfSome o (λ later. gives_way later other ≡ false)) (remove pending at)) (sym there_still)
         (smaller_before (λ (other : PendingAccess). other.index)
-            (λ (other : PendingAccess). gives_way one other ≡ false) pending at one has.ascending touches.there
-            touches.first)
+        (λ (other : PendingAccess). gives_way one other ≡ false) pending at one has.ascending touches.there
+        touches.first)
 
     keeps : (x : ℕ) → x < length log → IsFreeOf calls log x one → KeepsWay calls next x one.index
     keeps x less k earlier =
         subst (λ (o : Option PendingAccess). IfSome (issued_at calls next x)
-            (λ later. IfSome o (λ other. gives_way later other ≡ false))) (sym there_still)
+        (λ later. IfSome o (λ other. gives_way later other ≡ false))) (sym there_still)
         (subst (λ (o : Option PendingAccess). IfSome o (λ later. gives_way later one ≡ false))
-            (sym (issued_front calls log items x less)) (k earlier))
+        (sym (issued_front calls log items x less)) (k earlier))
 
     settled_by : (other : PendingAccess) → (other.index ≡ one.index → ⊥) → IsSettled memory calls log pending other →
         IsSettled memory calls next (remove pending at) other
     settled_by other apart (inl whole) = inl (unchanged other.index apart ∙ whole)
     settled_by other apart (inr none) =
-        inr (unchanged other.index apart ∙ none.0, among_rest other one pending at none.1 touches.there
-            (λ e. apart (sym (ap (λ (i : PendingAccess). i.index) e))))
+        inr (
+          unchanged other.index apart ∙ none.0,
+          among_rest other one pending at none.1 touches.there
+              (λ e. apart (sym (ap (λ (i : PendingAccess). i.index) e))),
+        )
 
     settled : (index : ℕ) (other : PendingAccess) → issued_at calls log index ≡ Some other →
         IsSettled memory calls next (remove pending at) other
@@ -273,7 +287,7 @@ touches_more memory calls log pending at one items has touches = record {
         elim (eqb_tells index one.index) [
           | inl same ↦
               let there : issued_at calls log one.index ≡ Some other = subst
-                  (λ n. issued_at calls log n ≡ Some other) same.1 e in
+              (λ n. issued_at calls log n ≡ Some other) same.1 e in
               let is : one ≡ other = let back : Some one ≡ Some other = sym here.0 ∙ there in cc back in
               inl (subst (λ (i : PendingAccess). touched_by i.index next ≡ elements_of memory calls i) is now_whole)
           | inr apart ↦ settled_by other (λ k. apart.1 (sym its ∙ k)) (has.each index other e)

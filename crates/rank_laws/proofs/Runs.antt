@@ -50,8 +50,10 @@ each_number P count h = each_from 0 count (λ n low high. h n (omega arith))
     each_from : (first many : ℕ) → ((n : ℕ) → first ≤ n → n < first + many → P n) →
         AllByRecursion P (numbers_from first many)
     each_from first zero k = tt
-    each_from first (suc many) k = (k first (omega arith) (omega arith),
-        each_from (first + 1) many (λ n low high. k n (omega arith) (omega arith)))
+    each_from first (suc many) k = (
+      k first (omega arith) (omega arith),
+      each_from (first + 1) many (λ n low high. k n (omega arith) (omega arith)),
+    )
 
 pub each_image : {X : Type 0} (P : X → Type 0) (f : ℕ → X) (numbers : List ℕ) →
     AllByRecursion (λ n. P (f n)) numbers → AllByRecursion P (map f numbers)

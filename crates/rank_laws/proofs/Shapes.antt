@@ -21,7 +21,7 @@ acts_from before (row ∷ rows) more =
     ap (λ rest. (let act : Act = record { row = row; window = window_of before row } in act) ∷ rest)
     (acts_from (before ++ row ∷ []) rows more
     ∙ ap (λ (b : List Row). acts_after (before ++ row ∷ []) rows ++ acts_after b more)
-        (append_assoc before (row ∷ []) rows))
+    (append_assoc before (row ∷ []) rows))
 
 -- the entries that follow change nothing of those before
 pub acts_joined : (rows more : List Row) → acts (rows ++ more) ≡ acts rows ++ acts_after rows more
@@ -32,7 +32,7 @@ found_still : {X : Type 0} (test : X → Bool) (xs ys : List X) (x : X) → find
 found_still test [] ys x e = absurd (cc e)
 found_still {X} test (y ∷ xs) ys x e =
     elim (test y) as (λ b. cond b (Some y) (find test xs) ≡ Some x →
-        cond b (Some y) (find test (xs ++ ys)) ≡ Some x) [ true ↦ λ k. k | false ↦ λ k. found_still test xs ys x k ] e
+    cond b (Some y) (find test (xs ++ ys)) ≡ Some x) [ true ↦ λ k. k | false ↦ λ k. found_still test xs ys x k ] e
 
 -- ---- windows that are begun
 
@@ -64,9 +64,9 @@ pub shapes_stay : (stage : Stage) (rows more : List Row) (window : ℕ) →
     shapes_in stage (rows ++ more) window ≡ shapes_in stage rows window
 shapes_stay stage rows more window begun =
     map_agrees (part_in stage.layout (acts (rows ++ more)) window) (part_in stage.layout (acts rows) window)
-        (numbers_from 0 stage.script.ranks)
+    (numbers_from 0 stage.script.ranks)
     (each_number (λ rank. part_in stage.layout (acts (rows ++ more)) window rank ≡ part_in stage.layout
-        (acts rows) window rank) stage.script.ranks
+    (acts rows) window rank) stage.script.ranks
     (λ rank inside. part_stays stage rows more rank window (begun rank inside)))
 
 -- ---- arrivals
@@ -111,19 +111,19 @@ arrival_begins rank window act =
 
 some_found : (rank window : ℕ) (entries : List Act) →
     1 ≤ length (map (λ (act : Act). act.row.call) (filter (λ (act : Act).
-        is_by_on rank window act && is_arrive act.row.step && is_collective Creation act.row.call) entries)) →
+    is_by_on rank window act && is_arrive act.row.step && is_collective Creation act.row.call) entries)) →
     (act : Act) × (find (is_begun_by rank window) entries ≡ Some act)
 some_found rank window [] h = absurd (omega arith)
 some_found rank window (act ∷ entries) h =
     elim (is_begun_by rank window act) as (λ b. is_begun_by rank window act ≡ b →
-        (found : Act) × (cond b (Some act) (find (is_begun_by rank window) entries) ≡ Some found)) [
+    (found : Act) × (cond b (Some act) (find (is_begun_by rank window) entries) ≡ Some found)) [
       | true ↦ λ e. (act, refl)
       | false ↦ λ e. some_found rank window entries
           (subst (λ b. 1 ≤ length (map (λ (a : Act). a.row.call)
-              (cond b (act ∷ filter (λ (a : Act). is_by_on rank window a && is_arrive a.row.step && is_collective
-              Creation a.row.call) entries)
+          (cond b (act ∷ filter (λ (a : Act). is_by_on rank window a && is_arrive a.row.step && is_collective
+          Creation a.row.call) entries)
           (filter (λ (a : Act). is_by_on rank window a && is_arrive a.row.step && is_collective Creation a.row.call)
-              entries)))) (arrival_begins rank window act ∙ e) h)
+          entries)))) (arrival_begins rank window act ∙ e) h)
     ] refl
 
 -- a rank that has an arrival at the creation of a window has begun it

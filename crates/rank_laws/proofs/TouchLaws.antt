@@ -86,14 +86,14 @@ pub lawful_touches : (stage : Stage) (seed rank : ℕ) (puts : List Put) (agent 
     HasLawfulTouches (rank_of stage rank rows) agent.log
 lawful_touches stage seed rank puts agent rows lived mine = subst
     (λ r. HasLawfulTouches (rank_of stage r rows) agent.log) mine (record {
-  touches = all_whole here agent.log agent.pending lived.nothing_pending direct.touches.has;
-  issues = numbers_each (HasItsIssue here agent.log) (λ index. its_issue here agent.log direct.after index
-      (slice_get agent.log index) refl) 0 (length agent.log);
-  local_direct = each_issued (calls_here here) (IsLocalDirect here agent.log) agent.log
-      (λ index one e is. direct.direct index one e (local_at_once stage.delay one.access is));
-  order = direct.touches.has.order;
-  awaited = numbers_each (IsAwaitedWhole here agent.log) (awaited.awaited rows) 0 (length agent.log);
-})
+      touches = all_whole here agent.log agent.pending lived.nothing_pending direct.touches.has;
+      issues = numbers_each (HasItsIssue here agent.log) (λ index. its_issue here agent.log direct.after index
+          (slice_get agent.log index) refl) 0 (length agent.log);
+      local_direct = each_issued (calls_here here) (IsLocalDirect here agent.log) agent.log
+          (λ index one e is. direct.direct index one e (local_at_once stage.delay one.access is));
+      order = direct.touches.has.order;
+      awaited = numbers_each (IsAwaitedWhole here agent.log) (awaited.awaited rows) 0 (length agent.log);
+    })
   where
     here : RankOfRun
     here = rank_of stage agent.rank rows

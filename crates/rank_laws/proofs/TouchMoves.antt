@@ -45,8 +45,12 @@ pub plain_more : (stage : Stage) (calls : List Call) (log : List Item) (pending 
     HasTouches stage.layout calls log pending → HasTouches stage.layout calls (log ++ item ∷ []) pending
 plain_more stage calls log pending item plain none has =
     subst (HasTouches stage.layout calls (log ++ item ∷ [])) (append-nil pending)
-    (item_more stage.layout calls log pending [] item has (record { plain = plain; its = tt;
-        all = λ one e. absurd (cc (sym none ∙ e)); single = tt }))
+    (item_more stage.layout calls log pending [] item has (record {
+      plain = plain;
+      its = tt;
+      all = λ one e. absurd (cc (sym none ∙ e));
+      single = tt;
+    }))
 
 pub plain_by_course : (calls : List Call) (index : ℕ) (course : Course) (number : ℕ) (item : Item) →
     IsPlainItem course number item → (is_touch item ≡ false) × (issued_by calls index item ≡ None)
@@ -70,22 +74,22 @@ pub made_is : (stage : Stage) (agent : Agent) (call : Call) (t : Transfer) (acce
     issued_by (calls_at stage agent.rank) (length agent.log) (Issue agent.at access) ≡ Some (made_by agent access t)
 made_is stage agent call t access issuing =
     ap (λ (o : Option Transfer). option_map_or (λ (u : Transfer). Some (made_by agent access u)) o None)
-        (its_transfer stage agent call t issuing.here issuing.moves)
+    (its_transfer stage agent call t issuing.here issuing.moves)
 
 pub made_elements : (stage : Stage) (agent : Agent) (call : Call) (t : Transfer) (access : Access) →
     Issuing stage agent call t access →
     elements_of stage.layout (calls_at stage agent.rank) (made_by agent access t) ≡ elements_from 0
-        (pieces stage.layout access t.dtype)
+    (pieces stage.layout access t.dtype)
 made_elements stage agent call t access issuing =
     ap (λ (o : Option Transfer). elements_from 0 (option_map_or
-        (λ (u : Transfer). pieces stage.layout access u.dtype) o []))
-        (its_transfer stage agent call t issuing.here issuing.moves)
+    (λ (u : Transfer). pieces stage.layout access u.dtype) o []))
+    (its_transfer stage agent call t issuing.here issuing.moves)
 
 -- what an Issue makes pending
 makes_by : (stage : Stage) (agent : Agent) (call : Call) (t : Transfer) (access : Access) →
     Issuing stage agent call t access → (b : Bool) → nat_lt 0 access.len ≡ b →
     MakesPending stage.layout (calls_at stage agent.rank) (length agent.log) (Issue agent.at access)
-        (cond b (made_by agent access t ∷ []) [])
+    (cond b (made_by agent access t ∷ []) [])
 makes_by stage agent call t access issuing true e = record {
   plain = refl;
   its = (made_is stage agent call t access issuing, tt);
@@ -98,11 +102,11 @@ makes_by stage agent call t access issuing false e = record {
   its = tt;
   all = λ one some.
       let same : made_by agent access t ≡ one = let both = sym (made_is stage agent call t access issuing)
-          ∙ some in cc both in
+      ∙ some in cc both in
       let low = ltb-false 0 access.len e in
       inl (subst (λ (i : PendingAccess). elements_of stage.layout (calls_at stage agent.rank) i ≡ []) same
       (made_elements stage agent call t access issuing ∙ ap (elements_from 0)
-          (no_pieces stage access t (omega arith))));
+      (no_pieces stage access t (omega arith))));
   single = tt;
 }
 
@@ -124,13 +128,13 @@ once_is_first : (stage : Stage) (agent : Agent) (access : Access) (t : Transfer)
     AllByRecursion (λ (other : PendingAccess). gives_way (made_by agent access t) other ≡ false) agent.pending
 once_is_first stage agent access t keeps NoDelay e once =
     subst (AllByRecursion (λ (other : PendingAccess). gives_way (made_by agent access t) other ≡ false))
-        (sym (keeps.undelayed e)) tt
+    (sym (keeps.undelayed e)) tt
 once_is_first stage agent access t keeps EndDelay e once =
     each_of (λ (other : PendingAccess). gives_way (made_by agent access t) other ≡ false)
-        (λ other. local_gives_no_way (made_by agent access t) other once) agent.pending
+    (λ other. local_gives_no_way (made_by agent access t) other once) agent.pending
 once_is_first stage agent access t keeps SeededDelay e once =
     each_of (λ (other : PendingAccess). gives_way (made_by agent access t) other ≡ false)
-        (λ other. local_gives_no_way (made_by agent access t) other once) agent.pending
+    (λ other. local_gives_no_way (made_by agent access t) other once) agent.pending
 
 take_front : {X : Type 0} (xs ys : List X) → take (length xs) (xs ++ ys) ≡ xs
 take_front [] ys = refl
@@ -140,15 +144,15 @@ take_front (x ∷ xs) ys = ap (λ zs. x ∷ zs) (take_front xs ys)
 whole_more : (stage : Stage) (agent : Agent) (call : Call) (t : Transfer) (access : Access) (items : List Item)
     (lows after : Lows) → Issuing stage agent call t access →
     is_at_once stage.delay access ≡ true → AreTouches t (length agent.log) 0
-        (pieces stage.layout access t.dtype) lows items after → KeepsTouches stage agent →
+    (pieces stage.layout access t.dtype) lows items after → KeepsTouches stage agent →
     (b : Bool) → nat_lt 0 access.len ≡ b →
     HasTouches stage.layout (calls_at stage agent.rank) ((agent.log ++ Issue agent.at access ∷ [])
-        ++ items) agent.pending
+    ++ items) agent.pending
 whole_more stage agent call t access items lows after issuing once touches keeps true e =
     let calls = calls_at stage agent.rank in
     let one = made_by agent access t in
     let issued = item_more stage.layout calls agent.log agent.pending (one ∷ []) (Issue agent.at access) keeps.has
-        (makes_by stage agent call t access issuing true e) in
+    (makes_by stage agent call t access issuing true e) in
     let all : Touches stage.layout calls (agent.pending ++ one ∷ []) (length agent.pending) one items = record {
       there = get_last agent.pending one;
       own = touches_own t (length agent.log) 0 _ lows items after touches;
@@ -159,23 +163,23 @@ whole_more stage agent call t access items lows after issuing once touches keeps
           once);
     } in
     subst (HasTouches stage.layout calls ((agent.log ++ Issue agent.at access ∷ []) ++ items))
-        (remove_last agent.pending one)
+    (remove_last agent.pending one)
     (touches_more stage.layout calls (agent.log ++ Issue agent.at access ∷ []) (agent.pending ++ one ∷ [])
-        (length agent.pending) one items issued all)
+    (length agent.pending) one items issued all)
 whole_more stage agent call t access items lows after issuing once touches keeps false e =
     let calls = calls_at stage agent.rank in
     let low = ltb-false 0 access.len e in
     let none : AreTouches t (length agent.log) 0 [] lows items after = subst
-        (λ places. AreTouches t (length agent.log) 0 places lows items after)
-        (no_pieces stage access t (omega arith)) touches in
+    (λ places. AreTouches t (length agent.log) 0 places lows items after)
+    (no_pieces stage access t (omega arith)) touches in
     let issued = item_more stage.layout calls agent.log agent.pending [] (Issue agent.at access) keeps.has
-        (makes_by stage agent call t access issuing false e) in
+    (makes_by stage agent call t access issuing false e) in
     subst (λ (more : List Item). HasTouches stage.layout calls
-        ((agent.log ++ Issue agent.at access ∷ []) ++ more) agent.pending) (sym none.0)
+    ((agent.log ++ Issue agent.at access ∷ []) ++ more) agent.pending) (sym none.0)
     (subst (λ (log : List Item). HasTouches stage.layout calls log agent.pending)
-        (sym (append-nil (agent.log ++ Issue agent.at access ∷ [])))
+    (sym (append-nil (agent.log ++ Issue agent.at access ∷ [])))
     (subst (HasTouches stage.layout calls (agent.log ++ Issue agent.at access ∷ []))
-        (append-nil agent.pending) issued))
+    (append-nil agent.pending) issued))
 
 -- ---- deliveries
 
@@ -186,20 +190,22 @@ gives_way_to_none : (pending : List PendingAccess) (at : ℕ) (one : PendingAcce
 gives_way_to_none pending at one there free =
     none_passes (gives_way one) (take at pending)
     (ap (λ (o : Option PendingAccess). option_map_or (λ (x : PendingAccess). position (gives_way x)
-        (take at pending)) o None) (sym there) ∙ free)
+    (take at pending)) o None) (sym there) ∙ free)
 
 -- ---- moves
 
 entered_touches : (stage : Stage) (p : Point) (call : Call) (step : _) (after : Agent → Agent) (next : Agent) →
     Entering stage p.agent call step after →
     next.rank ≡ p.agent.rank → next.pending ≡ p.agent.pending →
-        HasTouches stage.layout (calls_at stage next.rank) next.log next.pending →
-        (stage.delay ≡ NoDelay → next.pending ≡ []) → KeepsTouches stage (after next)
+    HasTouches stage.layout (calls_at stage next.rank) next.log next.pending →
+    (stage.delay ≡ NoDelay → next.pending ≡ []) → KeepsTouches stage (after next)
 entered_touches stage p call _ _ next (OnlyEntry begins course) r e has none = record { has = has; undelayed = none }
 entered_touches stage p call _ _ next (LookUp begins course) r e has none = record { has = has; undelayed = none }
 entered_touches stage p call _ _ next (Arriving begins course) r e has none = record { has = has; undelayed = none }
-entered_touches stage p call _ _ next (Leaving here inside moves) r e has none = record { has = has;
-    undelayed = none }
+entered_touches stage p call _ _ next (Leaving here inside moves) r e has none = record {
+  has = has;
+  undelayed = none;
+}
 
 late_is_delayed : (d : Delay) (access : Access) → is_at_once d access ≡ false → d ≡ NoDelay → ⊥
 late_is_delayed NoDelay access e same = cc e
@@ -209,8 +215,11 @@ late_is_delayed SeededDelay access e same = cc same
 pub touches_kept : (stage : Stage) → Keeps stage (λ p. KeepsTouches stage p.agent)
 touches_kept stage p _ h (Learns more others) = h
 touches_kept stage p _ h (Rises after rise) = h
-touches_kept stage p _ h (Ends past empty going) = record { has = plain_more stage _ p.agent.log p.agent.pending _
-    refl refl h.has; undelayed = h.undelayed }
+touches_kept stage p _ h (Ends past empty going) = record {
+  has = plain_more stage _ p.agent.log p.agent.pending _
+      refl refl h.has;
+  undelayed = h.undelayed;
+}
 touches_kept stage p _ h (RefusesAlone call class here new refuses) = record
     { has = plain_more stage _ p.agent.log p.agent.pending _ refl refl h.has; undelayed = h.undelayed }
 touches_kept stage p _ h (IsRefused call class begins has answer) = record
@@ -222,7 +231,7 @@ touches_kept stage p _ h (Passes call item begins plain) =
     record { has = plain_more stage _ p.agent.log p.agent.pending item is.0 is.1 h.has; undelayed = h.undelayed }
 touches_kept stage p _ h (Enters call step after entering answer) =
     entered_touches stage p call step after _ entering refl refl
-        (plain_more stage _ p.agent.log p.agent.pending _ refl refl h.has) h.undelayed
+    (plain_more stage _ p.agent.log p.agent.pending _ refl refl h.has) h.undelayed
 touches_kept stage p _ h (Issues call t access issuing later) = record {
   has = item_more stage.layout (calls_at stage p.agent.rank) p.agent.log p.agent.pending _
       (Issue p.agent.at access) h.has
@@ -237,11 +246,11 @@ touches_kept stage p _ h (Draws state new) = record { has = h.has; undelayed = h
 touches_kept stage p _ h (Delivers at one items after there due touches) = record {
   has = touches_more stage.layout (calls_at stage p.agent.rank) p.agent.log p.agent.pending at one items h.has
       (record {
-    there = there;
-    own = touches_of_own stage one _ p.lows items after touches;
-    whole = touches_whole stage (calls_at stage p.agent.rank) one p.lows items after touches;
-    first = gives_way_to_none p.agent.pending at one there due.free;
-  });
+        there = there;
+        own = touches_of_own stage one _ p.lows items after touches;
+        whole = touches_whole stage (calls_at stage p.agent.rank) one p.lows items after touches;
+        first = gives_way_to_none p.agent.pending at one there due.free;
+      });
   undelayed = λ e. absurd (cc (sym (ap (λ (pending : List PendingAccess). slice_get pending at) (h.undelayed e))
       ∙ there));
 }

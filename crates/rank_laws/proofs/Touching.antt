@@ -33,8 +33,10 @@ pub touches_own : (t : Transfer) (issue element : ℕ) (places : List Piece) (lo
     AllByRecursion (IsTouchOf issue) items
 touches_own t issue element [] lows items after h = subst (AllByRecursion (IsTouchOf issue)) (sym h.0) tt
 touches_own t issue element (piece ∷ rest) lows items after h =
-    subst (AllByRecursion (IsTouchOf issue)) (sym h.4) (refl,
-        touches_own t issue (element + 1) rest h.3 h.2 after h.8)
+    subst (AllByRecursion (IsTouchOf issue)) (sym h.4) (
+      refl,
+      touches_own t issue (element + 1) rest h.3 h.2 after h.8,
+    )
 
 pub touches_of_own : (stage : Stage) (one : PendingAccess) (o : Option Transfer) (lows : Lows) (items : List Item)
     (after : Lows) → AreTouchesOf stage one o lows items after →
@@ -61,11 +63,11 @@ touches_elements t issue element (piece ∷ rest) lows items after h =
 pub touches_whole : (stage : Stage) (calls : List Call) (one : PendingAccess) (lows : Lows) (items : List Item)
     (after : Lows) →
     AreTouchesOf stage one (transfer_at calls one.number) lows items after →
-        touched_by one.index items ≡ elements_from 0 (pieces_of stage.layout calls one)
+    touched_by one.index items ≡ elements_from 0 (pieces_of stage.layout calls one)
 touches_whole stage calls one lows items after h =
     elim (transfer_at calls one.number) as (λ (o : Option Transfer). AreTouchesOf stage one o lows items after →
-        touched_by one.index items ≡ elements_from 0 (option_map_or
-            (λ (t : Transfer). pieces stage.layout one.access t.dtype) o [])) [
+    touched_by one.index items ≡ elements_from 0 (option_map_or
+    (λ (t : Transfer). pieces stage.layout one.access t.dtype) o [])) [
       | None ↦ λ k. ap (touched_by one.index) k.0
       | Some t ↦ λ k. touches_elements t one.index 0 _ lows items after k
     ] h
@@ -128,7 +130,7 @@ pub touched_plain : (index : ℕ) (log : List Item) (item : Item) → is_touch i
     touched_by index (log ++ item ∷ []) ≡ touched_by index log
 touched_plain index log item e =
     touched_joined index log (item ∷ []) ∙ ap (λ more. touched_by index log ++ (more ++ []))
-        (plain_touches_nothing index item e) ∙ append-nil (touched_by index log)
+    (plain_touches_nothing index item e) ∙ append-nil (touched_by index log)
 
 pub issues_joined : (xs ys : List Item) → issues_touched (xs ++ ys) ≡ issues_touched xs ++ issues_touched ys
 issues_joined xs ys = flat_map-append issue_of xs ys
@@ -137,7 +139,7 @@ pub issues_plain : (log : List Item) (item : Item) → is_touch item ≡ false �
     issues_touched (log ++ item ∷ []) ≡ issues_touched log
 issues_plain log item e =
     issues_joined log (item ∷ []) ∙ ap (λ more. issues_touched log ++ (more ++ [])) (plain_names_nothing item e)
-        ∙ append-nil (issues_touched log)
+    ∙ append-nil (issues_touched log)
 
 -- the Issues of touches of one Issue
 pub issues_of_touches : (issue : ℕ) (items : List Item) → AllByRecursion (IsTouchOf issue) items →
@@ -190,11 +192,19 @@ pub made_at : (calls : List Call) (index : ℕ) (item : Item) (one : PendingAcce
     issued_by calls index item ≡ Some one → one.index ≡ index
 made_at calls index (Issue number access) one e =
     elim (transfer_at calls number) as (λ (o : Option Transfer).
-        option_map_or (λ (t : Transfer). Some (record { index = index; number = number; access = access;
-            fetches = t.fetches })) o None ≡ Some one → one.index ≡ index) [
+    option_map_or (λ (t : Transfer). Some (record {
+      index = index;
+      number = number;
+      access = access;
+      fetches = t.fetches;
+    })) o None ≡ Some one → one.index ≡ index) [
       | None ↦ λ none. absurd (cc none)
-      | Some t ↦ λ some. let same : (let made : PendingAccess = record { index = index; number = number;
-          access = access; fetches = t.fetches } in made) ≡ one = cc some in sym
+      | Some t ↦ λ some. let same : (let made : PendingAccess = record {
+        index = index;
+        number = number;
+        access = access;
+        fetches = t.fetches;
+      } in made) ≡ one = cc some in sym
           (ap (λ (i : PendingAccess). i.index) same)
     ] e
 made_at calls index (Touch of element cell place bits) one e = absurd (cc e)
@@ -211,7 +221,7 @@ pub issued_inside : (calls : List Call) (log : List Item) (index : ℕ) (one : P
     issued_at calls log index ≡ Some one → (index < length log) × (one.index ≡ index)
 issued_inside calls log index one e =
     elim (slice_get log index) as (λ (o : Option Item). slice_get log index ≡ o →
-        option_map_or (issued_by calls index) o None ≡ Some one → (index < length log) × (one.index ≡ index)) [
+    option_map_or (issued_by calls index) o None ≡ Some one → (index < length log) × (one.index ≡ index)) [
       | None ↦ λ g none. absurd (cc none)
       | Some item ↦ λ g some. (slice_get_within log index item g, made_at calls index item one some)
     ] refl e
@@ -235,15 +245,15 @@ issued_before_touches calls log items issue index one own e = elim (place_in ind
   | inl less ↦ sym (issued_front calls log items index less) ∙ e
   | inr past ↦
       let there : option_map_or (issued_by calls index) (slice_get items past.0) None ≡ Some one = ap
-          (λ (o : Option Item). option_map_or (issued_by calls index) o None)
-          (sym (get_rest log items index past.0 past.1)) ∙ e in
+      (λ (o : Option Item). option_map_or (issued_by calls index) o None)
+      (sym (get_rest log items index past.0 past.1)) ∙ e in
       absurd (no_touch past.0 there)
 ]
   where
     no_touch : (at : ℕ) → option_map_or (issued_by calls index) (slice_get items at) None ≡ Some one → ⊥
     no_touch at h =
         elim (slice_get items at) as (λ (o : Option Item). slice_get items at ≡ o →
-            option_map_or (issued_by calls index) o None ≡ Some one → ⊥) [
+        option_map_or (issued_by calls index) o None ≡ Some one → ⊥) [
           | None ↦ λ g none. cc none
           | Some item ↦ λ g some. cc (sym (touch_issues_nothing calls index issue item
               (each_at (IsTouchOf issue) items at item own g)) ∙ some)
@@ -262,7 +272,7 @@ issued_push calls log item index one e = elim (place_in index (length log)) [
     at_end : (at : ℕ) → index ≡ length log + at → option_map_or (issued_by calls index)
         (slice_get (item ∷ []) at) None ≡ Some one →
         (issued_at calls log index ≡ Some one) ⊎ ((index ≡ length log) ×
-            (issued_by calls (length log) item ≡ Some one))
+        (issued_by calls (length log) item ≡ Some one))
     at_end zero is h = let same : index ≡ length log = omega arith in inr
         (same, subst (λ n. issued_by calls n item ≡ Some one) same h)
     at_end (suc at) is h = absurd (cc h)
@@ -280,11 +290,11 @@ each_issued calls P log h = each_from 0 log (λ at one e. h at one
     each_from index [] k = tt
     each_from index (item ∷ items) k =
         each_append P (option_map_or (λ (one : PendingAccess). one ∷ []) (issued_by calls index item) [])
-            (issued_from calls (index + 1) items)
+        (issued_from calls (index + 1) items)
         (elim (issued_by calls index item) as (λ (o : Option PendingAccess). issued_by calls index item ≡ o →
-            AllByRecursion P (option_map_or (λ (one : PendingAccess). one ∷ []) o [])) [
+        AllByRecursion P (option_map_or (λ (one : PendingAccess). one ∷ []) o [])) [
           | None ↦ λ e. tt
           | Some one ↦ λ e. (k 0 one (subst (λ n. issued_by calls n item ≡ Some one) (omega arith) e), tt)
         ] refl)
         (each_from (index + 1) items (λ at one e. k (suc at) one
-            (subst (λ n. option_map_or (issued_by calls n) (slice_get items at) None ≡ Some one) (omega arith) e)))
+        (subst (λ n. option_map_or (issued_by calls n) (slice_get items at) None ≡ Some one) (omega arith) e)))

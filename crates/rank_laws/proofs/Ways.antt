@@ -12,7 +12,7 @@ pub position_within : {X : Type 0} (test : X → Bool) (xs : List X) (at : ℕ) 
     at < length xs
 position_within test xs at e =
     elim (nat_lt (position_or_len test xs) (length xs)) as (λ b. nat_lt (position_or_len test xs) (length xs) ≡ b →
-        cond b (Some (position_or_len test xs)) None ≡ Some at → at < length xs) [
+    cond b (Some (position_or_len test xs)) None ≡ Some at → at < length xs) [
       | true ↦ λ t some. let less = ltb-true (position_or_len test xs)
           (length xs) t in let same : position_or_len test xs ≡ at = cc some in omega arith
       | false ↦ λ t none. absurd (cc none)
@@ -28,7 +28,7 @@ pub leads_back : (pending : List PendingAccess) (at earlier : ℕ) → first_in_
     earlier < at
 leads_back pending at earlier e =
     elim (slice_get pending at) as (λ (o : Option PendingAccess). option_map_or
-        (λ (one : PendingAccess). position (gives_way one) (take at pending)) o None ≡ Some earlier → earlier < at) [
+    (λ (one : PendingAccess). position (gives_way one) (take at pending)) o None ≡ Some earlier → earlier < at) [
       | None ↦ λ none. absurd (cc none)
       | Some one ↦ λ some.
           let inside = position_within (gives_way one) (take at pending) earlier some in
@@ -40,13 +40,13 @@ way_ends : (steps : ℕ) (pending : List PendingAccess) (at : ℕ) → at ≤ st
     first_in_way pending (way_in steps pending at) ≡ None
 way_ends zero pending at h =
     elim (first_in_way pending at) as (λ (o : Option ℕ). first_in_way pending at ≡ o →
-        first_in_way pending at ≡ None) [
+    first_in_way pending at ≡ None) [
       | None ↦ λ e. e
       | Some earlier ↦ λ e. let less = leads_back pending at earlier e in absurd (omega arith)
     ] refl
 way_ends (suc steps) pending at h =
     elim (first_in_way pending at) as (λ (o : Option ℕ). first_in_way pending at ≡ o →
-        first_in_way pending (option_map_or (way_in steps pending) o at) ≡ None) [
+    first_in_way pending (option_map_or (way_in steps pending) o at) ≡ None) [
       | None ↦ λ e. e
       | Some earlier ↦ λ e. let less = leads_back pending at earlier e in way_ends steps pending earlier (omega arith)
     ] refl

@@ -22,7 +22,7 @@ use Rattle.rank_laws.specs.Assembled.{IsAssembled}
 abbrev pub AssembledRunsAreLawful : Type 0
 AssembledRunsAreLawful =
     (script : Script) (delay : Delay) (seed : ℕ) (run : Run) → IsAssembled script delay seed run →
-        IsLawful script delay run
+    IsLawful script delay run
 
 -- ---- by parts
 
@@ -49,20 +49,20 @@ UndelayedRunsTouchDirectly = (script : Script) (seed : ℕ) (run : Run) → IsAs
 abbrev pub AssembledRunsHaveLawfulCells : Type 0
 AssembledRunsHaveLawfulCells =
     (script : Script) (delay : Delay) (seed : ℕ) (run : Run) → IsAssembled script delay seed run →
-        HasLawfulCells script run
+    HasLawfulCells script run
 
 -- the entries of all logs are allowed in the order of their places, and each look saw what it says
 abbrev pub AssembledRunsHaveLawfulBoards : Type 0
 AssembledRunsHaveLawfulBoards =
     (script : Script) (delay : Delay) (seed : ℕ) (run : Run) → IsAssembled script delay seed run →
-        HasLawfulBoard script run
+    HasLawfulBoard script run
 
 -- in each log each look-up is directly followed by the Issue of its call
 abbrev pub AssembledRunsFollowLookUps : Type 0
 AssembledRunsFollowLookUps = (script : Script) (delay : Delay) (seed : ℕ) (run : Run) →
     IsAssembled script delay seed run → (rank : ℕ) → rank < script.ranks →
     AllByRecursion (IsLookUpFollowed (rank_in script delay run rank) (log_of run rank))
-        (numbers_from 0 (length (log_of run rank)))
+    (numbers_from 0 (length (log_of run rank)))
 
 -- the run has ended exactly where each log ends with Ended
 abbrev pub AssembledRunsEndAlike : Type 0

@@ -28,7 +28,7 @@ pub data Lives (stage : Stage) (seed : ℕ) (rank : ℕ) : Agent → List Put �
       Lives stage seed rank agent known lows →
       AreOthers rank others → LooksAfter stage agent (known ++ others) lows puts after →
       Lives stage seed rank (board_step stage agent (rows_put (known ++ others))).agent
-          ((known ++ others) ++ puts) after
+      ((known ++ others) ++ puts) after
   -- a step without the board
   Steps : (agent next : Agent) (known : List Put) (lows after : Lows) → Lives stage seed rank agent known lows →
       tries_entry stage agent ≡ false → IsMade stage (move_of stage agent) lows next after →

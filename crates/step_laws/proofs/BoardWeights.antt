@@ -85,7 +85,7 @@ test_falls (Refuse class) stage agent rows call here =
     inr (kept_finished (shapes_in stage rows) stage agent call (Refused agent.at class (length rows)) here)
 test_falls Allow stage agent rows call here =
     inr (kept_finished (shapes_in stage (rows ++ next_row agent call One ∷ [])) stage agent call
-        (Entry agent.at (length rows) One) here)
+    (Entry agent.at (length rows) One) here)
 test_falls NotYet stage agent rows call here = inr
     (kept_finished (shapes_in stage rows) stage agent call (Tested agent.at (length rows)) here)
 
@@ -113,8 +113,8 @@ entry_falls stage agent rows call here = by_entered agent.entered refl
   where
     by_entered : (b : Bool) → agent.entered ≡ b →
         WaitsOrFalls stage agent rows
-            (cond b (leave stage agent rows call)
-            (first_entry (course_of agent.known.windows call) stage agent rows call))
+        (cond b (leave stage agent rows call)
+        (first_entry (course_of agent.known.windows call) stage agent rows call))
     by_entered true e = leave_falls stage agent rows call here
     by_entered false e = first_falls (course_of agent.known.windows call) stage agent rows call here e
 

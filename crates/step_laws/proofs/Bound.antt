@@ -40,9 +40,9 @@ lengths_are_few [] count = let none = lengths_of_none 0 count in omega arith
 lengths_are_few (list ∷ calls) zero = omega arith
 lengths_are_few (list ∷ calls) (suc count) =
     few (lengths_from (list ∷ calls) (0 + 1) count) (lengths_from calls 0 count) (sum_by length calls) (length list)
-        (sum_by length (list ∷ calls))
+    (sum_by length (list ∷ calls))
     (ap (λ n. lengths_from (list ∷ calls) n count) (zero-add 1) ∙ lengths_shift list calls 0 count)
-        (lengths_are_few calls count) (sum_by-cons length list calls)
+    (lengths_are_few calls count) (sum_by-cons length list calls)
   where
     few : (a b s l t : ℕ) → a ≡ b → b ≤ s → t ≡ l + s → l + a ≤ t
     few a b s l t e f g = omega arith
@@ -50,13 +50,13 @@ lengths_are_few (list ∷ calls) (suc count) =
 -- what is left before the first turn
 left_at_first : (stage : Stage) (seed rank count : ℕ) →
     sum_by (weight_of stage) (map (new_agent stage seed) (numbers_from rank count)) ≡ 64 * lengths_from
-        stage.script.calls rank count + 2 * count
+    stage.script.calls rank count + 2 * count
 unfolding lengths_from
 left_at_first stage seed rank zero = refl
 left_at_first stage seed rank (suc count) =
     let rest = left_at_first stage seed (rank + 1) count in
     let split = sum_by-cons (weight_of stage) (new_agent stage seed rank)
-        (map (new_agent stage seed) (numbers_from (rank + 1) count)) in
+    (map (new_agent stage seed) (numbers_from (rank + 1) count)) in
     omega arith
 
 turns_are_enough : (script : Script) (delay : Delay) (order : Order) (seed : ℕ) → script.ranks ≤ 16 →
@@ -64,10 +64,10 @@ turns_are_enough : (script : Script) (delay : Delay) (order : Order) (seed : ℕ
 turns_are_enough script delay order seed few =
     let stage = stage_of script delay in
     enough (sum_by (weight_of stage) (map (new_agent stage seed) (numbers_from 0 script.ranks)))
-        (awake [] 0 script.ranks)
+    (awake [] 0 script.ranks)
     (lengths_from script.calls 0 script.ranks) (sum_by length script.calls) script.ranks
     (left_at_first stage seed 0 script.ranks) (awake_few [] 0 script.ranks)
-        (lengths_are_few script.calls script.ranks) few
+    (lengths_are_few script.calls script.ranks) few
   where
     enough : (l a n s r : ℕ) → l ≡ 64 * n + 2 * r → a ≤ r → n ≤ s → r ≤ 16 → l + a ≤ 64 * (s + 1)
     enough l a n s r e h k m = omega arith
@@ -77,4 +77,4 @@ pub step_run_ends : RunEnds
 step_run_ends script order delay seed formed =
     run_ends (stage_of script delay) order (most_turns script) (first_world (stage_of script delay) order seed)
     (first_is_regular (stage_of script delay) order seed) formed.few_ranks
-        (turns_are_enough script delay order seed formed.few_ranks)
+    (turns_are_enough script delay order seed formed.few_ranks)

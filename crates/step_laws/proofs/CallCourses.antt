@@ -74,18 +74,18 @@ looks_up_dynamic known t window course live = by_target t.target refl
     by_target Null is = absurd (cc (at_target Null is))
     by_target (Named rank) is = named (is_same_flavor window.flavor Dynamic)
         (subst (λ (o : Option Window). cond (option_map_or (λ (w : Window). is_same_flavor w.flavor Dynamic) o false)
-            LookUpAndIssue OneIssue ≡ LookUpAndIssue) live (at_target (Named rank) is))
+        LookUpAndIssue OneIssue ≡ LookUpAndIssue) live (at_target (Named rank) is))
 
 -- ---- what an entry teaches that ends its call
 
 pub learns_call : (shapes : ℕ → List Part) (calls : List Call) (known : Knowledge) (number place : ℕ) (step : Step)
     (call : Call) →
     slice_get calls number ≡ Some call → ends_call step call ≡ true →
-        learn shapes calls known (Entry number place step) ≡ known_after_call shapes known number call
+    learn shapes calls known (Entry number place step) ≡ known_after_call shapes known number call
 learns_call shapes calls known number place step call here ends =
     ap (λ (o : Option Call). option_map_or
-        (λ n. option_map_or (known_after_call shapes known n) (slice_get calls n) known)
+    (λ n. option_map_or (known_after_call shapes known n) (slice_get calls n) known)
     (option_map_or (λ (c : Call). cond (ends_call step c) (Some number) None) o None) known) here
     ∙ ap (λ b. option_map_or (λ n. option_map_or (known_after_call shapes known n) (slice_get calls n) known)
-        (cond b (Some number) None) known) ends
+    (cond b (Some number) None) known) ends
     ∙ ap (λ (o : Option Call). option_map_or (known_after_call shapes known number) o known) here

@@ -110,11 +110,11 @@ fold_fits : (most : ℕ) (entries : List Act) (ranges : List Range) →
     AllByRecursion (λ (act : Act). HasRoom most (action_of act.row.call)) entries →
     AllByRecursion (EndsBefore most) ranges →
     AllByRecursion (EndsBefore most)
-        (fold (λ ranges (act : Act). ranges_after ranges act.row.step (action_of act.row.call)) ranges entries)
+    (fold (λ ranges (act : Act). ranges_after ranges act.row.step (action_of act.row.call)) ranges entries)
 fold_fits most [] ranges rooms h = h
 fold_fits most (act ∷ entries) ranges rooms h =
     fold_fits most entries (ranges_after ranges act.row.step (action_of act.row.call)) rooms.1
-        (after_fits most ranges act.row.step (action_of act.row.call) h rooms.0)
+    (after_fits most ranges act.row.step (action_of act.row.call) h rooms.0)
 
 -- the ranges that a rank has attached to a window lie in its memory
 pub attached_lie : (script : Script) (entries : List Act) (rank window : ℕ) →
@@ -123,14 +123,14 @@ pub attached_lie : (script : Script) (entries : List Act) (rank window : ℕ) �
 attached_lie script entries rank window sound =
     fold_fits (bytes_at (layout script) rank) (filter (is_by_on rank window) entries) []
     (each_weaker (λ act. IsSoundAct script act × (is_by_on rank window act ≡ true))
-        (λ (act : Act). HasRoom (bytes_at (layout script) rank) (action_of act.row.call)) of_rank
+    (λ (act : Act). HasRoom (bytes_at (layout script) rank) (action_of act.row.call)) of_rank
     (filter (is_by_on rank window) entries) (each_filter (IsSoundAct script) (is_by_on rank window) entries sound)) tt
   where
     of_rank : (act : Act) → (IsSoundAct script act × (is_by_on rank window act ≡ true)) →
         HasRoom (bytes_at (layout script) rank) (action_of act.row.call)
     of_rank act (sound', mine) =
         subst (λ r. HasRoom (bytes_at (layout script) r) (action_of act.row.call))
-            (eqb-true act.row.rank rank (and_parts (act.row.rank == rank) (act.window == window) mine).0) sound'.room
+        (eqb-true act.row.rank rank (and_parts (act.row.rank == rank) (act.window == window) mine).0) sound'.room
 
 -- ---- the parts of windows
 
@@ -158,10 +158,10 @@ pub dynamic_is_plain : (call : Call) (creation : Creation) → creation_of call 
     creation.flavor ≡ Dynamic → IsPlain creation
 dynamic_is_plain (AllocateCall win bytes unit) creation e flavor =
     let is : Allocate ≡ creation.flavor = ap (λ o. option_map_or (λ (c : Creation). c.flavor) o Dynamic) e in absurd
-        (cc (is ∙ flavor))
+    (cc (is ∙ flavor))
 dynamic_is_plain (CreateCall win base bytes unit) creation e flavor =
     let is : Create ≡ creation.flavor = ap (λ o. option_map_or (λ (c : Creation). c.flavor) o Dynamic) e in absurd
-        (cc (is ∙ flavor))
+    (cc (is ∙ flavor))
 dynamic_is_plain (DynamicCall win) creation e flavor = record {
   base = sym (ap (λ o. option_map_or (λ (c : Creation). natural c.base) o 0) e);
   bytes = sym (ap (λ o. option_map_or (λ (c : Creation). natural c.bytes) o 0) e);
@@ -184,13 +184,13 @@ made_fits script formed row sound creation makes = by_flavor creation.flavor ref
         natural creation.bytes ≤ bytes_at (layout script) row.rank
     by_flavor Allocate is =
         allocate_has_memory script row.rank row.number row.call creation
-            (subst (λ n. row.rank < n) (sym formed.spaces) sound.inside)
+        (subst (λ n. row.rank < n) (sym formed.spaces) sound.inside)
         (subst (λ n. row.rank < n) (sym formed.lists) sound.inside) sound.here makes is
     by_flavor Create is = subst (HasRoom (bytes_at (layout script) row.rank)) (creates_it row.call creation makes)
         sound.room is
     by_flavor Dynamic is =
         let plain = dynamic_is_plain row.call creation makes is in none (natural creation.base)
-            (natural creation.bytes) (bytes_at (layout script) row.rank) plain.base plain.bytes
+        (natural creation.bytes) (bytes_at (layout script) row.rank) plain.base plain.bytes
       where
         none : (a b m : ℕ) → a ≡ 0 → b ≡ 0 → a + b ≤ m
         none a b m e h = omega arith
@@ -201,7 +201,7 @@ brought_fits script formed act sound = by_creation (creation_of act.row.call) re
   where
     by_creation : (o : Option Creation) → creation_of act.row.call ≡ o →
         FitsMemory (layout script) act.row.rank
-            (option_map_or (part_made (layout script) act.row.rank act.row.number) o no_part)
+        (option_map_or (part_made (layout script) act.row.rank act.row.number) o no_part)
     by_creation None e = omega arith
     by_creation (Some creation) e = made_fits script formed act.row sound creation e
 
@@ -214,14 +214,14 @@ part_in_fits : (script : Script) → HasLists script → (entries : List Act) (w
     FitsMemory (layout script) rank (part_in (layout script) entries window rank)
 part_in_fits script formed entries window rank sound =
     each_found (IsSoundAct script) (FitsMemory (layout script) rank) (begins_here rank window)
-        (part_brought (layout script)) no_part keeps (omega arith) entries sound
+    (part_brought (layout script)) no_part keeps (omega arith) entries sound
   where
     keeps : (act : Act) → IsSoundAct script act → begins_here rank window act ≡ true →
         FitsMemory (layout script) rank (part_brought (layout script) act)
     keeps act sound' passes =
         let mine = and_parts (is_by_on rank window act) (begins_window act.row) passes in
         subst (λ r. FitsMemory (layout script) r (part_brought (layout script) act))
-            (eqb-true act.row.rank rank (and_parts (act.row.rank == rank) (act.window == window) mine.0).0)
+        (eqb-true act.row.rank rank (and_parts (act.row.rank == rank) (act.window == window) mine.0).0)
         (brought_fits script formed act sound')
 
 -- a property of what a function gives at each rank
@@ -237,9 +237,9 @@ pub parts_fit : (script : Script) → HasLists script → (rows : List Row) → 
     FitsMemory (layout script) rank (part_at (parts_of (layout script) script.ranks (acts rows) window) rank)
 parts_fit script formed rows sound window rank =
     part_at_is (FitsMemory (layout script) rank) (part_in (layout script) (acts rows) window) 0 script.ranks rank
-        (omega arith)
+    (omega arith)
     (λ k e. subst (λ n. FitsMemory (layout script) rank (part_in (layout script) (acts rows) window n)) (same k e)
-        (part_in_fits script formed (acts rows) window rank (acts_sound script rows sound)))
+    (part_in_fits script formed (acts rows) window rank (acts_sound script rows sound)))
   where
     same : (k : ℕ) → k ≡ 0 + rank → rank ≡ k
     same k e = omega arith
@@ -256,13 +256,14 @@ part_by_address : (script : Script) (entries : List Act) (window rank : ℕ) →
     AllByRecursion (MakesWith Dynamic window) entries → IsByAddress (part_in (layout script) entries window rank)
 part_by_address script entries window rank makes =
     each_found (MakesWith Dynamic window) IsByAddress (begins_here rank window) (part_brought (layout script)) no_part
-        keeps (refl, refl) entries makes
+    keeps (refl, refl) entries makes
   where
     of_flavor : (act : Act) (creation : Creation) (f : Flavor) → creation.flavor ≡ f → f ≡ Dynamic →
         IsPlain creation → IsByAddress (part_made (layout script) act.row.rank act.row.number creation)
-    of_flavor act creation f is e plain =
-        (subst (λ g. base_made (layout script) act.row.rank act.row.number creation g ≡ 0) (sym (is ∙ e)) plain.base,
-            plain.unit)
+    of_flavor act creation f is e plain = (
+      subst (λ g. base_made (layout script) act.row.rank act.row.number creation g ≡ 0) (sym (is ∙ e)) plain.base,
+      plain.unit,
+    )
 
     by_creation : (act : Act) (o : Option Creation) → creation_of act.row.call ≡ o →
         ((creation : Creation) → creation_of act.row.call ≡ Some creation → creation.flavor ≡ Dynamic) →

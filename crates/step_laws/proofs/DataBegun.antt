@@ -27,7 +27,7 @@ as_begun : (stage : Stage) (agent next : Agent) → IsAsBegun stage agent next �
 as_begun stage agent next (inl new) begun e call here = absurd (cc (e, new))
 as_begun stage agent next (inr (rank, at, entered, known)) begun e call here =
     let before : next_call stage agent ≡ Some call = subst (λ r. slice_get (calls_at stage r) agent.at ≡ Some call)
-        rank (subst (λ n. slice_get (calls_at stage next.rank) n ≡ Some call) at here) in
+    rank (subst (λ n. slice_get (calls_at stage next.rank) n ≡ Some call) at here) in
     let old = begun (sym entered ∙ e) call before in
     record {
       allowed = ap (λ (k : Knowledge). own_class k call) known ∙ old.allowed;
@@ -44,8 +44,8 @@ issue_is stage agent call = by_transfer (transfer_of call)
 
     by_transfer : (o : Option Transfer) →
         IsAsBegun stage agent
-            (option_map_or (λ t. option_map_or (issue_of stage agent t) (access_of agent.known.windows call)
-            (without_delivery agent)) o (without_delivery agent)).agent
+        (option_map_or (λ t. option_map_or (issue_of stage agent t) (access_of agent.known.windows call)
+        (without_delivery agent)) o (without_delivery agent)).agent
     by_transfer None = inr (refl, refl, refl, refl)
     by_transfer (Some t) = by_access t (access_of agent.known.windows call)
 
@@ -86,7 +86,7 @@ move_is stage agent = by_call (next_call stage agent)
 
     by_pending : (b : Bool) → IsAsBegun stage agent
         (cond b (just_delivers agent 0)
-            (cond agent.ended (without_delivery agent) (without_delivery (ended_now stage agent)))).agent
+        (cond agent.ended (without_delivery agent) (without_delivery (ended_now stage agent)))).agent
     by_pending true = inr (refl, refl, refl, refl)
     by_pending false = by_ended agent.ended
 
@@ -106,12 +106,12 @@ delivered_begun stage agent cells (Some at) begun = by_access (slice_get agent.p
   where
     by_access : (o : Option PendingAccess) → slice_get agent.pending at ≡ o →
         HasBegun stage (option_map_or (with_delivery stage agent cells at) o
-            (record { agent = agent; cells = cells })).agent
+        (record { agent = agent; cells = cells })).agent
     by_access None e = begun
     by_access (Some one) e =
         let is = (with_delivery_is stage agent cells at one).0 in
         as_begun stage agent (with_delivery stage agent cells at one).agent
-            (inr (is.rank, is.at, is.entered, is.known)) begun
+        (inr (is.rank, is.at, is.entered, is.known)) begun
 
 pub data_begun : (stage : Stage) (agent : Agent) (cells : List Cell) → HasBegun stage agent →
     HasBegun stage (data_step stage agent cells).agent

@@ -31,7 +31,7 @@ item_lowers : (stage : Stage) (agent : Agent) (call : Call) (item : Item) → ne
 item_lowers stage agent call item here = inl
     (near (weight_of stage (with_item stage agent item)) (weight_of stage agent)
     (finished_falls stage agent (with_item stage agent item) call here
-        (record { rank = refl; at = refl; entered = refl; drawn = refl; ended = refl }) refl))
+    (record { rank = refl; at = refl; entered = refl; drawn = refl; ended = refl }) refl))
   where
     near : (a b : ℕ) → a + 16 < b → a < b
     near a b h = omega arith
@@ -51,9 +51,9 @@ issue_lowers : (stage : Stage) (agent : Agent) (call : Call) (t : Transfer) (acc
     LowersOrDelivers stage agent (issue_of stage agent t access)
 issue_lowers stage agent call t access here =
     inl (issued_falls stage agent (with_issue stage agent access t) call here
-        (record { rank = refl; at = refl; entered = refl; drawn = refl; ended = refl })
+    (record { rank = refl; at = refl; entered = refl; drawn = refl; ended = refl })
     (one_more (record { index = length agent.log; number = agent.at; access = access; fetches = t.fetches })
-        agent.pending))
+    agent.pending))
 
 -- a call that moves data and is not refused has its Issue
 issues : (stage : Stage) (agent : Agent) (call : Call) (t : Transfer) → next_call stage agent ≡ Some call →
@@ -63,9 +63,9 @@ issues stage agent call t here moves allowed =
     let access = allowed_has_access agent.known call t moves allowed in
     subst (λ (o : Option Transfer). LowersOrDelivers stage agent
     (option_map_or (λ t. option_map_or (issue_of stage agent t) (access_of agent.known.windows call)
-        (without_delivery agent)) o (without_delivery agent))) (sym moves)
+    (without_delivery agent)) o (without_delivery agent))) (sym moves)
     (subst (λ (o : Option Access). LowersOrDelivers stage agent
-        (option_map_or (issue_of stage agent t) o (without_delivery agent))) (sym access.2)
+    (option_map_or (issue_of stage agent t) o (without_delivery agent))) (sym access.2)
     (issue_lowers stage agent call t _ here))
 
 -- ---- a call that begins
@@ -89,11 +89,11 @@ no_entry false true true d f g h e = e
 item_falls : (course : Course) (stage : Stage) (agent : Agent) (call : Call) →
     course_of agent.known.windows call ≡ course → has_entry course ≡ false →
     next_call stage agent ≡ Some call → own_class agent.known call ≡ None →
-        LowersOrDelivers stage agent (first_item course stage agent call)
+    LowersOrDelivers stage agent (first_item course stage agent call)
 item_falls OneNull stage agent call is none here allowed = item_lowers stage agent call (Null agent.at) here
 item_falls OneIssue stage agent call is none here allowed =
     let t = transfer_with_issue agent.known.windows call (subst HasIssue (sym is) tt) in issues stage agent call t.0
-        here t.1 allowed
+    here t.1 allowed
 item_falls LookUpAndIssue stage agent call is none here allowed = absurd (cc none)
 item_falls OneFlush stage agent call is none here allowed = item_lowers stage agent call (Flush agent.at) here
 item_falls OneRequest stage agent call is none here allowed = item_lowers stage agent call (Request agent.at) here
@@ -104,7 +104,7 @@ item_falls OneEntry stage agent call is none here allowed = absurd (cc none)
 waits_or_goes_on : (o : Option ℕ) (stage : Stage) (agent : Agent) (call : Call) → awaited_by agent call ≡ o →
     next_call stage agent ≡ Some call → own_class agent.known call ≡ None →
     (is_none o ≡ true → has_entry (course_of agent.known.windows call) ≡ false) →
-        LowersOrDelivers stage agent (wait_or_go_on o stage agent call)
+    LowersOrDelivers stage agent (wait_or_go_on o stage agent call)
 waits_or_goes_on (Some at) stage agent call is here allowed none = inr
     (refl, at, refl, awaited_within agent.known.requests call agent.pending at is)
 waits_or_goes_on None stage agent call is here allowed none =
@@ -117,7 +117,7 @@ judged (Some class) stage agent call is here still new = item_lowers stage agent
 judged None stage agent call is here still new =
     waits_or_goes_on (awaited_by agent call) stage agent call refl here is
     (λ none. no_entry (must_draw stage agent) (is_none (own_class agent.known call)) (is_none (awaited_by agent call))
-        (has_entry (course_of agent.known.windows call))
+    (has_entry (course_of agent.known.windows call))
     still (ap is_none is) none new)
 
 begins : (stage : Stage) (agent : Agent) (call : Call) → next_call stage agent ≡ Some call →
@@ -147,7 +147,7 @@ inside stage agent call here moves allowed = by_transfer (transfer_of call) refl
 
 goes_on : (stage : Stage) (agent : Agent) (call : Call) → HasBegun stage agent → next_call stage agent ≡ Some call →
     cond agent.entered (is_none (transfer_of call)) (begins_with_entry stage agent call) ≡ false →
-        LowersOrDelivers stage agent (go_on stage agent call)
+    LowersOrDelivers stage agent (go_on stage agent call)
 goes_on stage agent call begun here tries = by_entered agent.entered refl tries
   where
     by_entered : (b : Bool) → agent.entered ≡ b → cond b (is_none (transfer_of call))
@@ -169,7 +169,7 @@ end_lowers : (stage : Stage) (agent : Agent) (b : Bool) → agent.ended ≡ b �
 end_lowers stage agent true e f = absurd (cc f)
 end_lowers stage agent false e f =
     inl (lower (64 * (length (calls_at stage agent.rank) - agent.at) - cond agent.entered 32 0 + length
-        agent.pending + cond agent.drawn 0 1) agent.ended e)
+    agent.pending + cond agent.drawn 0 1) agent.ended e)
   where
     lower : (a : ℕ) (ended : Bool) → ended ≡ false → a + 0 < a + cond ended 0 1
     lower a true e = absurd (cc e)
@@ -180,8 +180,8 @@ ends stage agent going = by_pending (length agent.pending == 0) refl
   where
     by_pending : (b : Bool) → (length agent.pending == 0) ≡ b →
         LowersOrDelivers stage agent
-            (cond (not b) (just_delivers agent 0)
-            (cond agent.ended (without_delivery agent) (without_delivery (ended_now stage agent))))
+        (cond (not b) (just_delivers agent 0)
+        (cond agent.ended (without_delivery agent) (without_delivery (ended_now stage agent))))
     by_pending true e = end_lowers stage agent agent.ended refl going
     by_pending false e = inr (refl, 0, refl, some_pending (length agent.pending) e)
 
@@ -191,7 +191,7 @@ move_lowers stage agent begun going tries = by_call (next_call stage agent) refl
   where
     by_call : (o : Option Call) → next_call stage agent ≡ o →
         option_map_or (λ call. cond agent.entered (is_none (transfer_of call)) (begins_with_entry stage agent call)) o
-            false ≡ false →
+        false ≡ false →
         LowersOrDelivers stage agent (option_map_or (go_on stage agent) o (end stage agent))
     by_call None e t = ends stage agent going
     by_call (Some call) e t = goes_on stage agent call begun e t
@@ -199,7 +199,7 @@ move_lowers stage agent begun going tries = by_call (next_call stage agent) refl
 -- what is done then makes it no more
 deliver_if_no_more : (stage : Stage) (cells : List Cell) (agent : Agent) (o : Option ℕ) →
     weight_of stage (option_map_or (deliver stage agent cells) o (record { agent = agent; cells = cells })).agent ≤
-        weight_of stage agent
+    weight_of stage agent
 deliver_if_no_more stage cells agent None = omega arith
 deliver_if_no_more stage cells agent (Some at) = delivery_no_more stage agent cells at
 
@@ -222,7 +222,7 @@ data_step_falls stage agent cells begun going tries = by_move (move_lowers stage
         (deliver_if_no_more stage cells move.agent move.delivers) falls
     by_move (inr (same, at, is, inside)) =
         subst (λ (o : Option ℕ). weight_of stage
-            (option_map_or (deliver stage move.agent cells) o (record { agent = move.agent; cells = cells })).agent <
-            weight_of stage agent) (sym is)
+        (option_map_or (deliver stage move.agent cells) o (record { agent = move.agent; cells = cells })).agent <
+        weight_of stage agent) (sym is)
         (subst (λ (a : Agent). weight_of stage (deliver stage a cells at).agent < weight_of stage agent) (sym same)
-            (delivery_falls stage agent cells at inside))
+        (delivery_falls stage agent cells at inside))

@@ -32,7 +32,7 @@ pub delivers_all : (stage : Stage) (pending : List PendingAccess) (now : OnMemor
 delivers_all stage [] now is = is
 delivers_all stage (one ∷ rest) now is =
     delivers_all stage rest (deliver stage now.agent now.cells 0)
-        (first_delivered stage now.agent now.cells one rest is)
+    (first_delivered stage now.agent now.cells one rest is)
 
 -- ---- rank by rank
 
@@ -41,9 +41,9 @@ drains_one : (stage : Stage) (world : World) (rank : ℕ) → rank < length worl
 drains_one stage world rank inside =
     let agent = agent_at stage world rank in
     ap (λ (a : Agent). a.pending)
-        (get_or-set_same world.agents rank
-        (deliver_each stage agent.pending (record { agent = agent; cells = world.cells })).agent
-        (new_agent stage 0 rank) inside)
+    (get_or-set_same world.agents rank
+    (deliver_each stage agent.pending (record { agent = agent; cells = world.cells })).agent
+    (new_agent stage 0 rank) inside)
     ∙ delivers_all stage agent.pending (record { agent = agent; cells = world.cells }) refl
 
 drains_other : (stage : Stage) (world : World) (rank other : ℕ) → (other ≡ rank → ⊥) →
@@ -51,7 +51,7 @@ drains_other : (stage : Stage) (world : World) (rank other : ℕ) → (other ≡
 drains_other stage world rank other apart =
     get_or-set_other world.agents rank other
     (deliver_each stage (agent_at stage world rank).pending
-        (record { agent = agent_at stage world rank; cells = world.cells })).agent (new_agent stage 0 other) apart
+    (record { agent = agent_at stage world rank; cells = world.cells })).agent (new_agent stage 0 other) apart
 
 -- what is drained stays so
 stays_drained : (stage : Stage) (world : World) (rank other : ℕ) → rank < length world.agents →
@@ -68,14 +68,14 @@ stays_drained stage world rank other inside empty =
 drains_from : (stage : Stage) (first count : ℕ) (world : World) → first + count ≤ length world.agents →
     ((rank : ℕ) → rank < first → (agent_at stage world rank).pending ≡ []) →
     (rank : ℕ) → rank < first + count →
-        (agent_at stage (fold (drain_rank stage) world (numbers_from first count)) rank).pending ≡ []
+    (agent_at stage (fold (drain_rank stage) world (numbers_from first count)) rank).pending ≡ []
 drains_from stage first zero world inside done rank below = done rank (omega arith)
 drains_from stage first (suc count) world inside done rank below =
     drains_from stage (first + 1) count (drain_rank stage world first)
     (enough (length world.agents) (length (drain_rank stage world first).agents)
     (length-set world.agents first
-        (deliver_each stage (agent_at stage world first).pending
-        (record { agent = agent_at stage world first; cells = world.cells })).agent) inside)
+    (deliver_each stage (agent_at stage world first).pending
+    (record { agent = agent_at stage world first; cells = world.cells })).agent) inside)
     now rank (omega arith)
   where
     enough : (a b : ℕ) → b ≡ a → first + suc count ≤ a → first + 1 + count ≤ b
@@ -102,4 +102,4 @@ run_is_drained script order delay seed formed =
     let stage = stage_of script delay in
     drain_empties stage (run_from stage order (most_turns script) (first_world stage order seed))
     (run_keeps stage order (IsRegular stage) (regular_picks stage) (regular_turns stage) (most_turns script)
-        (first_world stage order seed) (first_is_regular stage order seed)).ranks
+    (first_world stage order seed) (first_is_regular stage order seed)).ranks

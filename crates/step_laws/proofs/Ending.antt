@@ -46,7 +46,7 @@ awake_no_more : (rank : ℕ) (waiting : List ℕ) (first count : ℕ) →
 awake_no_more rank waiting first zero = omega arith
 awake_no_more rank waiting first (suc count) =
     let rest = awake_no_more rank waiting (first + 1) count in let here = not_woken (rank == first)
-        (is_member first waiting) in omega arith
+    (is_member first waiting) in omega arith
 
 -- a rank that did not wait, and now does
 awake_less : (rank : ℕ) (asleep : List ℕ) (first count : ℕ) → first ≤ rank → rank < first + count →
@@ -57,15 +57,15 @@ awake_less rank asleep first (suc count) low high new =
     elim (eqb_tells rank first) [
       | inl same ↦
           here_less (rank == first) (is_member first asleep) (awake (rank ∷ asleep) (first + 1) count)
-              (awake asleep (first + 1) count)
+          (awake asleep (first + 1) count)
           (eq-eqb rank first same.1) (subst (λ n. is_member n asleep ≡ false) same.1 new)
-              (awake_no_more rank asleep (first + 1) count)
+          (awake_no_more rank asleep (first + 1) count)
       | inr other ↦
           let ne = other.1 in
           there_less (cond (rank == first || is_member first asleep) 0 1) (cond (is_member first asleep) 0 1)
-              (awake (rank ∷ asleep) (first + 1) count) (awake asleep (first + 1) count)
+          (awake (rank ∷ asleep) (first + 1) count) (awake asleep (first + 1) count)
           (not_woken (rank == first) (is_member first asleep))
-              (awake_less rank asleep (first + 1) count (omega arith) (omega arith) new)
+          (awake_less rank asleep (first + 1) count (omega arith) (omega arith) new)
     ]
   where
     here_less : (a b : Bool) (x y : ℕ) → a ≡ true → b ≡ false → x ≤ y → cond (a || b) 0 1 + x < cond b 0 1 + y
@@ -84,7 +84,7 @@ left_in stage world = sum_by (weight_of stage) world.agents + awake world.schedu
 -- one rank changes
 changed_sum : (stage : Stage) (world : World) (rank : ℕ) (agent : Agent) → rank < length world.agents →
     sum_by (weight_of stage) (slice_set world.agents rank agent) + weight_of stage (agent_at stage world rank) ≡
-        sum_by (weight_of stage) world.agents + weight_of stage agent
+    sum_by (weight_of stage) world.agents + weight_of stage agent
 changed_sum stage world rank agent inside = sum_by-set (weight_of stage) world.agents rank agent
     (new_agent stage 0 rank) inside
 
@@ -94,13 +94,13 @@ waits_lowers : (stage : Stage) (world : World) (rank : ℕ) → rank < length wo
     left_in stage (turn_at_board world rank (waiting (agent_at stage world rank) world.rows)) < left_in stage world
 waits_lowers stage world rank inside few new =
     lower (sum_by (weight_of stage) (slice_set world.agents rank (agent_at stage world rank)))
-        (sum_by (weight_of stage) world.agents) (weight_of stage (agent_at stage world rank))
+    (sum_by (weight_of stage) world.agents) (weight_of stage (agent_at stage world rank))
     (awake (turn_at_board world rank (waiting (agent_at stage world rank) world.rows)).schedule.waiting 0
-        stage.script.ranks)
+    stage.script.ranks)
     (awake (rank ∷ world.schedule.waiting) 0 stage.script.ranks) (awake world.schedule.waiting 0 stage.script.ranks)
     (changed_sum stage world rank (agent_at stage world rank) inside)
     (ap (λ b. awake (rank ∷ cond b [] world.schedule.waiting) 0 stage.script.ranks)
-        (le-ltb (length world.rows) (length world.rows) (omega arith)))
+    (le-ltb (length world.rows) (length world.rows) (omega arith)))
     (awake_less rank world.schedule.waiting 0 stage.script.ranks (omega arith) (omega arith) new)
   where
     lower : (s t w a b c : ℕ) → s + w ≡ t + w → a ≡ b → b < c → s + a < t + c
@@ -110,14 +110,14 @@ waits_lowers stage world rank inside few new =
 far_lowers : (stage : Stage) (world : World) (rank : ℕ) (step : AtBoard) → rank < length world.agents →
     stage.script.ranks ≤ 16 →
     FallsFar stage (agent_at stage world rank) step.agent → left_in stage (turn_at_board world rank step) < left_in
-        stage world
+    stage world
 far_lowers stage world rank step inside few falls =
     lower (sum_by (weight_of stage) (slice_set world.agents rank step.agent)) (sum_by (weight_of stage) world.agents)
     (weight_of stage (agent_at stage world rank)) (weight_of stage step.agent) stage.script.ranks
     (awake (turn_at_board world rank step).schedule.waiting 0 stage.script.ranks)
-        (awake world.schedule.waiting 0 stage.script.ranks)
+    (awake world.schedule.waiting 0 stage.script.ranks)
     (changed_sum stage world rank step.agent inside) falls few
-        (awake_few (turn_at_board world rank step).schedule.waiting 0 stage.script.ranks)
+    (awake_few (turn_at_board world rank step).schedule.waiting 0 stage.script.ranks)
   where
     lower : (s t v w r a b : ℕ) → s + v ≡ t + w → w + 16 < v → r ≤ 16 → a ≤ r → s + a < t + b
     lower s t v w r a b e h k l = omega arith
@@ -125,7 +125,7 @@ far_lowers stage world rank step inside few falls =
 board_lowers : (stage : Stage) (world : World) (rank : ℕ) → IsRegular stage world → stage.script.ranks ≤ 16 →
     MayTurn stage world rank →
     left_in stage (turn_at_board world rank (board_step stage (agent_at stage world rank) world.rows)) < left_in stage
-        world
+    world
 board_lowers stage world rank regular few may = by_step (board_step_falls stage agent world.rows)
   where
     agent : Agent
@@ -145,14 +145,14 @@ board_lowers stage world rank regular few may = by_step (board_step_falls stage 
 memory_lowers : (stage : Stage) (world : World) (rank : ℕ) → IsRegular stage world → MayTurn stage world rank →
     tries_entry stage (agent_at stage world rank) ≡ false →
     left_in stage (turn_on_memory world rank (data_step stage (agent_at stage world rank) world.cells)) < left_in
-        stage world
+    stage world
 memory_lowers stage world rank regular may tries =
     lower (sum_by (weight_of stage) (slice_set world.agents rank next)) (sum_by (weight_of stage) world.agents)
     (weight_of stage (agent_at stage world rank)) (weight_of stage next)
-        (awake world.schedule.waiting 0 stage.script.ranks)
+    (awake world.schedule.waiting 0 stage.script.ranks)
     (changed_sum stage world rank next (subst (λ n. rank < n) (sym regular.ranks) may.0))
     (data_step_falls stage (agent_at stage world rank) world.cells (regular.begun rank)
-        (not_ended stage world rank may.1).0 tries)
+    (not_ended stage world rank may.1).0 tries)
   where
     next : Agent
     next = (data_step stage (agent_at stage world rank) world.cells).agent
@@ -180,7 +180,7 @@ pub run_ends : (stage : Stage) (order : Order) (turns : ℕ) (world : World) →
     NoneIsPicked stage order (run_from stage order turns world)
 run_ends stage order zero world regular few enough =
     let go : (o : Option (ℕ × Schedule)) → pick order (is_ready stage world) stage.script.ranks world.schedule ≡ o →
-        o ≡ None =
+    o ≡ None =
     λ o. elim o as (λ o. pick order (is_ready stage world) stage.script.ranks world.schedule ≡ o → o ≡ None) [
       | None ↦ λ e. refl
       | Some next ↦ λ e.
@@ -191,9 +191,9 @@ run_ends stage order zero world regular few enough =
 run_ends stage order (suc turns) world regular few enough =
     let Goal : Option (ℕ × Schedule) → Type 0 =
     λ o. NoneIsPicked stage order
-        (option_map_or (λ picked. run_from stage order turns (picked_turn stage world picked)) o world) in
+    (option_map_or (λ picked. run_from stage order turns (picked_turn stage world picked)) o world) in
     let go : (o : Option (ℕ × Schedule)) → pick order (is_ready stage world) stage.script.ranks world.schedule ≡ o →
-        Goal o =
+    Goal o =
     λ o. elim o as (λ o. pick order (is_ready stage world) stage.script.ranks world.schedule ≡ o → Goal o) [
       | None ↦ λ e. e
       | Some next ↦ λ e.
@@ -203,7 +203,7 @@ run_ends stage order (suc turns) world regular few enough =
           let regular_there = regular_picks stage world next.1 is.1 regular in
           let lower = turn_lowers stage there next.0 regular_there few may in
           let same : left_in stage there ≡ left_in stage world = ap
-              (λ waiting. sum_by (weight_of stage) world.agents + awake waiting 0 stage.script.ranks) is.1 in
+          (λ waiting. sum_by (weight_of stage) world.agents + awake waiting 0 stage.script.ranks) is.1 in
           run_ends stage order turns (turn stage there next.0) (regular_turns stage there next.0 may regular_there) few
           (less (left_in stage (turn stage there next.0)) (left_in stage there) (left_in stage world) lower same enough)
     ] in

@@ -82,19 +82,19 @@ pub data EntryMove (stage : Stage) (agent : Agent) (rows : List Row) (next : Age
   Arrives : (call : Call) → IsAllowedEntry stage agent rows call Arrive → agent.entered ≡ false →
       course_of agent.known.windows call ≡ ArriveAndLeave →
       next ≡ opened (with_entry stage agent rows call Arrive) → now ≡ with_row agent rows call Arrive →
-          EntryMove stage agent rows next now
+      EntryMove stage agent rows next now
   LooksUp : (call : Call) → IsAllowedEntry stage agent rows call One → agent.entered ≡ false →
       course_of agent.known.windows call ≡ LookUpAndIssue →
       next ≡ opened (with_entry stage agent rows call One) → now ≡ with_row agent rows call One →
-          EntryMove stage agent rows next now
+      EntryMove stage agent rows next now
   Leaves : (call : Call) → IsAllowedEntry stage agent rows call Leave → agent.entered ≡ true →
       course_of agent.known.windows call ≡ ArriveAndLeave →
       next ≡ finished (with_entry stage agent rows call Leave) → now ≡ with_row agent rows call Leave →
-          EntryMove stage agent rows next now
+      EntryMove stage agent rows next now
   EntersOnce : (call : Call) → IsAllowedEntry stage agent rows call One → agent.entered ≡ false →
       IsOneEntry (course_of agent.known.windows call) →
       next ≡ finished (with_entry stage agent rows call One) → now ≡ with_row agent rows call One →
-          EntryMove stage agent rows next now
+      EntryMove stage agent rows next now
 
 -- a step of a rank at the board: no move, one, or two
 pub data EntryMoves (stage : Stage) (agent : Agent) (rows : List Row) (next : Agent) (now : List Row) : Type 0 where
@@ -113,10 +113,10 @@ IsMovedTo stage agent rows step = EntryMoves stage agent rows step.agent step.ro
 pub learns_nothing : (shapes : ℕ → List Part) (calls : List Call) (known : Knowledge) (number place : ℕ) (step : Step)
     (call : Call) →
     slice_get calls number ≡ Some call → ends_call step call ≡ false →
-        learn shapes calls known (Entry number place step) ≡ known
+    learn shapes calls known (Entry number place step) ≡ known
 learns_nothing shapes calls known number place step call here opens =
     ap (λ (o : Option Call). option_map_or (known_after_number shapes calls known)
-        (option_map_or (λ (c : Call). cond (ends_call step c) (Some number) None) o None) known) here
+    (option_map_or (λ (c : Call). cond (ends_call step c) (Some number) None) o None) known) here
     ∙ ap (λ b. option_map_or (known_after_number shapes calls known) (cond b (Some number) None) known) opens
 
 -- a look-up does not end its call
@@ -129,7 +129,7 @@ pub known_stays : (stage : Stage) (agent : Agent) (rows : List Row) (call : Call
     (with_entry stage agent rows call step).known ≡ agent.known
 known_stays stage agent rows call step here opens =
     learns_nothing (shapes_in stage (rows ++ next_row agent call step ∷ [])) (calls_at stage agent.rank) agent.known
-        agent.at (length rows) step call here opens
+    agent.at (length rows) step call here opens
 
 -- ---- the step
 
@@ -141,7 +141,7 @@ never_refused false class e = cc e
 leave_moves : (d : Decision) (stage : Stage) (agent : Agent) (rows : List Row) (call : Call) →
     decide stage.script.ranks rows (next_row agent call Leave) ≡ d →
     next_call stage agent ≡ Some call → agent.entered ≡ true → own_class agent.known call ≡ None →
-        course_of agent.known.windows call ≡ ArriveAndLeave →
+    course_of agent.known.windows call ≡ ArriveAndLeave →
     IsMovedTo stage agent rows (enter_by d stage agent rows call Leave finished)
 leave_moves (Refuse class) stage agent rows call is here inside own course = absurd
     (never_refused (all_arrived (question stage.script.ranks rows (next_row agent call Leave))) class is)
@@ -152,7 +152,7 @@ leave_moves NotYet stage agent rows call is here inside own course = Stays refl 
 arrive_moves : (d : Decision) (stage : Stage) (agent : Agent) (rows : List Row) (call : Call) →
     decide stage.script.ranks rows (next_row agent call Arrive) ≡ d →
     next_call stage agent ≡ Some call → agent.entered ≡ false → own_class agent.known call ≡ None →
-        course_of agent.known.windows call ≡ ArriveAndLeave →
+    course_of agent.known.windows call ≡ ArriveAndLeave →
     IsMovedTo stage agent rows (leave_if_entered stage call (enter_by d stage agent rows call Arrive opened))
 arrive_moves (Refuse class) stage agent rows call is here new own course = OneMove
     (TurnsAway call (Refused agent.at class (length rows)) here new (ByRefusal class refl) refl refl)
@@ -181,12 +181,12 @@ arrive_moves Allow stage agent rows call is here new own course = by_leave
     by_leave NotYet e = OneMove first
 arrive_moves NotYet stage agent rows call is here new own course =
     subst (IsMovedTo stage agent rows) (sym (ap (λ b. cond b (leave stage agent rows call) (waiting agent rows)) new))
-        (Stays refl refl)
+    (Stays refl refl)
 
 test_moves : (d : Decision) (stage : Stage) (agent : Agent) (rows : List Row) (call : Call) →
     decide stage.script.ranks rows (next_row agent call One) ≡ d →
     next_call stage agent ≡ Some call → agent.entered ≡ false → own_class agent.known call ≡ None →
-        IsOneEntry (course_of agent.known.windows call) →
+    IsOneEntry (course_of agent.known.windows call) →
     IsMovedTo stage agent rows (test_by d stage agent rows call)
 test_moves (Refuse class) stage agent rows call is here new own course = OneMove
     (TurnsAway call (Refused agent.at class (length rows)) here new (ByRefusal class refl) refl refl)
@@ -198,7 +198,7 @@ test_moves NotYet stage agent rows call is here new own course = OneMove
 once_moves : (d : Decision) (stage : Stage) (agent : Agent) (rows : List Row) (call : Call) →
     decide stage.script.ranks rows (next_row agent call One) ≡ d →
     next_call stage agent ≡ Some call → agent.entered ≡ false → own_class agent.known call ≡ None →
-        IsOneEntry (course_of agent.known.windows call) →
+    IsOneEntry (course_of agent.known.windows call) →
     IsMovedTo stage agent rows (enter_by d stage agent rows call One finished)
 once_moves (Refuse class) stage agent rows call is here new own course = OneMove
     (TurnsAway call (Refused agent.at class (length rows)) here new (ByRefusal class refl) refl refl)
@@ -209,7 +209,7 @@ once_moves NotYet stage agent rows call is here new own course = Stays refl refl
 look_moves : (d : Decision) (stage : Stage) (agent : Agent) (rows : List Row) (call : Call) →
     decide stage.script.ranks rows (next_row agent call One) ≡ d →
     next_call stage agent ≡ Some call → agent.entered ≡ false → own_class agent.known call ≡ None →
-        course_of agent.known.windows call ≡ LookUpAndIssue →
+    course_of agent.known.windows call ≡ LookUpAndIssue →
     IsMovedTo stage agent rows (enter_by d stage agent rows call One opened)
 look_moves (Refuse class) stage agent rows call is here new own course = OneMove
     (TurnsAway call (Refused agent.at class (length rows)) here new (ByRefusal class refl) refl refl)
@@ -220,7 +220,7 @@ look_moves NotYet stage agent rows call is here new own course = Stays refl refl
 first_moves : (course : Course) (stage : Stage) (agent : Agent) (rows : List Row) (call : Call) →
     course_of agent.known.windows call ≡ course →
     next_call stage agent ≡ Some call → agent.entered ≡ false → own_class agent.known call ≡ None →
-        IsMovedTo stage agent rows (first_entry course stage agent rows call)
+    IsMovedTo stage agent rows (first_entry course stage agent rows call)
 first_moves OneNull stage agent rows call course here new own = Stays refl refl
 first_moves OneIssue stage agent rows call course here new own = Stays refl refl
 first_moves LookUpAndIssue stage agent rows call course here new own =
@@ -229,13 +229,13 @@ first_moves OneFlush stage agent rows call course here new own = Stays refl refl
 first_moves OneRequest stage agent rows call course here new own = Stays refl refl
 first_moves ArriveAndLeave stage agent rows call course here new own =
     arrive_moves (decide stage.script.ranks rows (next_row agent call Arrive)) stage agent rows call refl here new own
-        course
+    course
 first_moves EntryOrTested stage agent rows call course here new own =
     test_moves (decide stage.script.ranks rows (next_row agent call One)) stage agent rows call refl here new own
-        (subst IsOneEntry (sym course) tt)
+    (subst IsOneEntry (sym course) tt)
 first_moves OneEntry stage agent rows call course here new own =
     once_moves (decide stage.script.ranks rows (next_row agent call One)) stage agent rows call refl here new own
-        (subst IsOneEntry (sym course) tt)
+    (subst IsOneEntry (sym course) tt)
 
 -- a call of two parts that moves no data is collective
 is_collective_call : (course : Course) → IsTwofold course → (HasIssue course → ⊥) → course ≡ ArriveAndLeave
@@ -259,27 +259,27 @@ none_is (Some class) h = absurd (cc h)
 entry_moves : (stage : Stage) (agent : Agent) (rows : List Row) (call : Call) → HasBegun stage agent →
     next_call stage agent ≡ Some call →
     cond agent.entered (is_none (transfer_of call)) (begins_with_entry stage agent call) ≡ true →
-        IsMovedTo stage agent rows (entry_of stage agent rows call)
+    IsMovedTo stage agent rows (entry_of stage agent rows call)
 entry_moves stage agent rows call begun here tries = by_entered agent.entered refl tries
   where
     by_entered : (b : Bool) → agent.entered ≡ b → cond b (is_none (transfer_of call))
         (begins_with_entry stage agent call) ≡ true →
         IsMovedTo stage agent rows
-            (cond b (leave stage agent rows call)
-            (first_entry (course_of agent.known.windows call) stage agent rows call))
+        (cond b (leave stage agent rows call)
+        (first_entry (course_of agent.known.windows call) stage agent rows call))
     by_entered true e t =
         let one = begun e call here in
         leave_moves (decide stage.script.ranks rows (next_row agent call Leave)) stage agent rows call refl here e
-            one.allowed
+        one.allowed
         (is_collective_call (course_of agent.known.windows call) one.twofold (no_issue_of agent.known.windows call t))
     by_entered false e t =
         let most = and_parts (not (must_draw stage agent) && is_none (own_class agent.known call) && is_none
-            (awaited_by agent call)) (has_entry (course_of agent.known.windows call)) t in
+        (awaited_by agent call)) (has_entry (course_of agent.known.windows call)) t in
         let some = and_parts (not (must_draw stage agent) && is_none (own_class agent.known call))
-            (is_none (awaited_by agent call)) most.0 in
+        (is_none (awaited_by agent call)) most.0 in
         let own = and_parts (not (must_draw stage agent)) (is_none (own_class agent.known call)) some.0 in
         first_moves (course_of agent.known.windows call) stage agent rows call refl here e
-            (none_is (own_class agent.known call) own.1)
+        (none_is (own_class agent.known call) own.1)
 
 pub board_step_moves : (stage : Stage) (agent : Agent) (rows : List Row) → HasBegun stage agent →
     tries_entry stage agent ≡ true → IsMovedTo stage agent rows (board_step stage agent rows)
@@ -326,11 +326,11 @@ begun_kept stage agent next rows now (TurnsAway call item here new away is still
     (kept (shapes_in stage rows) stage agent item) next is
 begun_kept stage agent next rows now (Arrives call entry new course is more) =
     subst (HasBegun stage) (sym is)
-        (begun_with stage agent rows call Arrive entry refl (subst IsTwofold (sym course) tt))
+    (begun_with stage agent rows call Arrive entry refl (subst IsTwofold (sym course) tt))
 begun_kept stage agent next rows now (LooksUp call entry new course is more) =
     subst (HasBegun stage) (sym is)
-        (begun_with stage agent rows call One entry (look_up_opens agent.known.windows call course)
-        (subst IsTwofold (sym course) tt))
+    (begun_with stage agent rows call One entry (look_up_opens agent.known.windows call course)
+    (subst IsTwofold (sym course) tt))
 begun_kept stage agent next rows now (Leaves call entry inside course is more) = none_begun stage
     (with_entry stage agent rows call Leave) next is
 begun_kept stage agent next rows now (EntersOnce call entry new course is more) = none_begun stage

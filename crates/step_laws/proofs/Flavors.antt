@@ -32,7 +32,7 @@ acts_append before [] more = ap (λ b. acts_after b more) (sym (append-nil befor
 acts_append before (row ∷ rows) more =
     ap (λ l. record { row = row; window = window_of before row } ∷ l)
     (acts_append (before ++ row ∷ []) rows more ∙ ap (λ b. acts_after (before ++ row ∷ []) rows ++ acts_after b more)
-        (append_assoc before (row ∷ []) rows))
+    (append_assoc before (row ∷ []) rows))
 
 abbrev pub act_after : List Row → Row → Act
 act_after rows row = record { row = row; window = window_of rows row }
@@ -79,8 +79,13 @@ more_numbered : (rows : List Row) (row : Row) (act : Act) → IsNumberedAct rows
     IsNumberedAct (rows ++ row ∷ []) act
 more_numbered rows row act old begins creation makes =
     let is = old begins creation makes in
-    record { name = is.name; round = is.round; number = is.number; below = grown is.round
-        (creations rows act.row.rank creation.win) _ _ is.below (creations_push rows row act.row.rank creation.win) }
+    record {
+      name = is.name;
+      round = is.round;
+      number = is.number;
+      below = grown is.round
+          (creations rows act.row.rank creation.win) _ _ is.below (creations_push rows row act.row.rank creation.win);
+    }
   where
     grown : (r a b c : ℕ) → r < a → b ≡ a + c → r < b
     grown r a b c h e = omega arith
@@ -91,9 +96,9 @@ pub new_number : (rows : List Row) (row : Row) (creation : Creation) → begins_
     window_of rows row ≡ window_number (creations rows row.rank creation.win) creation.win
 new_number rows row creation begins makes =
     ap (λ a. option_map_or (λ win. window_number (round_of rows row win) win) (window_in_action a) 0)
-        (creates_it row.call creation makes)
+    (creates_it row.call creation makes)
     ∙ ap (λ b. window_number
-        (cond b (creations rows row.rank creation.win) (creations rows row.rank creation.win - 1)) creation.win) begins
+    (cond b (creations rows row.rank creation.win) (creations rows row.rank creation.win - 1)) creation.win) begins
 
 new_numbered : (rows : List Row) (row : Row) →
     ((creation : Creation) → creation_of row.call ≡ Some creation → creation.win < 32) →
@@ -116,12 +121,12 @@ new_numbered rows row small begins creation makes = record {
 pub numbered_push : (rows : List Row) (row : Row) →
     ((creation : Creation) → creation_of row.call ≡ Some creation → creation.win < 32) →
     AllByRecursion (IsNumberedAct rows) (acts rows) → AllByRecursion (IsNumberedAct (rows ++ row ∷ []))
-        (acts (rows ++ row ∷ []))
+    (acts (rows ++ row ∷ []))
 numbered_push rows row small old =
     subst (AllByRecursion (IsNumberedAct (rows ++ row ∷ []))) (sym (acts_push rows row))
     (each_append (IsNumberedAct (rows ++ row ∷ [])) (acts rows) (act_after rows row ∷ [])
     (each_weaker (IsNumberedAct rows) (IsNumberedAct (rows ++ row ∷ [])) (more_numbered rows row) (acts rows) old)
-        (new_numbered rows row small, tt))
+    (new_numbered rows row small, tt))
 
 -- a number of a window has one name and one round
 one_name : (a b x y : ℕ) → x < 32 → y < 32 → window_number a x ≡ window_number b y → (a ≡ b) × (x ≡ y)
@@ -174,7 +179,7 @@ pub record IsArrivalAt (rank window : ℕ) (act : Act) : Type 0 where
 arrival_is : (rank window : ℕ) (act : Act) → arrives_at rank window act ≡ true → IsArrivalAt rank window act
 arrival_is rank window act e =
     let some = and_parts (is_by_on rank window act && is_arrive act.row.step)
-        (is_collective CreationRound act.row.call) e in
+    (is_collective CreationRound act.row.call) e in
     let step = and_parts (is_by_on rank window act) (is_arrive act.row.step) some.0 in
     let on = and_parts (act.row.rank == rank) (act.window == window) step.0 in
     let creation = begins_of_collective (action_of act.row.call) some.1 in
@@ -193,7 +198,7 @@ arrives_if rank window act creation mine on begins makes =
     and_from (is_by_on rank window act && is_arrive act.row.step) (is_collective CreationRound act.row.call)
     (and_from (is_by_on rank window act) (is_arrive act.row.step)
     (and_from (act.row.rank == rank) (act.window == window) (eq-eqb act.row.rank rank mine)
-        (eq-eqb act.window window on))
+    (eq-eqb act.window window on))
     (and_parts (is_arrive act.row.step) (is_creation act.row.call) begins).0)
     (ap is_some_creation (creates_it act.row.call creation makes))
 
@@ -210,7 +215,7 @@ first_passing {X} test P (x ∷ xs) all e = by_test (test x) refl (first_passing
     by_test : (b : Bool) → test x ≡ b → (list_any test xs ≡ true → IsFirstOf test P xs) →
         (b || list_any test xs) ≡ true →
         (first : X) × (rest : List X) × (cond b (x ∷ filter test xs) (filter test xs) ≡ first ∷ rest) × P first ×
-            (test first ≡ true)
+        (test first ≡ true)
     by_test true t rest h = (x, filter test xs, refl, all.0, t)
     by_test false t rest h = rest h
 
@@ -274,7 +279,7 @@ meets_no_other script rows row creation step makes allowed =
     let none : refusal q row.step ≡ None = allowed_refusal (refusal q row.step) (is_allowed_now q row.step) allowed in
     let arrive : refusal q Arrive ≡ None = subst (λ s. refusal q s ≡ None) step none in
     let flavor : refuse_if (has_other_flavor q creation.flavor) FlavorClass ≡ None = subst
-        (λ a. arrive_refusal q a ≡ None) (creates_it row.call creation makes) arrive in
+    (λ a. arrive_refusal q a ≡ None) (creates_it row.call creation makes) arrive in
     not_refused (has_other_flavor q creation.flavor) flavor
   where
     not_refused : (b : Bool) → refuse_if b FlavorClass ≡ None → b ≡ false
@@ -313,7 +318,7 @@ first_arrival : (script : Script) (rows : List Row) (row : Row) (creation : Crea
 first_arrival script rows row creation regular begins makes small =
     none_passing (arrives_at row.rank (window_of rows row)) (acts rows)
     (each_weaker (IsNumberedAct rows) (λ act. arrives_at row.rank (window_of rows row) act ≡ true → ⊥) never
-        (acts rows) regular.numbered)
+    (acts rows) regular.numbered)
   where
     apart : (round most : ℕ) → round ≡ most → round < most → ⊥
     apart round most e h = omega arith
@@ -323,17 +328,17 @@ first_arrival script rows row creation regular begins makes small =
         let is = arrival_is row.rank (window_of rows row) act passes in
         let number = numbered is.begins is.creation is.makes in
         let one = one_name number.round (creations rows row.rank creation.win) is.creation.win creation.win
-            number.name small
+        number.name small
         (sym number.number ∙ is.window_is ∙ new_number rows row creation begins makes) in
         apart number.round (creations rows row.rank creation.win) one.0
         (subst (λ n. number.round < creations rows row.rank n) one.1
-            (subst (λ r. number.round < creations rows r is.creation.win) is.rank_is number.below))
+        (subst (λ r. number.round < creations rows r is.creation.win) is.rank_is number.below))
 
 -- the arrivals of a rank at the window that an entry begins to create
 arrivals_are : (script : Script) (rows : List Row) (row : Row) (creation : Creation) (rank : ℕ) →
     creation_of row.call ≡ Some creation →
     arrivals_of (question script.ranks rows row) rank ≡ map (λ (act : Act). act.row.call)
-        (filter (arrives_at rank (window_of rows row)) (acts rows))
+    (filter (arrives_at rank (window_of rows row)) (acts rows))
 arrivals_are script rows row creation rank makes =
     ap (λ o. option_map_or (λ collective. arrivals (acts rows) collective rank (window_of rows row)) o [])
     (collective_creation (action_of row.call) creation (creates_it row.call creation makes))
@@ -342,18 +347,18 @@ arrivals_are script rows row creation rank makes =
 pub same_as_new : (script : Script) (rows : List Row) (row : Row) (creation : Creation) → AreRegular script rows →
     begins_window row ≡ true → creation_of row.call ≡ Some creation →
     creation.win < 32 → row.step ≡ Arrive → decide script.ranks rows row ≡ Allow →
-        AllByRecursion (MakesWith creation.flavor (window_of rows row)) (acts rows)
+    AllByRecursion (MakesWith creation.flavor (window_of rows row)) (acts rows)
 same_as_new script rows row creation regular begins makes small step allowed =
     each_weaker (λ act. IsSoundAct script act ×
-        (MakesWith flavor.0 window act × ((test : Act → Bool) → test act ≡ true → list_any test (acts rows) ≡ true)))
+    (MakesWith flavor.0 window act × ((test : Act → Bool) → test act ≡ true → list_any test (acts rows) ≡ true)))
     (MakesWith creation.flavor window) same (acts rows)
     (both_of_each (IsSoundAct script)
-        (λ act. MakesWith flavor.0 window act ×
-        ((test : Act → Bool) → test act ≡ true → list_any test (acts rows) ≡ true)) (acts rows)
+    (λ act. MakesWith flavor.0 window act ×
+    ((test : Act → Bool) → test act ≡ true → list_any test (acts rows) ≡ true)) (acts rows)
     (acts_sound script rows regular.sound)
     (both_of_each (MakesWith flavor.0 window)
-        (λ act. (test : Act → Bool) → test act ≡ true → list_any test (acts rows) ≡ true) (acts rows) flavor.1
-        (each_is_found (acts rows))))
+    (λ act. (test : Act → Bool) → test act ≡ true → list_any test (acts rows) ≡ true) (acts rows) flavor.1
+    (each_is_found (acts rows))))
   where
     window : ℕ
     window = window_of rows row
@@ -380,16 +385,16 @@ same_as_new script rows row creation regular begins makes small step allowed =
         let here : in_round rank ≡ first.row.call ∷ [] =
         ap (λ n. option_map_or (λ call. call ∷ []) (slice_get (arrivals_of q rank) n) []) none_begun
         ∙ ap (λ l. option_map_or (λ (call : Call). call ∷ []) (slice_get l 0) [])
-            (arrivals_are script rows row creation rank makes ∙ ap (map (λ (act : Act). act.row.call)) there) in
+        (arrivals_are script rows row creation rank makes ∙ ap (map (λ (act : Act). act.row.call)) there) in
         let none = subst (λ l. list_any (is_differing_creation creation.flavor) l ≡ false) here
         (none_of_part (is_differing_creation creation.flavor) in_round 0 script.ranks rank
-            (meets_no_other script rows row creation step makes allowed) (omega arith) (omega arith)) in
+        (meets_no_other script rows row creation step makes allowed) (omega arith) (omega arith)) in
         let same' = (or_parts (is_differing_creation creation.flavor first.row.call) false none).0 in
         let flavors = subst (λ o. option_map_or
-            (λ (other : Creation). not (is_same_flavor creation.flavor other.flavor)) o false ≡ false) is.makes same' in
+        (λ (other : Creation). not (is_same_flavor creation.flavor other.flavor)) o false ≡ false) is.makes same' in
         sym (makes_with is.begins is.window_is is.creation is.makes)
         ∙ sym (same_flavor creation.flavor is.creation.flavor
-            (not-false (is_same_flavor creation.flavor is.creation.flavor) flavors))
+        (not-false (is_same_flavor creation.flavor is.creation.flavor) flavors))
 
     same : (act : Act) → (IsSoundAct script act ×
         (MakesWith flavor.0 window act × ((test : Act → Bool) → test act ≡ true → list_any test (acts rows) ≡ true))) →

@@ -54,7 +54,7 @@ none_filter {X} test (x ∷ xs) e =
     let Q : X → Type 0 = λ y. test y ≡ false in
     let rest : filter test xs ≡ [] → AllByRecursion Q xs = none_filter test xs in
     elim (test x) as (λ b. test x ≡ b → cond b (x ∷ filter test xs) (filter test xs) ≡ [] →
-        (test x ≡ false) × AllByRecursion Q xs)
+    (test x ≡ false) × AllByRecursion Q xs)
     [ true ↦ λ t empty. absurd (cc empty) | false ↦ λ t empty. (t, rest empty) ] refl e
 
 -- what holds of the elements of a list holds of those that a test leaves
@@ -64,7 +64,7 @@ each_kept P test [] h = tt
 each_kept P test (x ∷ xs) h =
     let rest = each_kept P test xs h.1 in
     elim (test x) as (λ b. AllByRecursion P (cond b (x ∷ filter test xs) (filter test xs)))
-        [ true ↦ (h.0, rest) | false ↦ rest ]
+    [ true ↦ (h.0, rest) | false ↦ rest ]
 
 pub each_mapped : {X Y : Type 0} (P : X → Type 0) (Q : Y → Type 0) (f : X → Y) → ((x : X) → P x → Q (f x)) →
     (xs : List X) → AllByRecursion P xs → AllByRecursion Q (map f xs)
@@ -107,7 +107,7 @@ each_found P Q test f d keeps default [] h = default
 each_found P Q test f d keeps default (x ∷ xs) h =
     let rest = each_found P Q test f d keeps default xs h.1 in
     elim (test x) as (λ b. test x ≡ b → Q (option_map_or f (cond b (Some x) (find test xs)) d))
-        [ true ↦ λ e. keeps x h.0 e | false ↦ λ e. rest ] refl
+    [ true ↦ λ e. keeps x h.0 e | false ↦ λ e. rest ] refl
 
 pub found_is : {X : Type 0} (P : X → Type 0) (test : X → Bool) (xs : List X) (x : X) → AllByRecursion P xs →
     find test xs ≡ Some x → P x × (test x ≡ true)
@@ -125,7 +125,7 @@ pub each_reverse : {X : Type 0} (P : X → Type 0) (xs : List X) → AllByRecurs
 each_reverse P [] h = tt
 each_reverse P (x ∷ xs) h =
     subst (AllByRecursion P) (sym (reverse_cons x xs))
-        (each_append P (reverse xs) (x ∷ []) (each_reverse P xs h.1) (h.0, tt))
+    (each_append P (reverse xs) (x ∷ []) (each_reverse P xs h.1) (h.0, tt))
 
 pub each_unreversed : {X : Type 0} (P : X → Type 0) (xs : List X) → AllByRecursion P (reverse xs) → AllByRecursion P xs
 each_unreversed P [] h = tt
@@ -138,9 +138,11 @@ each_unreversed P (x ∷ xs) h =
 -- the numbers from one on are below their end
 pub numbers_below : (first count : ℕ) → AllByRecursion (λ n. n < first + count) (numbers_from first count)
 numbers_below first zero = tt
-numbers_below first (suc count) =
-    (omega arith, subst (λ m. AllByRecursion (λ n. n < m) (numbers_from (first + 1) count)) (omega arith)
-        (numbers_below (first + 1) count))
+numbers_below first (suc count) = (
+  omega arith,
+  subst (λ m. AllByRecursion (λ n. n < m) (numbers_from (first + 1) count)) (omega arith)
+      (numbers_below (first + 1) count),
+)
 
 -- what holds of all numbers from one on holds of each below their end
 pub number_among : (P : ℕ → Type 0) (first count n : ℕ) → AllByRecursion P (numbers_from first count) → first ≤ n →

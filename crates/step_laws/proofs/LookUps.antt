@@ -38,21 +38,21 @@ use Rattle.step_laws.specs.Inside.{LiesInMemory}
 pub look_up_lies : (script : Script) (delay : Delay) (rank : ℕ) (agent : Agent) (rows : List Row) (call : Call)
     (t : Transfer) → AreRegular script rows → IsSoundRank script delay rank agent rows →
     IsAllowedEntry (stage_of script delay) agent rows call One → course_of agent.known.windows call ≡ LookUpAndIssue →
-        transfer_of call ≡ Some t →
+    transfer_of call ≡ Some t →
     (window : Window) → window_of_name agent.known.windows t.win ≡ Some window →
-        LiesInMemory (layout script) (access_on agent.known.windows t window) t.dtype
+    LiesInMemory (layout script) (access_on agent.known.windows t window) t.dtype
 look_up_lies script delay rank agent rows call t regular sound entry course moves window live =
     looked_up_lies (layout script) known t window
-        (ranges_attached (acts rows) (rank_reached known.rank t.target) q.window)
+    (ranges_attached (acts rows) (rank_reached known.rank t.target) q.window)
     (found_is (IsRoomyWindow (layout script)) (λ (w : Window). w.win == t.win) known.windows window
-        sound.roomy.windows live).0
+    sound.roomy.windows live).0
     (looks_up_dynamic known t window looks live)
     (right_place known agent.known.epochs window t (subst HasIssue (sym looks) tt)
-        (subst (λ a. epoch_class known.ranks agent.known.epochs a ≡ None) is (epochs_allow agent.known call entry.own))
+    (subst (λ a. epoch_class known.ranks agent.known.epochs a ≡ None) is (epochs_allow agent.known call entry.own))
     (subst (λ (w : Window). first_class (place_tests known w t) ≡ None) same passed.2))
     (attached_lie script (acts rows) (rank_reached known.rank t.target) q.window (acts_sound script rows regular.sound))
     (subst (λ r. covers (ranges_attached (acts rows) (rank_reached r t.target) q.window) (natural t.disp)
-        (bytes_of t) ≡ true) (sound.mine ∙ sym sound.whose) covered)
+    (bytes_of t) ≡ true) (sound.mine ∙ sym sound.whose) covered)
   where
     known : RankWindows
     known = agent.known.windows
@@ -86,4 +86,4 @@ look_up_lies script delay rank agent rows call t regular sound entry course move
     covered = not-false (covers (ranges_attached (acts rows) (rank_reached agent.rank t.target) q.window)
         (natural t.disp) (bytes_of t))
         (attached (reaches_unattached q t)
-            (subst (λ a. one_refusal q a ≡ None) is (not_refused (refusal q One) (is_allowed_now q One) entry.allowed)))
+        (subst (λ a. one_refusal q a ≡ None) is (not_refused (refusal q One) (is_allowed_now q One) entry.allowed)))

@@ -85,16 +85,16 @@ part_is_inside [] cell rank address h = absurd (omega arith)
 part_is_inside (one ∷ ranks) cell zero address h =
     let bytes = memory_bytes one.0 one.1 in
     let split = sum_by-cons (λ (part : MemoryPart). part.bytes / 4) (record { first_cell = cell; bytes = bytes })
-        (parts_from (cell + bytes / 4) ranks) in
+    (parts_from (cell + bytes / 4) ranks) in
     first bytes (cells_in (parts_from (cell + bytes / 4) ranks)) (cells_in (parts_from cell (one ∷ ranks))) split
-        (byte_in_cells bytes address (memory_is_cells one.0 one.1) h)
+    (byte_in_cells bytes address (memory_is_cells one.0 one.1) h)
   where
     first : (bytes rest all : ℕ) → all ≡ bytes / 4 + rest → address / 4 < bytes / 4 → cell + address / 4 < cell + all
     first bytes rest all e k = omega arith
 part_is_inside (one ∷ ranks) cell (suc rank) address h =
     let bytes = memory_bytes one.0 one.1 in
     let split = sum_by-cons (λ (part : MemoryPart). part.bytes / 4) (record { first_cell = cell; bytes = bytes })
-        (parts_from (cell + bytes / 4) ranks) in
+    (parts_from (cell + bytes / 4) ranks) in
     let later = part_is_inside ranks (cell + bytes / 4) rank address h in
     next (bytes / 4) (cells_in (parts_from (cell + bytes / 4) ranks)) (cells_in (parts_from cell (one ∷ ranks)))
     (first_in (parts_from (cell + bytes / 4) ranks) rank + address / 4) split later
@@ -107,7 +107,7 @@ pub byte_is_inside : (script : Script) (rank address : ℕ) → address < bytes_
     first_cell (layout script) rank + address / 4 < cells_of (layout script)
 byte_is_inside script rank address h =
     subst (λ n. first_cell (layout script) rank + address / 4 < n) (zero-add (cells_of (layout script)))
-        (part_is_inside (ranks_of script) 0 rank address h)
+    (part_is_inside (ranks_of script) 0 rank address h)
 
 -- ---- the elements of an access
 
@@ -127,11 +127,11 @@ pub pieces_inside : (script : Script) (access : Access) (dtype : Dtype) → Lies
     AllByRecursion (λ (piece : Piece). piece.cell < cells_of (layout script)) (pieces (layout script) access dtype)
 pieces_inside script access dtype lies =
     each_mapped (λ element. element < 0 + access.len / size_of dtype)
-        (λ (piece : Piece). piece.cell < cells_of (layout script))
+    (λ (piece : Piece). piece.cell < cells_of (layout script))
     (λ element. piece_at (layout script) access.target (access.lo + element * size_of dtype))
     (λ element below. byte_is_inside script access.target (access.lo + element * size_of dtype)
     (lies.inside (access.lo + element * size_of dtype) (omega arith)
-        (element_ends dtype access.len access.lo element (omega arith))))
+    (element_ends dtype access.len access.lo element (omega arith))))
     (numbers_from 0 (access.len / size_of dtype)) (numbers_below 0 (access.len / size_of dtype))
 
 -- ---- the memory of an allocate
@@ -167,11 +167,11 @@ other_base number address at call bases apart = by_creation (creation_of call)
 allocate_is_inside : (calls : List Call) (number address k at : ℕ) (call : Call) (creation : Creation) →
     slice_get calls k ≡ Some call → creation_of call ≡ Some creation →
     creation.flavor ≡ Allocate → at ≡ number + k → base_among at (bases_from number address calls) + natural
-        creation.bytes ≤ address + sum_by call_bytes calls
+    creation.bytes ≤ address + sum_by call_bytes calls
 allocate_is_inside [] number address k at call creation here makes flavor e = absurd (cc here)
 allocate_is_inside (first ∷ calls) number address zero at call creation here makes flavor e =
     enough (base_among at (bases_from number address (first ∷ calls))) (natural creation.bytes) (call_bytes first)
-        (sum_by call_bytes calls)
+    (sum_by call_bytes calls)
     (sum_by call_bytes (first ∷ calls)) base bytes (sum_by-cons call_bytes first calls)
   where
     is : creation_of first ≡ Some creation
@@ -184,25 +184,25 @@ allocate_is_inside (first ∷ calls) number address zero at call creation here m
     bytes : natural creation.bytes ≤ call_bytes first
     bytes = subst (λ n. natural creation.bytes ≤ n)
         (sym (ap (λ o. option_map_or (λ (c : Creation). own_bytes c.flavor c.bytes) o 0) is ∙ ap
-            (λ f. own_bytes f creation.bytes) flavor)) (rounded_up (natural creation.bytes))
+        (λ f. own_bytes f creation.bytes) flavor)) (rounded_up (natural creation.bytes))
 
     base : base_among at (bases_from number address (first ∷ calls)) ≡ address
     base = ap (λ o. base_among at
         (option_map_or (λ (c : Creation). base_for number address c.flavor) o [] ++ bases_from (number + 1)
         (address + call_bytes first) calls)) is
         ∙ ap (λ f. base_among at
-            (base_for number address f ++ bases_from (number + 1) (address + call_bytes first) calls)) flavor
+        (base_for number address f ++ bases_from (number + 1) (address + call_bytes first) calls)) flavor
         ∙ ap (λ b. base_by b (record { call = number; base = address })
-            (bases_from (number + 1) (address + call_bytes first) calls) at)
-            (eq-eqb number at (sym (e ∙ add-zero number)))
+        (bases_from (number + 1) (address + call_bytes first) calls) at)
+        (eq-eqb number at (sym (e ∙ add-zero number)))
 allocate_is_inside (first ∷ calls) number address (suc k) at call creation here makes flavor e =
     let later = allocate_is_inside calls (number + 1) (address + call_bytes first) k at call creation here makes
-        flavor (omega arith) in
+    flavor (omega arith) in
     let same = other_base number address at first (bases_from (number + 1) (address + call_bytes first) calls)
-        (apart at number e) in
+    (apart at number e) in
     next (base_among at (bases_from number address (first ∷ calls)))
-        (base_among at (bases_from (number + 1) (address + call_bytes first) calls)) (natural creation.bytes)
-        (call_bytes first)
+    (base_among at (bases_from (number + 1) (address + call_bytes first) calls)) (natural creation.bytes)
+    (call_bytes first)
     (sum_by call_bytes calls) (sum_by call_bytes (first ∷ calls)) same (sum_by-cons call_bytes first calls) later
   where
     apart : (at number : ℕ) → at ≡ number + suc k → number ≡ at → ⊥
@@ -230,7 +230,7 @@ bytes_are (first ∷ ranks) cell (suc rank) one e = bytes_are ranks (cell + memo
 
 bases_are : (ranks : List (ℕ × List Call)) (rank number : ℕ) (one : ℕ × List Call) → slice_get ranks rank ≡ Some one →
     base_among number (slice_index_or (map (λ (r : ℕ × List Call). bases_from 0 (rounded r.0) r.1) ranks) rank []) ≡
-        base_among number (bases_from 0 (rounded one.0) one.1)
+    base_among number (bases_from 0 (rounded one.0) one.1)
 bases_are [] rank number one e = absurd (cc e)
 bases_are (first ∷ ranks) zero number one e = let is : first ≡ one = cc e in ap
     (λ (r : ℕ × List Call). base_among number (bases_from 0 (rounded r.0) r.1)) is
@@ -247,7 +247,7 @@ pub space_has_memory : (script : Script) (rank : ℕ) → rank < length script.s
     slice_index_or script.spaces rank 0 ≤ bytes_at (layout script) rank
 space_has_memory script rank spaces lists =
     enough (slice_index_or script.spaces rank 0) (bytes_at (layout script) rank)
-        (sum_by call_bytes (get_or script.calls rank [])) (memory_is script rank spaces lists)
+    (sum_by call_bytes (get_or script.calls rank [])) (memory_is script rank spaces lists)
     (rounded_up (slice_index_or script.spaces rank 0))
   where
     enough : (space all calls : ℕ) → all ≡ rounded (get_or script.spaces rank 0) + calls →
@@ -258,20 +258,20 @@ space_has_memory script rank spaces lists =
 pub allocate_has_memory : (script : Script) (rank number : ℕ) (call : Call) (creation : Creation) →
     rank < length script.spaces → rank < length script.calls →
     slice_get (slice_index_or script.calls rank []) number ≡ Some call → creation_of call ≡ Some creation →
-        creation.flavor ≡ Allocate →
+    creation.flavor ≡ Allocate →
     base_of (layout script) rank number + natural creation.bytes ≤ bytes_at (layout script) rank
 allocate_has_memory script rank number call creation spaces lists here makes flavor =
     let one : ℕ × List Call = (get_or script.spaces rank 0, get_or script.calls rank []) in
     all (base_of (layout script) rank number) (bytes_at (layout script) rank)
     (bases_are (ranks_of script) rank number one (rank_is script.spaces script.calls rank spaces lists))
-        (memory_is script rank spaces lists)
+    (memory_is script rank spaces lists)
     (allocate_is_inside one.1 0 (rounded one.0) number number call creation here makes flavor (sym (zero-add number)))
   where
     all : (base most : ℕ) → base ≡ base_among number
         (bases_from 0 (rounded (get_or script.spaces rank 0)) (get_or script.calls rank [])) →
         most ≡ memory_bytes (get_or script.spaces rank 0) (get_or script.calls rank []) →
         base_among number (bases_from 0 (rounded (get_or script.spaces rank 0)) (get_or script.calls rank [])) +
-            natural creation.bytes
+        natural creation.bytes
         ≤ rounded (get_or script.spaces rank 0) + sum_by call_bytes (get_or script.calls rank []) →
-            base + natural creation.bytes ≤ most
+        base + natural creation.bytes ≤ most
     all base most b m h = rw (b, m) h

@@ -48,12 +48,12 @@ pub creation_is_inside : (known : RankWindows) (creation : Creation) → window_
 creation_is_inside known creation e made =
     let tests = none_applies (window_tests known (Creates creation)) e in
     let range : (is_outside known creation.base creation.bytes || is_in_use known creation.base creation.bytes) ≡
-        false =
+    false =
     ap (λ f. has_wrong_base known f creation.base creation.bytes) (sym made) ∙ tests.1.1.0 in
     let outside = or_parts (is_outside known creation.base creation.bytes)
-        (is_in_use known creation.base creation.bytes) range in
+    (is_in_use known creation.base creation.bytes) range in
     let ends = or_parts (int_lt creation.base (pos 0)) (int_lt (pos known.space) (creation.base +ℤ creation.bytes))
-        outside.0 in
+    outside.0 in
     not_outside known.space creation.base creation.bytes ends.0 tests.1.0 ends.1
 
 -- so does an attached range
@@ -90,7 +90,7 @@ pub covered_is_inside : (most : ℕ) (ranges : List Range) (lo len : ℕ) →
 covered_is_inside most ranges lo len fit covered address low high =
     let has : list_any (has_byte address) ranges ≡ true =
     number_among (λ a. list_any (has_byte a) ranges ≡ true) lo len address
-        (all_pass (λ a. list_any (has_byte a) ranges) (numbers_from lo len) covered) low high in
+    (all_pass (λ a. list_any (has_byte a) ranges) (numbers_from lo len) covered) low high in
     let range = some_passes (λ (r : Range). r.base + r.bytes ≤ most) (has_byte address) ranges fit has in
     let byte = and_parts (nat_le range.0.base address) (nat_lt address (range.0.base + range.0.bytes)) range.2 in
     within address (range.0.base + range.0.bytes) most (ltb-true address (range.0.base + range.0.bytes) byte.1) range.1
@@ -127,11 +127,11 @@ attached_fit : (memory : Layout) (known : RankWindows) (win : ℕ) → AreRoomy 
     AllByRecursion (λ (range : Range). range.base + range.bytes ≤ bytes_at memory known.rank) (attached_to known win)
 attached_fit memory known win roomy =
     each_mapped (EndsInMemory memory known.rank)
-        (λ (range : Range). range.base + range.bytes ≤ bytes_at memory known.rank) (λ (own : OwnRange). own.range)
-        (λ own h. h)
+    (λ (range : Range). range.base + range.bytes ≤ bytes_at memory known.rank) (λ (own : OwnRange). own.range)
+    (λ own h. h)
     (filter (λ (own : OwnRange). own.is_attached && own.win == win) known.ranges)
     (each_kept (EndsInMemory memory known.rank) (λ (own : OwnRange). own.is_attached && own.win == win) known.ranges
-        roomy.ranges)
+    roomy.ranges)
 
 -- ---- transfers
 
@@ -141,7 +141,7 @@ aligned_if : (part : Part) (t : Transfer) → is_misplaced part t.disp t.dtype �
 aligned_if part t e =
     let parts = or_parts (int_lt t.disp (pos 0)) (not (address_in part t.disp % size_of t.dtype == 0)) e in
     eqb-true (address_in part t.disp % size_of t.dtype) 0
-        (not-false (address_in part t.disp % size_of t.dtype == 0) parts.1)
+    (not-false (address_in part t.disp % size_of t.dtype == 0) parts.1)
 
 -- a transfer that does not pass the end of a part lies where the part does
 ends_if : (most : ℕ) (part : Part) (t : Transfer) → part.base + part.bytes ≤ most →
@@ -149,7 +149,7 @@ ends_if : (most : ℕ) (part : Part) (t : Transfer) → part.base + part.bytes �
     (address : ℕ) → address_in part t.disp ≤ address → address < address_in part t.disp + bytes_of t → address < most
 ends_if most part t fits e address low high =
     within address (address_in part t.disp + bytes_of t) (part.base + part.bytes) most high
-        (ltb-false (part.base + part.bytes) (address_in part t.disp + bytes_of t) e) fits
+    (ltb-false (part.base + part.bytes) (address_in part t.disp + bytes_of t) e) fits
   where
     within : (a b c d : ℕ) → a < b → b ≤ c → c ≤ d → a < d
     within a b c d h k l = omega arith
@@ -169,7 +169,7 @@ place_passed : (known : RankWindows) (window : Window) (t : Transfer) → has_ra
     first_class (place_tests known window t) ≡ None → HasRightPlace known window t
 place_passed known window t right e =
     let places : List Test = (is_misplaced (part_reached known window t) t.disp t.dtype, Disp) ∷
-        (is_out_of_range known window t, RangeClass) ∷ [] in
+    (is_out_of_range known window t, RangeClass) ∷ [] in
     let tests = none_applies places (subst (λ b. first_class (cond b places []) ≡ None) right e) in
     (tests.0, tests.1.0)
 
@@ -206,11 +206,11 @@ issue_has_target known t (Named rank) is h = tt
 pub right_place : (known : RankWindows) (epochs : List Epochs) (window : Window) (t : Transfer) →
     HasIssue (course_of_transfer known t) →
     epoch_class known.ranks epochs (Moves t) ≡ None → first_class (place_tests known window t) ≡ None →
-        HasRightPlace known window t
+    HasRightPlace known window t
 right_place known epochs window t h own place =
     let right = counts_and_ranks known.ranks epochs t own in
     place_passed known window t
-        (count_is_right known.ranks t t.target refl (issue_has_target known t t.target refl h) right.0 right.1) place
+    (count_is_right known.ranks t t.target refl (issue_has_target known t t.target refl h) right.0 right.1) place
 
 -- a transfer to a rank of a dynamic window has a look-up
 not_looked_up : (known : RankWindows) (t : Transfer) (window : Window) (rank : ℤ) → t.target ≡ Named rank →
@@ -219,8 +219,8 @@ not_looked_up : (known : RankWindows) (t : Transfer) (window : Window) (rank : �
 not_looked_up known t window rank is live dynamic course =
     let named = subst (λ (x : Target). course_of_transfer known (record t { target = x }) ≡ OneIssue) is course in
     let looks = subst (λ (o : Option Window). cond
-        (option_map_or (λ (w : Window). is_same_flavor w.flavor Dynamic) o false) LookUpAndIssue OneIssue ≡ OneIssue)
-        live named in
+    (option_map_or (λ (w : Window). is_same_flavor w.flavor Dynamic) o false) LookUpAndIssue OneIssue ≡ OneIssue)
+    live named in
     let both = subst (λ b. cond b LookUpAndIssue OneIssue ≡ OneIssue) dynamic looks in
     absurd (cc both)
 
@@ -228,7 +228,7 @@ not_looked_up known t window rank is live dynamic course =
 pub access_lies : (memory : Layout) (known : RankWindows) (t : Transfer) (window : Window) → AreRoomy memory known →
     IsRoomyWindow memory window →
     window_of_name known t.win ≡ Some window → course_of_transfer known t ≡ OneIssue → HasRightPlace known window t →
-        LiesInMemory memory (access_on known t window) t.dtype
+    LiesInMemory memory (access_on known t window) t.dtype
 access_lies memory known t window roomy room live course right = record {
   inside = by_flavor (is_same_flavor window.flavor Dynamic) refl right.1;
   aligned = aligned_if (part_reached known window t) t right.0;
@@ -240,32 +240,32 @@ access_lies memory known t window roomy room live course right = record {
 
     by_target : (target : Target) → t.target ≡ target → is_same_flavor window.flavor Dynamic ≡ true →
         is_unattached known window.win t.target (address_of known window t) (bytes_of t) ≡ false → HasTarget target →
-            Inside
+        Inside
     by_target Own is dynamic attached some = λ address low high.
         subst (λ (x : Target). address < bytes_at memory (rank_reached known.rank x)) (sym is)
         (covered_is_inside (bytes_at memory known.rank) (attached_to known window.win) (address_of known window t)
-            (bytes_of t) (attached_fit memory known window.win roomy)
+        (bytes_of t) (attached_fit memory known window.win roomy)
         (not-false (covers (attached_to known window.win) (address_of known window t) (bytes_of t))
         (subst (λ (x : Target). is_unattached known window.win x (address_of known window t) (bytes_of t) ≡ false) is
-            attached)) address low high)
+        attached)) address low high)
     by_target Null is dynamic attached some = absurd some
     by_target (Named rank) is dynamic attached some = absurd (not_looked_up known t window rank is live dynamic course)
 
     by_flavor : (b : Bool) → is_same_flavor window.flavor Dynamic ≡ b →
         cond b (is_unattached known window.win t.target (address_of known window t) (bytes_of t))
-            (passes_end (part_reached known window t) t.disp (bytes_of t)) ≡ false → Inside
+        (passes_end (part_reached known window t) t.disp (bytes_of t)) ≡ false → Inside
     by_flavor true dynamic e = by_target t.target refl dynamic e
         (issue_has_target known t t.target refl (subst HasIssue (sym course) tt))
     by_flavor false dynamic e =
         ends_if (bytes_at memory (rank_reached known.rank t.target)) (part_reached known window t) t
-            (room.parts (rank_reached known.rank t.target)) e
+        (room.parts (rank_reached known.rank t.target)) e
 
 -- the access of a transfer whose look-up found all its bytes attached lies in memory
 pub looked_up_lies : (memory : Layout) (known : RankWindows) (t : Transfer) (window : Window) (ranges : List Range) →
     IsRoomyWindow memory window →
     is_same_flavor window.flavor Dynamic ≡ true → HasRightPlace known window t →
     AllByRecursion (λ (range : Range). range.base + range.bytes ≤ bytes_at memory (rank_reached known.rank t.target))
-        ranges →
+    ranges →
     covers ranges (natural t.disp) (bytes_of t) ≡ true → LiesInMemory memory (access_on known t window) t.dtype
 looked_up_lies memory known t window ranges room dynamic right fit covered = record {
   inside = λ address low high. covered_is_inside (bytes_at memory (rank_reached known.rank t.target)) ranges

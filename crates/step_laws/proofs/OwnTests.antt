@@ -97,16 +97,16 @@ pub windows_allow : (known : Knowledge) (call : Call) → own_class known call �
 windows_allow known call e =
     (least_none (window_class known.windows (action_of call))
     (least_class (epoch_class known.windows.ranks known.epochs (action_of call))
-        (request_class known.requests (action_of call))) e).0
+    (request_class known.requests (action_of call))) e).0
 
 pub epochs_allow : (known : Knowledge) (call : Call) → own_class known call ≡ None →
     epoch_class known.windows.ranks known.epochs (action_of call) ≡ None
 epochs_allow known call e =
     (least_none (epoch_class known.windows.ranks known.epochs (action_of call))
-        (request_class known.requests (action_of call))
+    (request_class known.requests (action_of call))
     (least_none (window_class known.windows (action_of call))
     (least_class (epoch_class known.windows.ranks known.epochs (action_of call))
-        (request_class known.requests (action_of call))) e).1).0
+    (request_class known.requests (action_of call))) e).1).0
 
 -- where no test applies, the first does not, nor do the others
 pub first_passed : (applies : Bool) (class : Class) (rest : List Test) →
@@ -128,7 +128,7 @@ transfer_passed known t e = by_window (window_of_name known t.win) refl e
     by_window : (o : Option Window) → window_of_name known t.win ≡ o →
         first_class (option_map_or (λ (window : Window). place_tests known window t) o ((true, Win) ∷ [])) ≡ None →
         (window : Window) × (window_of_name known t.win ≡ Some window) ×
-            (first_class (place_tests known window t) ≡ None)
+        (first_class (place_tests known window t) ≡ None)
     by_window None live h = absurd (cc h)
     by_window (Some window) live h = (window, live, h)
 
@@ -136,8 +136,8 @@ transfer_passed known t e = by_window (window_of_name known t.win) refl e
 pub allowed_has_access : (known : Knowledge) (call : Call) (t : Transfer) → transfer_of call ≡ Some t →
     own_class known call ≡ None →
     (window : Window) × (window_of_name known.windows t.win ≡ Some window) ×
-        (access_of known.windows call ≡ Some (access_on known.windows t window))
+    (access_of known.windows call ≡ Some (access_on known.windows t window))
 allowed_has_access known call t moves allowed =
     let passed = transfer_passed known.windows t
-        (subst (λ a. window_class known.windows a ≡ None) (moves_it call t moves) (windows_allow known call allowed)) in
+    (subst (λ a. window_class known.windows a ≡ None) (moves_it call t moves) (windows_allow known call allowed)) in
     (passed.0, passed.1, access_is known.windows call t passed.0 moves passed.1)

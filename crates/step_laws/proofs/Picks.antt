@@ -17,7 +17,7 @@ to_order : (P : ℕ → Type 0) (order : Order) (last ranks : ℕ) → AllByRecu
 to_order P Robin last ranks h =
     let all = numbers_from 0 ranks in
     each_append P (drop (last + 1) all) (take (last + 1) all) (each_drop P (last + 1) all h)
-        (each_take P (last + 1) all h)
+    (each_take P (last + 1) all h)
 to_order P Reverse last ranks h =
     let all = numbers_from 0 ranks in
     each_append P (reverse (take last all)) (reverse (drop last all))
@@ -30,7 +30,7 @@ of_order : (P : ℕ → Type 0) (order : Order) (last ranks : ℕ) → AllByRecu
 of_order P Robin last ranks h =
     let all = numbers_from 0 ranks in
     each_of_parts P (last + 1) all (each_back P (drop (last + 1) all) (take (last + 1) all) h)
-        (each_front P (drop (last + 1) all) (take (last + 1) all) h)
+    (each_front P (drop (last + 1) all) (take (last + 1) all) h)
 of_order P Reverse last ranks h =
     let all = numbers_from 0 ranks in
     each_of_parts P last all
@@ -69,16 +69,16 @@ among_is : (P : ℕ → Type 0) (order : Order) (schedule : Schedule) (ranks : L
 among_is P order schedule [] next all e = absurd (cc e)
 among_is P Robin schedule (rank ∷ ranks) next all e =
     let is : (rank, turn_of schedule rank) ≡ next = cc e in subst (λ (n : ℕ × Schedule). IsPickOf P schedule n) is
-        (all.0, refl)
+    (all.0, refl)
 among_is P Reverse schedule (rank ∷ ranks) next all e =
     let is : (rank, turn_of schedule rank) ≡ next = cc e in subst (λ (n : ℕ × Schedule). IsPickOf P schedule n) is
-        (all.0, refl)
+    (all.0, refl)
 among_is P Greedy schedule (rank ∷ ranks) next all e =
     let is : (rank, turn_of schedule rank) ≡ next = cc e in subst (λ (n : ℕ × Schedule). IsPickOf P schedule n) is
-        (all.0, refl)
+    (all.0, refl)
 among_is P Seeded schedule (rank ∷ ranks) next all e =
     drawn_is P schedule (with_draw schedule) (rank ∷ ranks)
-        (drawn_from (with_draw schedule).draws % length (rank ∷ ranks)) next refl all e
+    (drawn_from (with_draw schedule).draws % length (rank ∷ ranks)) next refl all e
 
 -- one is picked where there are some
 some_get : {X : Type 0} (xs : List X) (i : ℕ) → i < length xs → slice_get xs i ≡ None → ⊥
@@ -105,7 +105,7 @@ none_among Greedy schedule (rank ∷ ranks) e = absurd (cc e)
 none_among Seeded schedule (rank ∷ ranks) e =
     let at = drawn_from (with_draw schedule).draws in
     absurd (none_drawn (with_draw schedule) (rank ∷ ranks) (at % length (rank ∷ ranks))
-        (mod_below at (length (rank ∷ ranks)) (omega arith)) e)
+    (mod_below at (length (rank ∷ ranks)) (omega arith)) e)
 
 -- ---- picks
 
@@ -121,7 +121,7 @@ pick_is order ready ranks schedule next e =
     among_is (MayGo ready ranks) order schedule (filter ready (in_order order schedule.last ranks)) next
     (each_filter (λ rank. rank < ranks) ready (in_order order schedule.last ranks)
     (to_order (λ rank. rank < ranks) order schedule.last ranks
-        (subst (λ m. AllByRecursion (λ n. n < m) (numbers_from 0 ranks)) (omega arith) (numbers_below 0 ranks)))) e
+    (subst (λ m. AllByRecursion (λ n. n < m) (numbers_from 0 ranks)) (omega arith) (numbers_below 0 ranks)))) e
 
 -- where none is picked none may have a turn
 pub none_may_go : (order : Order) (ready : ℕ → Bool) (ranks : ℕ) (schedule : Schedule) →
@@ -129,6 +129,6 @@ pub none_may_go : (order : Order) (ready : ℕ → Bool) (ranks : ℕ) (schedule
     (rank : ℕ) → rank < ranks → ready rank ≡ false
 none_may_go order ready ranks schedule e rank inside =
     let none = none_filter ready (in_order order schedule.last ranks)
-        (none_among order schedule (filter ready (in_order order schedule.last ranks)) e) in
+    (none_among order schedule (filter ready (in_order order schedule.last ranks)) e) in
     number_among (λ n. ready n ≡ false) 0 ranks rank (of_order (λ n. ready n ≡ false) order schedule.last ranks none)
-        (omega arith) (omega arith)
+    (omega arith) (omega arith)

@@ -78,7 +78,7 @@ flavors_push script rows row formed regular sound allowed window = subst
             (same_as_new script rows row creation regular e makes (small_names script formed row sound creation makes)
             (arrive_is row.step (and_first (is_arrive row.step) (is_creation row.call) e)) allowed))
             (λ _ _ other makes'. let same : other ≡ creation = cc (makes, makes') in ap (λ (c : Creation). c.flavor)
-                same)
+            same)
           where
             and_first : (a b : Bool) → (a && b) ≡ true → a ≡ true
             and_first true b h = refl
@@ -123,7 +123,7 @@ pub record IsSoundRank (script : Script) (delay : Delay) (rank : ℕ) (agent : A
   pub looked : agent.entered ≡ true → (call : Call) → next_call (stage_of script delay) agent ≡ Some call →
       (t : Transfer) → transfer_of call ≡ Some t →
       (window : Window) → window_of_name agent.known.windows t.win ≡ Some window →
-          LiesInMemory (layout script) (access_on agent.known.windows t window) t.dtype
+      LiesInMemory (layout script) (access_on agent.known.windows t window) t.dtype
   pub pending : ArePendingInside script rank agent
 
 -- ---- an entry of another rank
@@ -163,7 +163,7 @@ other_push script delay rank agent rows row apart sound = record {
   roomy = sound.roomy;
   numbers = λ win. no_more_creations rows row rank win
       (and_left (row.rank == rank && begins_window row) (names_window win row.call)
-          (and_left (row.rank == rank) (begins_window row) (ne_eqb row.rank rank apart))) ∙ sound.numbers win;
+      (and_left (row.rank == rank) (begins_window row) (ne_eqb row.rank rank apart))) ∙ sound.numbers win;
   arrived = λ e call here creation makes. still_arrived agent.known.windows rows row call creation
       (sound.arrived e call here creation makes);
   looked = sound.looked;
@@ -198,7 +198,7 @@ windows_stay_roomy memory shapes known (Creates creation) fit by_address room ro
       (range_made creation.flavor creation.win (part_at (shapes (next_number known.created creation.win)) known.rank))
       roomy.ranges
       (range_fits memory known.rank creation.win creation.flavor _
-          (fit (next_number known.created creation.win) known.rank));
+      (fit (next_number known.created creation.win) known.rank));
 }
 windows_stay_roomy memory shapes known (Frees win) fit by_address room roomy = record {
   windows = each_kept (IsRoomyWindow memory) (λ (window : Window). not (window.win == win)) known.windows roomy.windows;

@@ -74,7 +74,7 @@ pushed_at : (script : Script) (delay : Delay) (rank : ℕ) (first : List Row) (a
     (call : Call) (step : Step) → IsWellFormed script → rank < script.ranks →
     IsSoundAt script delay rank first agent rows → IsAllowedEntry (stage_of script delay) agent rows call step →
     IsSoundRank script delay rank next (with_row agent rows call step) → HasBegun (stage_of script delay) next →
-        IsSoundAt script delay rank first next (with_row agent rows call step)
+    IsSoundAt script delay rank first next (with_row agent rows call step)
 pushed_at script delay rank first agent next rows call step formed inside at entry sound begun = record {
   sound = sound;
   regular = regular_push script rows (next_row agent call step) formed at.regular
@@ -105,7 +105,7 @@ count_made call true win e = by_creation (creation_of call) refl
 
     by_creation : (o : Option Creation) → creation_of call ≡ o →
         cond (true && is_some o && names_window win call) 1 0 ≡ count_by (λ name. name == win)
-            (option_map_or (λ (creation : Creation). creation.win ∷ []) o [])
+        (option_map_or (λ (creation : Creation). creation.win ∷ []) o [])
     by_creation None none = refl
     by_creation (Some creation) makes = ap (λ b. cond b 1 0) (names_it call creation win makes) ∙ one creation
 
@@ -118,27 +118,27 @@ no_begin false y z = refl
 arrives_sound : (script : Script) (delay : Delay) (rank : ℕ) (agent : Agent) (rows : List Row) (call : Call) →
     IsSoundRank script delay rank agent rows →
     IsAllowedEntry (stage_of script delay) agent rows call Arrive → agent.entered ≡ false →
-        course_of agent.known.windows call ≡ ArriveAndLeave →
+    course_of agent.known.windows call ≡ ArriveAndLeave →
     IsSoundRank script delay rank (opened (with_entry (stage_of script delay) agent rows call Arrive))
-        (with_row agent rows call Arrive)
+    (with_row agent rows call Arrive)
 arrives_sound script delay rank agent rows call sound entry new course =
     subst (λ (k : Knowledge). IsSoundRank script delay rank (record next { known = k }) now)
-        (sym (known_stays stage agent rows call Arrive entry.here refl)) (record {
+    (sym (known_stays stage agent rows call Arrive entry.here refl)) (record {
       mine = sound.mine;
       whose = sound.whose;
       space = sound.space;
       roomy = sound.roomy;
       numbers = λ win. creations_push rows row rank win
           ∙ sums (creations rows rank win) (count_by (λ name. name == win) agent.known.windows.created)
-              (cond (begins_by rank win row) 1 0) (count_by (λ name. name == win) (name_made call))
+          (cond (begins_by rank win row) 1 0) (count_by (λ name. name == win) (name_made call))
           (old win) (count_made call (agent.rank == rank) win (eq-eqb agent.rank rank sound.mine))
           ∙ sym (count_names win agent.known.windows.created (name_made call))
           ∙ ap (λ o. count_by (λ name. name == win) (agent.known.windows.created ++ begun_names true o))
-              (sym entry.here);
+          (sym entry.here);
       arrived = λ e other here creation makes.
           let same : call ≡ other = cc (entry.here, here) in
           subst (λ c. HasArrived agent.known.windows now c creation) same
-              (has_arrived creation (ap creation_of same ∙ makes));
+          (has_arrived creation (ap creation_of same ∙ makes));
       looked = λ e other here t moves window live.
           let same : call ≡ other = cc (entry.here, here) in
           absurd (collective_moves_none agent.known.windows call t course (ap transfer_of same ∙ moves));
@@ -186,13 +186,13 @@ arrives_sound script delay rank agent rows call sound entry new course =
 looks_sound : (script : Script) (delay : Delay) (rank : ℕ) (agent : Agent) (rows : List Row) (call : Call) →
     AreRegular script rows → IsSoundRank script delay rank agent rows →
     IsAllowedEntry (stage_of script delay) agent rows call One → agent.entered ≡ false →
-        course_of agent.known.windows call ≡ LookUpAndIssue →
+    course_of agent.known.windows call ≡ LookUpAndIssue →
     IsSoundRank script delay rank (opened (with_entry (stage_of script delay) agent rows call One))
-        (with_row agent rows call One)
+    (with_row agent rows call One)
 looks_sound script delay rank agent rows call regular sound entry new course =
     subst (λ (k : Knowledge). IsSoundRank script delay rank (record next { known = k }) now)
-        (sym (known_stays stage agent rows call One entry.here (look_up_opens agent.known.windows call course)))
-        (record {
+    (sym (known_stays stage agent rows call One entry.here (look_up_opens agent.known.windows call course)))
+    (record {
       mine = sound.mine;
       whose = sound.whose;
       space = sound.space;
@@ -200,15 +200,15 @@ looks_sound script delay rank agent rows call regular sound entry new course =
       numbers = λ win. no_more_creations rows row rank win
           (no_begin (agent.rank == rank) (is_creation call) (names_window win call)) ∙ sound.numbers win
           ∙ ap (λ b. count_by (λ name. name == win)
-              (agent.known.windows.created ++ begun_names b (next_call stage agent))) new
+          (agent.known.windows.created ++ begun_names b (next_call stage agent))) new
           ∙ ap (λ l. count_by (λ name. name == win) (agent.known.windows.created ++ l))
-              (sym (ap (begun_names true) entry.here ∙ no_name));
+          (sym (ap (begun_names true) entry.here ∙ no_name));
       arrived = λ e other here creation makes.
           let same : call ≡ other = cc (entry.here, here) in absurd (cc (sym none ∙ ap creation_of same ∙ makes));
       looked = λ e other here other_t moves window live.
           let same : call ≡ other = cc (entry.here, here) in
           look_up_lies script delay rank agent rows call other_t regular sound entry course
-              (ap transfer_of same ∙ moves) window live;
+          (ap transfer_of same ∙ moves) window live;
       pending = sound.pending;
     })
   where
@@ -237,16 +237,16 @@ looks_sound script delay rank agent rows call regular sound entry new course =
 closes_sound : (script : Script) (delay : Delay) (rank : ℕ) (agent : Agent) (rows : List Row) (call : Call)
     (step : Step) → IsWellFormed script → rank < script.ranks →
     AreRegular script (with_row agent rows call step) → IsSoundRank script delay rank agent rows →
-        IsAllowedEntry (stage_of script delay) agent rows call step → ends_call step call ≡ true →
+    IsAllowedEntry (stage_of script delay) agent rows call step → ends_call step call ≡ true →
     is_arrive step ≡ false → MakesByAddress (shapes_in (stage_of script delay) (with_row agent rows call step))
-        agent.known.windows (action_of call) →
+    agent.known.windows (action_of call) →
     names_so_far (stage_of script delay) agent ≡ agent.known.windows.created ++ name_made call →
     IsSoundRank script delay rank (finished (with_entry (stage_of script delay) agent rows call step))
-        (with_row agent rows call step)
+    (with_row agent rows call step)
 closes_sound script delay rank agent rows call step formed inside regular sound entry ends no_arrive by_address names =
     subst (λ (k : Knowledge). IsSoundRank script delay rank (record next { known = k }) now)
     (sym (learns_call shapes (calls_at stage agent.rank) agent.known agent.at (length rows) step call entry.here
-        ends)) (record {
+    ends)) (record {
       mine = sound.mine;
       whose = rank_stays shapes known (action_of call) ∙ sound.whose;
       space = subst (λ n. n ≤ bytes_at (layout script) rank) (sym (space_stays shapes known (action_of call)))
@@ -257,11 +257,11 @@ closes_sound script delay rank agent rows call step formed inside regular sound 
           (own_row_sound script delay rank agent rows call step inside sound entry).room) sound.roomy;
       numbers = λ win. no_more_creations rows row rank win
           (ap (λ b. agent.rank == rank && (b && is_creation call) && names_window win call) no_arrive ∙ no_begin
-              (agent.rank == rank) (is_creation call) (names_window win call))
+          (agent.rank == rank) (is_creation call) (names_window win call))
           ∙ sound.numbers win
           ∙ ap (count_by (λ name. name == win))
-              (names ∙ sym (created_grows shapes known call) ∙ sym
-              (append-nil (windows_after shapes known (action_of call)).created));
+          (names ∙ sym (created_grows shapes known call) ∙ sym
+          (append-nil (windows_after shapes known (action_of call)).created));
       arrived = λ e. absurd (cc e);
       looked = λ e. absurd (cc e);
       pending = sound.pending;
@@ -292,22 +292,22 @@ closes_sound script delay rank agent rows call step formed inside regular sound 
 leaves_by_address : (script : Script) (delay : Delay) (rank : ℕ) (agent : Agent) (rows : List Row) (call : Call) →
     AreRegular script (with_row agent rows call Leave) →
     IsSoundRank script delay rank agent rows → IsAllowedEntry (stage_of script delay) agent rows call Leave →
-        agent.entered ≡ true →
+    agent.entered ≡ true →
     MakesByAddress (shapes_in (stage_of script delay) (with_row agent rows call Leave)) agent.known.windows
-        (action_of call)
+    (action_of call)
 leaves_by_address script delay rank agent rows call regular sound entry begun creation is dynamic rank' =
     let now = with_row agent rows call Leave in
     let makes : creation_of call ≡ Some creation = ap creation_in is in
     let here = still_arrived agent.known.windows rows (next_row agent call Leave) call creation
-        (sound.arrived begun call entry.here creation makes) in
+    (sound.arrived begun call entry.here creation makes) in
     let number = next_number agent.known.windows.created creation.win in
     let flavor = regular.flavors number in
     let made : creation.flavor ≡ flavor.0 =
     each_get (MakesWith flavor.0 number) (acts now) here.place here.act flavor.1 here.there here.begins here.number
-        creation (ap creation_of here.same ∙ makes) in
+    creation (ap creation_of here.same ∙ makes) in
     parts_by_address script now number
-        (subst (λ f. AllByRecursion (MakesWith f number) (acts now))
-        (sym made ∙ is_dynamic_flavor creation.flavor dynamic) flavor.1) rank'
+    (subst (λ f. AllByRecursion (MakesWith f number) (acts now))
+    (sym made ∙ is_dynamic_flavor creation.flavor dynamic) flavor.1) rank'
   where
     is_dynamic_flavor : (f : Flavor) → is_same_flavor f Dynamic ≡ true → f ≡ Dynamic
     is_dynamic_flavor f e = same_flavor f Dynamic e
@@ -317,14 +317,14 @@ entered_names : (stage : Stage) (agent : Agent) (call : Call) → agent.entered 
     names_so_far stage agent ≡ agent.known.windows.created ++ name_made call
 entered_names stage agent call begun here =
     ap (λ b. agent.known.windows.created ++ begun_names b (next_call stage agent)) begun ∙ ap
-        (λ o. agent.known.windows.created ++ begun_names true o) here
+    (λ o. agent.known.windows.created ++ begun_names true o) here
 
 new_names : (stage : Stage) (agent : Agent) (call : Call) → agent.entered ≡ false →
     IsOneEntry (course_of agent.known.windows call) →
     names_so_far stage agent ≡ agent.known.windows.created ++ name_made call
 new_names stage agent call new one =
     ap (λ b. agent.known.windows.created ++ begun_names b (next_call stage agent)) new ∙ ap
-        (λ l. agent.known.windows.created ++ l) (sym (by_creation (creation_of call) refl))
+    (λ l. agent.known.windows.created ++ l) (sym (by_creation (creation_of call) refl))
   where
     by_creation : (o : Option Creation) → creation_of call ≡ o →
         option_map_or (λ (creation : Creation). creation.win ∷ []) o [] ≡ []
@@ -335,11 +335,11 @@ new_names stage agent call new one =
 turned_away_sound : (script : Script) (delay : Delay) (rank : ℕ) (agent : Agent) (rows : List Row) (item : Item)
     (shapes : ℕ → List Part) → IsSoundRank script delay rank agent rows →
     agent.entered ≡ false → IsTurnedAway agent rows item → IsSoundRank script delay rank
-        (finished (kept shapes (stage_of script delay) agent item)) rows
+    (finished (kept shapes (stage_of script delay) agent item)) rows
 turned_away_sound script delay rank agent rows item shapes sound new away =
     subst (λ (k : Knowledge). IsSoundRank script delay rank
-        (record (finished (kept shapes (stage_of script delay) agent item)) { known = k }) rows) (sym (same away))
-        (record {
+    (record (finished (kept shapes (stage_of script delay) agent item)) { known = k }) rows) (sym (same away))
+    (record {
       mine = sound.mine;
       whose = sound.whose;
       space = sound.space;
@@ -360,7 +360,7 @@ turned_away_sound script delay rank agent rows item shapes sound new away =
 pub entry_keeps : (script : Script) (delay : Delay) (rank : ℕ) (first : List Row) → IsWellFormed script →
     rank < script.ranks → (agent next : Agent) (rows now : List Row) →
     IsSoundAt script delay rank first agent rows → EntryMove (stage_of script delay) agent rows next now →
-        IsSoundAt script delay rank first next now
+    IsSoundAt script delay rank first next now
 entry_keeps script delay rank first formed inside agent next rows now at (TurnsAway call item here new away is still) =
     let stage = stage_of script delay in
     subst (λ r. IsSoundAt script delay rank first next r) (sym still) (record {
@@ -372,34 +372,34 @@ entry_keeps script delay rank first formed inside agent next rows now at (TurnsA
     })
 entry_keeps script delay rank first formed inside agent next rows now at (Arrives call entry new course is more) =
     subst (λ r. IsSoundAt script delay rank first next r) (sym more)
-        (pushed_at script delay rank first agent next rows call Arrive formed inside at entry
+    (pushed_at script delay rank first agent next rows call Arrive formed inside at entry
     (subst (λ a. IsSoundRank script delay rank a (with_row agent rows call Arrive)) (sym is)
-        (arrives_sound script delay rank agent rows call at.sound entry new course))
+    (arrives_sound script delay rank agent rows call at.sound entry new course))
     (begun_kept (stage_of script delay) agent next rows now (Arrives call entry new course is more)))
 entry_keeps script delay rank first formed inside agent next rows now at (LooksUp call entry new course is more) =
     subst (λ r. IsSoundAt script delay rank first next r) (sym more)
-        (pushed_at script delay rank first agent next rows call One formed inside at entry
+    (pushed_at script delay rank first agent next rows call One formed inside at entry
     (subst (λ a. IsSoundRank script delay rank a (with_row agent rows call One)) (sym is)
-        (looks_sound script delay rank agent rows call at.regular at.sound entry new course))
+    (looks_sound script delay rank agent rows call at.regular at.sound entry new course))
     (begun_kept (stage_of script delay) agent next rows now (LooksUp call entry new course is more)))
 entry_keeps script delay rank first formed inside agent next rows now at (Leaves call entry begun course is more) =
     let regular = regular_push script rows (next_row agent call Leave) formed at.regular
-        (own_row_sound script delay rank agent rows call Leave inside at.sound entry) entry.allowed in
+    (own_row_sound script delay rank agent rows call Leave inside at.sound entry) entry.allowed in
     subst (λ r. IsSoundAt script delay rank first next r) (sym more)
-        (pushed_at script delay rank first agent next rows call Leave formed inside at entry
+    (pushed_at script delay rank first agent next rows call Leave formed inside at entry
     (subst (λ a. IsSoundRank script delay rank a (with_row agent rows call Leave)) (sym is)
     (closes_sound script delay rank agent rows call Leave formed inside regular at.sound entry refl refl
-        (leaves_by_address script delay rank agent rows call regular at.sound entry begun)
+    (leaves_by_address script delay rank agent rows call regular at.sound entry begun)
     (entered_names (stage_of script delay) agent call begun entry.here)))
     (begun_kept (stage_of script delay) agent next rows now (Leaves call entry begun course is more)))
 entry_keeps script delay rank first formed inside agent next rows now at (EntersOnce call entry new one is more) =
     let regular = regular_push script rows (next_row agent call One) formed at.regular
-        (own_row_sound script delay rank agent rows call One inside at.sound entry) entry.allowed in
+    (own_row_sound script delay rank agent rows call One inside at.sound entry) entry.allowed in
     subst (λ r. IsSoundAt script delay rank first next r) (sym more)
-        (pushed_at script delay rank first agent next rows call One formed inside at entry
+    (pushed_at script delay rank first agent next rows call One formed inside at entry
     (subst (λ a. IsSoundRank script delay rank a (with_row agent rows call One)) (sym is)
     (closes_sound script delay rank agent rows call One formed inside regular at.sound entry
-        (one_entry_moves_none agent.known.windows call one) refl
+    (one_entry_moves_none agent.known.windows call one) refl
     (λ creation made. absurd (one_entry_makes_none agent.known.windows call creation one made))
-        (new_names (stage_of script delay) agent call new one)))
+    (new_names (stage_of script delay) agent call new one)))
     (begun_kept (stage_of script delay) agent next rows now (EntersOnce call entry new one is more)))

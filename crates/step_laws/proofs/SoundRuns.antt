@@ -47,7 +47,7 @@ sound_at_board script delay formed world rank may tries sound = record {
   each = λ other below. each_set_apart (λ r (a : Agent). r < script.ranks → IsSoundRank script delay r a step.rows)
       world.agents (new_agent stage 0) rank step.agent
       (subst (λ n. rank < n) (sym sound.ranks.ranks) may.0) (λ _. after.sound)
-          (λ r apart below'. after.others r (agent_at stage world r) apart (sound.each r below')) other below;
+      (λ r apart below'. after.others r (agent_at stage world r) apart (sound.each r below')) other below;
 }
   where
     stage : Stage
@@ -63,8 +63,13 @@ sound_at_board script delay formed world rank may tries sound = record {
     after = moves_keep stage (IsSoundAt script delay rank world.rows)
         (λ a next rows now at move. entry_keeps script delay rank world.rows formed may.0 a next rows now at move)
         agent step.agent world.rows step.rows
-        (record { sound = sound.each rank may.0; regular = sound.rows; begun = sound.ranks.begun rank; others =
-            λ other a apart old. old })
+        (record {
+          sound = sound.each rank may.0;
+          regular = sound.rows;
+          begun = sound.ranks.begun rank;
+          others =
+              λ other a apart old. old;
+        })
         (board_step_moves stage agent world.rows (sound.ranks.begun rank) tries)
 
 sound_on_memory : (script : Script) (delay : Delay) → KeptOnMemory (stage_of script delay) (IsSoundWorld script delay)
@@ -79,8 +84,8 @@ sound_on_memory script delay world rank may tries sound =
           (λ r (a : Agent). r < script.ranks → IsSoundRank script delay r a world.rows) world.agents
           (new_agent stage 0) rank next
           (subst (λ n. rank < n) (sym sound.ranks.ranks) may.0)
-              (λ _. step_sound script delay rank agent world.rows world.cells (sound.each rank may.0))
-              (λ r apart below'. sound.each r below') other below;
+          (λ _. step_sound script delay rank agent world.rows world.cells (sound.each rank may.0))
+          (λ r apart below'. sound.each r below') other below;
     }
 
 new_sound : (script : Script) (delay : Delay) → IsWellFormed script → (rank some : ℕ) → rank < script.ranks →
@@ -114,15 +119,17 @@ run_is_sound script order delay seed turns formed =
     let stage = stage_of script delay in
     run_keeps stage order (IsSoundWorld script delay) (sound_picks script delay)
     (turns_kept stage (IsSoundWorld script delay) (sound_at_board script delay formed) (sound_on_memory script delay))
-        turns (first_world stage order seed)
+    turns (first_world stage order seed)
     (first_is_sound script order delay seed formed)
 
 pub accesses_lie : AccessesLieInMemory
 accesses_lie script order delay seed turns rank formed below =
     let world = world_after script order delay seed turns in
-    let sound = (run_is_sound script order delay seed turns formed).each rank below in
-    (sound.pending, λ tries.
-        (move_sound script delay rank (agent_at (stage_of script delay) world rank) world.rows sound).pending)
+    let sound = (run_is_sound script order delay seed turns formed).each rank below in (
+      sound.pending,
+      λ tries.
+          (move_sound script delay rank (agent_at (stage_of script delay) world rank) world.rows sound).pending,
+    )
 
 pub numbers_agree : WindowNumbersAgree
 numbers_agree script order delay seed turns rank win formed below =

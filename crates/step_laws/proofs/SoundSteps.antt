@@ -44,7 +44,7 @@ pub record LeavesWindows (known : RankWindows) (call : Call) : Type 0 where
 
 action_leaves : (known : RankWindows) (a : Action) → has_entry (course_of_action known a) ≡ false →
     (windows_after no_shapes known a ≡ known) ×
-        (option_map_or (λ (creation : Creation). creation.win ∷ []) (creation_in a) [] ≡ [])
+    (option_map_or (λ (creation : Creation). creation.win ∷ []) (creation_in a) [] ≡ [])
 action_leaves known (Creates creation) e = absurd (cc e)
 action_leaves known (Frees win) e = absurd (cc e)
 action_leaves known (Attaches win base bytes) e = absurd (cc e)
@@ -75,7 +75,7 @@ learnt_windows calls known number call here same =
 finished_sound : (script : Script) (delay : Delay) (rank : ℕ) (agent next : Agent) (rows : List Row) →
     IsSoundRank script delay rank agent rows → next.rank ≡ agent.rank →
     next.known.windows ≡ agent.known.windows → next.entered ≡ false →
-        begun_names agent.entered (next_call (stage_of script delay) agent) ≡ [] →
+    begun_names agent.entered (next_call (stage_of script delay) agent) ≡ [] →
     ArePendingInside script rank next → IsSoundRank script delay rank next rows
 finished_sound script delay rank agent next rows sound mine windows new none pending = record {
   mine = mine ∙ sound.mine;
@@ -84,9 +84,9 @@ finished_sound script delay rank agent next rows sound mine windows new none pen
   roomy = subst (AreRoomy (layout script)) (sym windows) sound.roomy;
   numbers = λ win. sound.numbers win
       ∙ ap (λ l. count_by (λ name. name == win) (agent.known.windows.created ++ l))
-          (none ∙ ap (λ b. begun_names b (next_call (stage_of script delay) next)) (sym new))
+      (none ∙ ap (λ b. begun_names b (next_call (stage_of script delay) next)) (sym new))
       ∙ ap (λ (k : RankWindows). count_by (λ name. name == win)
-          (k.created ++ begun_names next.entered (next_call (stage_of script delay) next))) (sym windows);
+      (k.created ++ begun_names next.entered (next_call (stage_of script delay) next))) (sym windows);
   arrived = λ e. absurd (cc (e, new));
   looked = λ e. absurd (cc (e, new));
   pending = pending;
@@ -115,7 +115,7 @@ issued_pending : (script : Script) (rank : ℕ) (agent : Agent) (access : Access
     AllByRecursion (IsPendingInside script rank) (agent.pending ++ made_pending (one_pending agent access t))
 issued_pending script rank agent access t old new =
     each_append (IsPendingInside script rank) agent.pending (made_pending (one_pending agent access t)) old
-        (by_test (nat_lt 0 access.len))
+    (by_test (nat_lt 0 access.len))
   where
     by_test : (b : Bool) → AllByRecursion (IsPendingInside script rank) (cond b (one_pending agent access t ∷ []) [])
     by_test true = (new, tt)
@@ -132,7 +132,7 @@ IssueLies script agent call = (t : Transfer) → transfer_of call ≡ Some t →
 issue_sound : (script : Script) (delay : Delay) (rank : ℕ) (agent : Agent) (rows : List Row) (call : Call) →
     IsSoundRank script delay rank agent rows →
     next_call (stage_of script delay) agent ≡ Some call → IssueLies script agent call →
-        IsSoundRank script delay rank (issue (stage_of script delay) agent call).agent rows
+    IsSoundRank script delay rank (issue (stage_of script delay) agent call).agent rows
 issue_sound script delay rank agent rows call sound here lies = by_transfer (transfer_of call) refl
   where
     stage : Stage
@@ -148,15 +148,18 @@ issue_sound script delay rank agent rows call sound here lies = by_transfer (tra
         let left = transfer_leaves known call t moves in
         finished_sound script delay rank agent (with_issue stage agent (access_on known t window) t) rows sound refl
         (learnt_windows (calls_at stage agent.rank) agent.known agent.at call here left.windows) refl
-            (none_begun stage agent call here left.names)
-        (issued_pending script rank agent (access_on known t window) t sound.pending
-        (t, ap (λ r. transfer_at (calls_of script r) agent.at) (sym sound.mine) ∙ ap
-            (λ o. option_map_or transfer_of o None) here ∙ moves, lies t moves window live))
+        (none_begun stage agent call here left.names)
+        (issued_pending script rank agent (access_on known t window) t sound.pending (
+          t,
+          ap (λ r. transfer_at (calls_of script r) agent.at) (sym sound.mine) ∙ ap
+              (λ o. option_map_or transfer_of o None) here ∙ moves,
+          lies t moves window live,
+        ))
 
     by_window : (t : Transfer) → transfer_of call ≡ Some t → (o : Option Window) → window_of_name known t.win ≡ o →
         IsSoundRank script delay rank
-            (option_map_or (issue_of stage agent t) (option_map_or (λ window. Some (access_on known t window)) o None)
-            (without_delivery agent)).agent rows
+        (option_map_or (issue_of stage agent t) (option_map_or (λ window. Some (access_on known t window)) o None)
+        (without_delivery agent)).agent rows
     by_window t moves None live = sound
     by_window t moves (Some window) live = with_access t window moves live
 
@@ -166,12 +169,12 @@ issue_sound script delay rank agent rows call sound here lies = by_transfer (tra
 
     by_transfer : (o : Option Transfer) → transfer_of call ≡ o →
         IsSoundRank script delay rank
-            (option_map_or (λ t. option_map_or (issue_of stage agent t) (access_of known call)
-            (without_delivery agent)) o (without_delivery agent)).agent rows
+        (option_map_or (λ t. option_map_or (issue_of stage agent t) (access_of known call)
+        (without_delivery agent)) o (without_delivery agent)).agent rows
     by_transfer None e = sound
     by_transfer (Some t) e =
         subst (λ (o : Option Access). IsSoundRank script delay rank
-            (option_map_or (issue_of stage agent t) o (without_delivery agent)).agent rows) (sym (access_by t e))
+        (option_map_or (issue_of stage agent t) o (without_delivery agent)).agent rows) (sym (access_by t e))
         (by_window t e (window_of_name known t.win) refl)
 
 -- an Issue without a look-up
@@ -183,13 +186,13 @@ direct_lies script delay rank agent rows call sound own course t moves window li
     let is = moves_it call t moves in
     let direct : course_of_transfer known t ≡ OneIssue = subst (λ a. course_of_action known a ≡ OneIssue) is course in
     let passed = transfer_passed known t
-        (subst (λ a. window_class known a ≡ None) is (windows_allow agent.known call own)) in
+    (subst (λ a. window_class known a ≡ None) is (windows_allow agent.known call own)) in
     let same : passed.0 ≡ window = cc (passed.1, live) in
     access_lies (layout script) known t window sound.roomy
     (found_is (IsRoomyWindow (layout script)) (λ (w : Window). w.win == t.win) known.windows window
-        sound.roomy.windows live).0 live direct
+    sound.roomy.windows live).0 live direct
     (right_place known agent.known.epochs window t (subst HasIssue (sym direct) tt)
-        (subst (λ a. epoch_class known.ranks agent.known.epochs a ≡ None) is (epochs_allow agent.known call own))
+    (subst (λ a. epoch_class known.ranks agent.known.epochs a ≡ None) is (epochs_allow agent.known call own))
     (subst (λ (w : Window). first_class (place_tests known w t) ≡ None) same passed.2))
 
 -- ---- a call that begins
@@ -200,29 +203,29 @@ item_sound : (script : Script) (delay : Delay) (rank : ℕ) (agent : Agent) (row
     IsSoundRank script delay rank (with_item (stage_of script delay) agent item) rows
 item_sound script delay rank agent rows call item sound new same =
     finished_sound script delay rank agent (with_item (stage_of script delay) agent item) rows sound refl same refl
-        (new_begun (stage_of script delay) agent new) sound.pending
+    (new_begun (stage_of script delay) agent new) sound.pending
 
 first_item_sound : (course : Course) (script : Script) (delay : Delay) (rank : ℕ) (agent : Agent) (rows : List Row)
     (call : Call) → IsSoundRank script delay rank agent rows →
     next_call (stage_of script delay) agent ≡ Some call → agent.entered ≡ false → own_class agent.known call ≡ None →
-        course_of agent.known.windows call ≡ course →
+    course_of agent.known.windows call ≡ course →
     IsSoundRank script delay rank (first_item course (stage_of script delay) agent call).agent rows
 first_item_sound OneNull script delay rank agent rows call sound here new own is =
     item_sound script delay rank agent rows call (Null agent.at) sound new
     (learnt_windows (calls_at (stage_of script delay) agent.rank) agent.known agent.at call here
-        (leaves agent.known.windows call (ap has_entry is)).windows)
+    (leaves agent.known.windows call (ap has_entry is)).windows)
 first_item_sound OneIssue script delay rank agent rows call sound here new own is =
     issue_sound script delay rank agent rows call sound here
-        (direct_lies script delay rank agent rows call sound own is)
+    (direct_lies script delay rank agent rows call sound own is)
 first_item_sound LookUpAndIssue script delay rank agent rows call sound here new own is = sound
 first_item_sound OneFlush script delay rank agent rows call sound here new own is =
     item_sound script delay rank agent rows call (Flush agent.at) sound new
     (learnt_windows (calls_at (stage_of script delay) agent.rank) agent.known agent.at call here
-        (leaves agent.known.windows call (ap has_entry is)).windows)
+    (leaves agent.known.windows call (ap has_entry is)).windows)
 first_item_sound OneRequest script delay rank agent rows call sound here new own is =
     item_sound script delay rank agent rows call (Request agent.at) sound new
     (learnt_windows (calls_at (stage_of script delay) agent.rank) agent.known agent.at call here
-        (leaves agent.known.windows call (ap has_entry is)).windows)
+    (leaves agent.known.windows call (ap has_entry is)).windows)
 first_item_sound ArriveAndLeave script delay rank agent rows call sound here new own is = sound
 first_item_sound EntryOrTested script delay rank agent rows call sound here new own is = sound
 first_item_sound OneEntry script delay rank agent rows call sound here new own is = sound
@@ -230,7 +233,7 @@ first_item_sound OneEntry script delay rank agent rows call sound here new own i
 begin_sound : (script : Script) (delay : Delay) (rank : ℕ) (agent : Agent) (rows : List Row) (call : Call) →
     IsSoundRank script delay rank agent rows →
     next_call (stage_of script delay) agent ≡ Some call → agent.entered ≡ false →
-        IsSoundRank script delay rank (begin (stage_of script delay) agent call).agent rows
+    IsSoundRank script delay rank (begin (stage_of script delay) agent call).agent rows
 begin_sound script delay rank agent rows call sound here new = by_draw (must_draw stage agent)
   where
     stage : Stage
@@ -323,7 +326,7 @@ delivery_sound script delay rank agent rows cells at sound = by_access (slice_ge
 
     by_transfer : (one : PendingAccess) (o : Option Transfer) →
         IsSoundRank script delay rank
-            (option_map_or (with_touches stage rest cells one) o (record { agent = rest; cells = cells })).agent rows
+        (option_map_or (with_touches stage rest cells one) o (record { agent = rest; cells = cells })).agent rows
     by_transfer one None = record {
       mine = sound.mine;
       whose = sound.whose;

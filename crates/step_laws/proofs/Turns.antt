@@ -59,7 +59,7 @@ run_keeps stage order P picks turns_keep (suc turns) world old =
           let is = pick_is order (is_ready stage world) stage.script.ranks world.schedule next e in
           run_keeps stage order P picks turns_keep turns (turn stage (with_schedule world next.1) next.0)
           (turns_keep (with_schedule world next.1) next.0 (picked_may_turn stage world next.1 next.0 is.1 is.0)
-              (picks world next.1 is.1 old))
+          (picks world next.1 is.1 old))
     ] in
     go (pick order (is_ready stage world) stage.script.ranks world.schedule) refl
 
@@ -110,9 +110,9 @@ regular_at_board stage world rank may tries regular =
       ranks = length-set world.agents rank step.agent ∙ regular.ranks;
       begun = each_set (λ _ (a : Agent). HasBegun stage a) world.agents (new_agent stage 0) rank step.agent
           (moves_keep stage (λ a rows. HasBegun stage a)
-              (λ a next rows now old move. begun_kept stage a next rows now move)
+          (λ a next rows now old move. begun_kept stage a next rows now move)
           agent step.agent world.rows step.rows (regular.begun rank)
-              (board_step_moves stage agent world.rows (regular.begun rank) tries)) regular.begun;
+          (board_step_moves stage agent world.rows (regular.begun rank) tries)) regular.begun;
     }
 
 pub regular_on_memory : (stage : Stage) → KeptOnMemory stage (IsRegular stage)
@@ -137,7 +137,7 @@ new_agents_at stage seed P each first (suc count) zero = subst (λ n. P n (new_a
     (each first seed)
 new_agents_at stage seed P each first (suc count) (suc at) =
     subst (λ n. P n (get_or (map (new_agent stage seed) (numbers_from (first + 1) count)) at (new_agent stage 0 n)))
-        (omega arith)
+    (omega arith)
     (new_agents_at stage seed P each (first + 1) count at)
 
 pub at_first : (stage : Stage) (order : Order) (seed : ℕ) (P : ℕ → Agent → Type 0) →
@@ -145,7 +145,7 @@ pub at_first : (stage : Stage) (order : Order) (seed : ℕ) (P : ℕ → Agent �
     P rank (agent_at stage (first_world stage order seed) rank)
 at_first stage order seed P each rank =
     subst (λ n. P n (get_or (first_world stage order seed).agents rank (new_agent stage 0 n))) (omega arith)
-        (new_agents_at stage seed P each 0 stage.script.ranks rank)
+    (new_agents_at stage seed P each 0 stage.script.ranks rank)
 
 pub first_is_regular : (stage : Stage) (order : Order) (seed : ℕ) → IsRegular stage (first_world stage order seed)
 first_is_regular stage order seed = record {

@@ -64,7 +64,7 @@ pub finished_falls : (stage : Stage) (agent next : Agent) (call : Call) → next
 finished_falls stage agent next call here is same =
     rw (is.rank, is.at, is.entered, is.drawn, is.ended, same)
     (finishing (length (calls_at stage agent.rank)) agent.at (length agent.pending) agent.entered agent.drawn
-        agent.ended (at_within stage agent call here))
+    agent.ended (at_within stage agent call here))
 
 -- a call that moves data has all its items
 pub issued_falls : (stage : Stage) (agent next : Agent) (call : Call) → next_call stage agent ≡ Some call →
@@ -73,18 +73,18 @@ pub issued_falls : (stage : Stage) (agent next : Agent) (call : Call) → next_c
 issued_falls stage agent next call here is few =
     rw (is.rank, is.at, is.entered, is.drawn, is.ended)
     (issuing (length (calls_at stage agent.rank)) agent.at (length agent.pending) (length next.pending) agent.entered
-        agent.drawn agent.ended (at_within stage agent call here) few)
+    agent.drawn agent.ended (at_within stage agent call here) few)
 
 -- a call begins
 pub opened_falls : (stage : Stage) (agent next : Agent) (call : Call) → next_call stage agent ≡ Some call →
     agent.entered ≡ false →
     next.rank ≡ agent.rank → next.at ≡ agent.at → next.entered ≡ true → next.pending ≡ agent.pending →
-        next.drawn ≡ agent.drawn → next.ended ≡ agent.ended →
+    next.drawn ≡ agent.drawn → next.ended ≡ agent.ended →
     FallsFar stage agent next
 opened_falls stage agent next call here new rank at entered pending drawn ended =
     rw (rank, at, entered, pending, drawn, ended, new)
     (opening (length (calls_at stage agent.rank)) agent.at (length agent.pending) agent.drawn agent.ended
-        (at_within stage agent call here))
+    (at_within stage agent call here))
 
 -- ---- deliveries
 
@@ -109,8 +109,10 @@ with_delivery_is stage agent cells at one = by_transfer (transfer_at (calls_at s
 
     by_transfer : (o : Option Transfer) → DeliversAt agent at
         (option_map_or (with_touches stage rest cells one) o (record { agent = rest; cells = cells })).agent
-    by_transfer None = (record { rank = refl; at = refl; entered = refl; drawn = refl; ended = refl; known = refl },
-        refl)
+    by_transfer None = (
+      record { rank = refl; at = refl; entered = refl; drawn = refl; ended = refl; known = refl },
+      refl,
+    )
     by_transfer (Some t) =
         (record { rank = refl; at = refl; entered = refl; drawn = refl; ended = refl; known = refl }, refl)
 
@@ -119,7 +121,7 @@ pub delivers_is : (stage : Stage) (agent : Agent) (cells : List Cell) (at : ℕ)
     DeliversAt agent at (deliver stage agent cells at).agent
 delivers_is stage agent cells at one here =
     subst (λ (o : Option PendingAccess). DeliversAt agent at
-        (option_map_or (with_delivery stage agent cells at) o (record { agent = agent; cells = cells })).agent)
+    (option_map_or (with_delivery stage agent cells at) o (record { agent = agent; cells = cells })).agent)
     (sym here) (with_delivery_is stage agent cells at one)
 
 delivered_weighs : (stage : Stage) (agent next : Agent) (at : ℕ) → at < length agent.pending →
@@ -129,7 +131,7 @@ delivered_weighs stage agent next at inside is =
     let same = ap length is.1 in
     rw (is.0.rank, is.0.at, is.0.entered, is.0.drawn, is.0.ended)
     (one_less (64 * (length (calls_at stage agent.rank) - agent.at) - cond agent.entered 32 0) (length next.pending)
-        (length agent.pending) (cond agent.drawn 0 1) (cond agent.ended 0 1)
+    (length agent.pending) (cond agent.drawn 0 1) (cond agent.ended 0 1)
     (ap (λ n. n + 1) same ∙ less))
   where
     one_less : (a p q c d : ℕ) → p + 1 ≡ q → a + p + c + d + 1 ≡ a + q + c + d
@@ -147,7 +149,7 @@ delivery_falls stage agent cells at inside =
     let one = some_within agent.pending at inside in
     below (weight_of stage (deliver stage agent cells at).agent) (weight_of stage agent)
     (delivered_weighs stage agent (deliver stage agent cells at).agent at inside
-        (delivers_is stage agent cells at one.0 one.1))
+    (delivers_is stage agent cells at one.0 one.1))
   where
     below : (a b : ℕ) → a + 1 ≡ b → a < b
     below a b e = omega arith
@@ -162,12 +164,12 @@ delivery_no_more stage agent cells at = by_access (slice_get agent.pending at) r
 
     by_access : (o : Option PendingAccess) → slice_get agent.pending at ≡ o →
         weight_of stage (option_map_or (with_delivery stage agent cells at) o
-            (record { agent = agent; cells = cells })).agent ≤ weight_of stage agent
+        (record { agent = agent; cells = cells })).agent ≤ weight_of stage agent
     by_access None e = omega arith
     by_access (Some one) e = not_above (weight_of stage (with_delivery stage agent cells at one).agent)
         (weight_of stage agent)
         (delivered_weighs stage agent (with_delivery stage agent cells at one).agent at
-            (slice_get_within agent.pending at one e) (with_delivery_is stage agent cells at one))
+        (slice_get_within agent.pending at one e) (with_delivery_is stage agent cells at one))
 
 -- ---- what a call waits for
 
@@ -215,4 +217,4 @@ awaited_within requests call (first ∷ rest) at e = by_position (position (must
     by_position (Some one) p h =
         let is : way (first ∷ rest) one ≡ at = cc h in
         subst (λ n. n < length (first ∷ rest)) is
-            (way_within (first ∷ rest) one (position-Some (must_wait requests call) (first ∷ rest) one first p).0)
+        (way_within (first ∷ rest) one (position-Some (must_wait requests call) (first ∷ rest) one first p).0)
