@@ -22,7 +22,7 @@ use Rattle.script_language.specs.Drafts.{no_lines, is_begun, is_in_repeat, may_s
 use Rattle.script_reader.specs.Sound.{IsSoundDraft, IsSoundLine}
 use Rattle.script_reader.proofs.Charging.{ok_from_if, both_true}
 use Rattle.script_reader.proofs.Growing.{length-added_to}
-use Rattle.script_reader.proofs.LineRanges.{bound, all_append}
+use Rattle.script_reader.proofs.TokenRanges.{bound, all_append}
 
 -- ---- the call of a line
 

@@ -1,8 +1,9 @@
 -- Lemmas on definitions, which the proofs of the reader cite.
-pub mod Cuts
-pub mod Charging
-pub mod LineRanges
-pub mod Growing
 pub mod Adding
+pub mod Charging
+pub mod Cuts
+pub mod Growing
 pub mod Keeping
+pub mod LineRanges
 pub mod TextLines
+pub mod TokenRanges

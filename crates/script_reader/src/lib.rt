@@ -11,6 +11,7 @@ mod integers;
 mod lexing;
 mod numerals;
 mod parses;
+mod places;
 mod readers;
 mod tokens;
 mod totals;

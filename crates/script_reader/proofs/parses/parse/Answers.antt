@@ -8,7 +8,7 @@ use Rattle.script_language.specs.Reading.{Reads, read, text_read}
 use Rattle.script_reader.specs.declared.errors.ReadError.{ReadError}
 use Rattle.script_reader.specs.declared.errors.ReadError.TheVariants.{Memory, Refused}
 use Rattle.script_reader.specs.Parsing.{IsFaultOf, StopsAt, fault_at, memory_fault}
-use Rattle.script_reader.proofs.LineRanges.{ok_same}
+use Rattle.script_reader.proofs.TokenRanges.{ok_same}
 use Rattle.script_reader.proofs.parses.parse.Goals as goal
 
 too_long : (text : List ℕ) → 1048576 < length text → read text ≡ Err (record { line = 0; kind = Limit })
