@@ -1,5 +1,5 @@
 -- The touches that an access asks for, from what is written of its call.
-use Rattle.std.proofs.Common.{◌≡◌, ℕ, zero, suc, ◌+◌, ◌-◌, ◌*◌, ◌/◌, ◌%◌, ◌<◌, ◌≤◌, ◌^◌, Bool, true, false, not, cond, List, [], ◌∷◌, ◌++◌, length, map, get_or, refl, sym, ap, ◌∙◌, subst, arith, Option, Some, None, IfSome, IsSome, IsTrue, IsSomeAnd}
+use Rattle.std.proofs.Common.{◌≡◌, ℕ, zero, suc, ◌+◌, ◌-◌, ◌*◌, ◌/◌, ◌%◌, ◌<◌, ◌≤◌, Bool, true, false, not, cond, List, [], ◌∷◌, ◌++◌, length, map, get_or, refl, ap, ◌∙◌, subst, arith, Option, Some, None, IfSome, IsSome, IsTrue, IsSomeAnd}
 use Rattle.std.proofs.lemmas.List.{length-map, map-append}
 use Rattle.std.specs.List.{AllByRecursion}
 use Rattle.std.specs.Option.{ForSome, option_map_or, option_and_then}
@@ -35,14 +35,14 @@ length-planned layout access call first n = length-map (numbers_from first n) (p
 
 -- one element more
 pub planned_more : (layout : Layout) (access : Access) (call : Call) (from element : ℕ) → from ≤ element →
-  planned_touches layout access call from (element + 1 - from) ≡ planned_touches layout access call from (element - from) ++ planned_touch layout access call element ∷ []
+    planned_touches layout access call from (element + 1 - from) ≡ planned_touches layout access call from (element - from) ++ planned_touch layout access call element ∷ []
 planned_more layout access call from element le =
     let more : element + 1 - from ≡ suc (element - from) = omega arith in
     let here : from + (element - from) ≡ element = omega arith in
     ap (planned_touches layout access call from) more
-      ∙ (ap (map (planned_touch layout access call)) (numbers_from-suc from (element - from))
-      ∙ (map-append (planned_touch layout access call) (numbers_from from (element - from)) ((from + (element - from)) ∷ [])
-      ∙ ap (λ (k : ℕ). planned_touches layout access call from (element - from) ++ planned_touch layout access call k ∷ []) here))
+    ∙ (ap (map (planned_touch layout access call)) (numbers_from-suc from (element - from))
+    ∙ (map-append (planned_touch layout access call) (numbers_from from (element - from)) ((from + (element - from)) ∷ [])
+    ∙ ap (λ (k : ℕ). planned_touches layout access call from (element - from) ++ planned_touch layout access call k ∷ []) here))
 
 abbrev size_by : Option Transfer → ℕ
 size_by o = option_map_or (λ (t : Transfer). size_of t.dtype) o 1
@@ -112,7 +112,7 @@ written_in (Moves transfer) w = w
 written_in (EndsRequest req) w = tt
 
 fits_in : (o : Option Transfer) (element address : ℕ) → IfSome o IsWrittenTransfer → address % size_by o ≡ 0 →
-  ForSome (option_and_then (λ (t : Transfer). change_of t element (address % 4)) o) Fits
+    ForSome (option_and_then (λ (t : Transfer). change_of t element (address % 4)) o) Fits
 fits_in None element address w e = λ x h. absurd (cc)
 fits_in (Some t) element address w e = choice_fits (is_no_op t.op) _ (record {
   aligned = aligned_in t.dtype address e;
@@ -126,8 +126,8 @@ pub fits_by : (call : Call) (element address : ℕ) → IsWrittenCall call → a
 fits_by call element address w e = fits_in (transfer_in (action_of call)) element address (written_in (action_of call) w) e
 
 multiple_in : (o : Option Transfer) (access : Access) (element : ℕ) →
-  IsSomeAnd o (λ t. (access.kind ≡ t.kind) × (access.len ≡ bytes_of t) × (access.lo % size_of t.dtype ≡ 0)) →
-  (access.lo + element * size_by o) % size_by o ≡ 0
+    IsSomeAnd o (λ t. (access.kind ≡ t.kind) × (access.len ≡ bytes_of t) × (access.lo % size_of t.dtype ≡ 0)) →
+    (access.lo + element * size_by o) % size_by o ≡ 0
 multiple_in None access element a = elim a [ ]
 multiple_in (Some t) access element a = multiple t.dtype access.lo element a.2
 
@@ -135,8 +135,8 @@ pub multiple_of : (call : Call) (access : Access) (element : ℕ) → IsAccessOf
 multiple_of call access element a = multiple_in (transfer_in (action_of call)) access element a
 
 count_in : (o : Option Transfer) (access : Access) →
-  IsSomeAnd o (λ t. (access.kind ≡ t.kind) × (access.len ≡ bytes_of t) × (access.lo % size_of t.dtype ≡ 0)) →
-  access.len / size_by o ≡ option_map_or (λ (t : Transfer). natural t.count) o 0
+    IsSomeAnd o (λ t. (access.kind ≡ t.kind) × (access.len ≡ bytes_of t) × (access.lo % size_of t.dtype ≡ 0)) →
+    access.len / size_by o ≡ option_map_or (λ (t : Transfer). natural t.count) o 0
 count_in None access a = elim a [ ]
 count_in (Some t) access a = ap (λ n. n / size_of t.dtype) a.1 ∙ quotient t.dtype (natural t.count)
 
@@ -148,7 +148,7 @@ choice_updates true change some = absurd (cc)
 choice_updates false change some = refl
 
 update_in : (o : Option Transfer) (element first_byte : ℕ) → IsSome (option_and_then (λ (t : Transfer). change_of t element first_byte) o) →
-  IsTrue (option_map_or (λ (t : Transfer). not (is_no_op t.op)) o false)
+    IsTrue (option_map_or (λ (t : Transfer). not (is_no_op t.op)) o false)
 update_in None element first_byte some = absurd (cc)
 update_in (Some t) element first_byte some = choice_updates (is_no_op t.op) _ some
 
@@ -161,15 +161,15 @@ abbrev pub piece_by : ℕ → ℕ → ℕ → ℕ → Piece
 piece_by first lo element size = record { cell = first + (lo + element * size) / 4; first_byte = (lo + element * size) % 4 }
 
 pub piece_is : (layout : Layout) (access : Access) (call : Call) (element first size : ℕ) (piece : Piece) →
-  piece ≡ piece_by first access.lo element size → first ≡ first_cell layout access.target → size ≡ element_size call →
-  piece ≡ piece_of layout access call element
+    piece ≡ piece_by first access.lo element size → first ≡ first_cell layout access.target → size ≡ element_size call →
+    piece ≡ piece_of layout access call element
 piece_is layout access call element first size piece e f s = e
-  ∙ (ap (λ (n : ℕ). piece_by n access.lo element size) f ∙ ap (λ (n : ℕ). piece_by (first_cell layout access.target) access.lo element n) s)
+    ∙ (ap (λ (n : ℕ). piece_by n access.lo element size) f ∙ ap (λ (n : ℕ). piece_by (first_cell layout access.target) access.lo element n) s)
 
 abbrev pub plan_by : ℕ → Piece → Option Change → PlannedTouch
 plan_by element piece change = record { element = element; cell = piece.cell; change = change }
 
 pub plan_is : (layout : Layout) (access : Access) (call : Call) (element : ℕ) (piece : Piece) (change : Option Change) →
-  piece ≡ piece_of layout access call element → change ≡ change_by call element piece.first_byte →
-  plan_by element piece change ≡ planned_touch layout access call element
+    piece ≡ piece_of layout access call element → change ≡ change_by call element piece.first_byte →
+    plan_by element piece change ≡ planned_touch layout access call element
 plan_is layout access call element piece change p e = ap (plan_by element piece) e ∙ ap (touch_at call element) p

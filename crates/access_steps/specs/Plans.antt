@@ -1,5 +1,5 @@
 -- The touches that an access asks for: one for each element, on its cell, with its change. MPI 3.1, sections 11.3 and 11.7.1.
-use Rattle.std.specs.Prelude.{◌≡◌, ◌<◌, ◌≤◌, ℕ, ◌+◌, ◌*◌, ◌/◌, ◌%◌, ◌^◌, Bool, false, not, List, map, Option, Some, None, IsSomeAnd}
+use Rattle.std.specs.Prelude.{◌≡◌, ◌<◌, ℕ, ◌+◌, ◌*◌, ◌%◌, ◌^◌, Bool, false, not, List, map, Option, IsSomeAnd}
 use Rattle.std.specs.Option.{option_map_or, option_and_then}
 use Rattle.rma_types.specs.declared.accesses.Access.{Access}
 use Rattle.rma_types.specs.declared.calls.Call.{Call}
@@ -52,9 +52,9 @@ planned_touches layout access call first count = map (planned_touch layout acces
 -- the access is the one that the call makes: its kind, its bytes, and an address that is a multiple of the element's size
 abbrev pub IsAccessOf : Call → Access → Type 0
 IsAccessOf call access = IsSomeAnd (transfer_of call)
-  (λ t. (access.kind ≡ t.kind) × (access.len ≡ bytes_of t) × (access.lo % size_of t.dtype ≡ 0))
+    (λ t. (access.kind ≡ t.kind) × (access.len ≡ bytes_of t) × (access.lo % size_of t.dtype ≡ 0))
 
 -- each element lies in one of so many cells, and the number of its cell is a u32
 abbrev pub LiesWithin : Layout → Access → Call → ℕ → Type 0
 LiesWithin layout access call cells = (element : ℕ) → element < element_count call →
-  ((piece_of layout access call element).cell < cells) × ((piece_of layout access call element).cell < 2 ^ 32)
+    ((piece_of layout access call element).cell < cells) × ((piece_of layout access call element).cell < 2 ^ 32)

@@ -56,7 +56,7 @@ cells_left cells (touch ∷ touches) = cells_left (cells_after cells touch.plan.
 abbrev pub SeesEach : List Cell → List MadeTouch → Type 0
 SeesEach cells [] = Unit {0}
 SeesEach cells (touch ∷ touches) =
-  (touch.seen ≡ cell_at cells touch.plan.cell) × SeesEach (cells_after cells touch.plan.cell touch.plan.change) touches
+    (touch.seen ≡ cell_at cells touch.plan.cell) × SeesEach (cells_after cells touch.plan.cell touch.plan.change) touches
 
 -- What the touches did. told and states: where the memory tells its cells. not_below, raised and order: the lowest places
 -- at the call and after it, and the places of touches of one cell.

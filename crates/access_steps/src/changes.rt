@@ -27,13 +27,37 @@ pub fn change_of(call: &Call, element: u32, first_byte: u8) -> Option<Change>
 {
     let (dtype, op, operand, compare) = match call {
         Call::Put { dtype, values, .. } | Call::Store { dtype, values, .. } => {
-            (*dtype, Op::Replace, operand_at(values, element, *dtype), None)
+            (
+                *dtype,
+                Op::Replace,
+                operand_at(values, element, *dtype),
+                None,
+            )
         }
-        Call::Acc { dtype, op, values, .. } | Call::GetAcc { dtype, op, values, .. } => {
-            (*dtype, *op, operand_at(values, element, *dtype), None)
+        Call::Acc {
+            dtype,
+            op,
+            values,
+            ..
         }
-        Call::Fop { dtype, op, value, .. } => (*dtype, *op, *value as u32, None),
-        Call::Cas { dtype, compare, new, .. } => (*dtype, Op::Replace, *new as u32, Some(*compare as u32)),
+        | Call::GetAcc {
+            dtype,
+            op,
+            values,
+            ..
+        } => { (*dtype, *op, operand_at(values, element, *dtype), None) }
+        Call::Fop {
+            dtype,
+            op,
+            value,
+            ..
+        } => (*dtype, *op, *value as u32, None),
+        Call::Cas {
+            dtype,
+            compare,
+            new,
+            ..
+        } => (*dtype, Op::Replace, *new as u32, Some(*compare as u32)),
         _ => return None,
     };
     if op == Op::NoOp {

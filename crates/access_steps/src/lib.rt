@@ -3,6 +3,8 @@
 #![tactic(auto)]
 
 mod changes;
+#[cfg(test)]
+mod tests;
 mod touches;
 
 pub use changes::{change_of, size_of};

@@ -1,4 +1,4 @@
-use Rattle.std.proofs.Common.{sym, refl, rules, ◌<◌, ◌^◌}
+use Rattle.std.proofs.Common.{sym, rules, ◌<◌, ◌^◌}
 use Rattle.access_steps.proofs.OneTouch.{updates_once, moves_once}
 use Rattle.access_steps.proofs.touches.update_cell.Goals as goal
 
