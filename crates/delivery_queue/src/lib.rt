@@ -4,6 +4,8 @@
 
 mod deliveries;
 mod queue;
+#[cfg(test)]
+mod tests;
 mod waits;
 mod ways;
 
