@@ -1,5 +1,5 @@
 -- What is behind the front of a list that was delivered.
-use Rattle.std.proofs.Common.{◌≡◌, ◌+◌, ℕ, zero, suc, List, [], ◌∷◌, ◌++◌, take, drop, refl, sym, ◌∙◌, ap, arith}
+use Rattle.std.proofs.Common.{◌≡◌, ◌+◌, ℕ, zero, suc, List, [], ◌∷◌, drop, refl, arith}
 use Rattle.std.specs.List.{remove}
 
 remove_nothing : {X : Type 0} (at : ℕ) → remove {X = X} [] at ≡ []

@@ -69,8 +69,14 @@ fn a_call_waits_for_the_accesses_that_it_completes(rt: HostRuntime) -> Result<()
     assert_eq!(rt; queue.next_for(&Call::Flush { win: 3, target: 2 }), Some(1));
     assert_eq!(rt; queue.next_for(&Call::Flush { win: 3, target: 3 }), None);
     assert_eq!(rt; queue.next_for(&Call::FlushAll { win: 4 }), None);
-    assert_eq!(rt; queue.next_for(&Call::FlushLocal { win: 3, target: 1 }), Some(0));
-    assert_eq!(rt; queue.next_for(&Call::FlushLocal { win: 3, target: 2 }), None);
+    assert_eq!(rt;
+        queue.next_for(&Call::FlushLocal { win: 3, target: 1 }),
+        Some(0)
+    );
+    assert_eq!(rt;
+        queue.next_for(&Call::FlushLocal { win: 3, target: 2 }),
+        None
+    );
     assert_eq!(rt; queue.next_for(&Call::WaitReq { req: 5 }), Some(0));
     assert_eq!(rt; queue.next_for(&Call::WaitReq { req: 6 }), None);
     assert!(rt; queue.is_live(5));
@@ -98,7 +104,7 @@ fn an_access_without_bytes_is_not_pending(rt: HostRuntime) -> Result<(), Fail> {
 fn put_and_sum(alloc: Global) -> Result<Pending, NoMemory>
     ensures { IfOk result (λ queue. queue ≡ with_access
         (with_access no_accesses (issued 0 10
-            (record { window = 35; target = 0; lo = 4; len = 4; kind = Put }) false) None)
+        (record { window = 35; target = 0; lo = 4; len = 4; kind = Put }) false) None)
         (issued 1 11 (record { window = 35; target = 0; lo = 4; len = 4; kind = Acc Sum Int32 }) true) None) }
 {
     let mut queue = Pending::new(alloc)?;
@@ -116,7 +122,7 @@ fn deliver_sum(
 ) -> Result<bool, NoMemory>
     requires queue { queue.old ≡ with_access
         (with_access no_accesses (issued 0 10
-            (record { window = 35; target = 0; lo = 4; len = 4; kind = Put }) false) None)
+        (record { window = 35; target = 0; lo = 4; len = 4; kind = Put }) false) None)
         (issued 1 11 (record { window = 35; target = 0; lo = 4; len = 4; kind = Acc Sum Int32 }) true) None }
     requires cells { length memory.old.cells ≡ 2 }
     requires share { 1 ≤ memory.old.share }

@@ -1,4 +1,4 @@
-use Rattle.std.proofs.Common.{rules, ◌≡◌, ◌+◌, ℕ, drop, ap, refl}
+use Rattle.std.proofs.Common.{refl}
 use Rattle.std.proofs.lemmas.List.{drop-set-add}
 use Rattle.delivery_queue.proofs.queue.Pending.keep_touched.Goals as goal
 

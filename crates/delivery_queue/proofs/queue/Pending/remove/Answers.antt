@@ -1,4 +1,4 @@
-use Rattle.std.proofs.Common.{rules, ◌≡◌, ◌+◌, ℕ, drop, refl}
+use Rattle.std.proofs.Common.{rules, ◌≡◌, refl}
 use Rattle.delivery_queue.proofs.DroppedFront.{drop_one_more, drop_remove}
 use Rattle.delivery_queue.proofs.queue.Pending.remove.Goals as goal
 
