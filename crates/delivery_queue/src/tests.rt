@@ -31,8 +31,8 @@ fn access_to(target: u8, lo: u32, len: u32, kind: Kind) -> Access
 }
 
 /// Two sums on one cell: the later gives way to the earlier. A put behind them gives way to none, and nor does a sum on
-/// another cell, or on the same cell of another rank. The last sum shares no cell with the first, but one with a sum that
-/// gives way to it.
+/// another cell, or on the same cell of another rank. The last sum shares no cell with the first, but one with a sum
+/// that gives way to it.
 #[test]
 fn a_sum_gives_way_to_a_sum_on_its_cell(rt: HostRuntime) -> Result<(), Fail> {
     let mut queue = Pending::new(rt.alloc())?;
@@ -54,8 +54,8 @@ fn a_sum_gives_way_to_a_sum_on_its_cell(rt: HostRuntime) -> Result<(), Fail> {
     Ok(())
 }
 
-/// A sum to rank 1, a put with request q6 to rank 2, and a fetch with request q5 behind the sum. A call that waits for the
-/// fetch has the sum delivered first.
+/// A sum to rank 1, a put with request q6 to rank 2, and a fetch with request q5 behind the sum. A call that waits for
+/// the fetch has the sum delivered first.
 #[test]
 fn a_call_waits_for_the_accesses_that_it_completes(rt: HostRuntime) -> Result<(), Fail> {
     let mut queue = Pending::new(rt.alloc())?;
