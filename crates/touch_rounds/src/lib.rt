@@ -21,7 +21,13 @@ const ELEMENTS: u32 = 256;
 const ROUNDS: u32 = 15_625;
 
 /// Touches the access whole, each time with a new log. It ends early where the memory takes no more updates.
-fn touch_rounds(alloc: Global, memory: &mut PlainMemory, call: &Call, access: &Access, layout: &Layout) -> Result<(), NoMemory>
+fn touch_rounds(
+    alloc: Global,
+    memory: &mut PlainMemory,
+    call: &Call,
+    access: &Access,
+    layout: &Layout,
+) -> Result<(), NoMemory>
     requires call { IsWrittenCall call.now }
     requires access { IsAccessOf call.now access.now }
     requires cells { LiesWithin layout.now access.now call.now (cell_count (plain_face memory.old)) }
@@ -57,14 +63,27 @@ fn memory_of(alloc: Global, cells: u32) -> Result<PlainMemory, NoMemory>
 fn layout_of(alloc: Global, bytes: u32) -> Result<Layout, NoMemory>
     ensures { IfOk result (λ layout. layout.parts ≡ record { first_cell = 0; bytes = bytes } ∷ []) }
 {
-    let parts = Items::from_slice(alloc, &[MemoryPart { first_cell: 0, bytes }]).map_err(|_| NoMemory)?;
+    let parts = Items::from_slice(
+        alloc,
+        &[MemoryPart {
+            first_cell: 0,
+            bytes,
+        }],
+    )
+    .map_err(|_| NoMemory)?;
     Ok(Layout {
         parts,
         bases: Items::new(alloc),
     })
 }
 
-fn touch_elements(alloc: Global, dtype: Dtype, op: Op, value: u64, count: u32) -> Result<(), NoMemory>
+fn touch_elements(
+    alloc: Global,
+    dtype: Dtype,
+    op: Op,
+    value: u64,
+    count: u32,
+) -> Result<(), NoMemory>
     requires value { value < patterns_of dtype }
     requires count { count ≤ 256 }
 {
