@@ -1,5 +1,5 @@
 -- What is behind the front of a list that was delivered.
-use Rattle.std.proofs.Common.{◌≡◌, ◌+◌, ℕ, zero, suc, List, [], ◌∷◌, ◌++◌, take, drop, refl, sym, ◌∙◌, ap, arith}
+use Rattle.std.proofs.Common.{◌≡◌, ◌+◌, ℕ, zero, suc, List, [], ◌∷◌, drop, refl, arith}
 use Rattle.std.specs.List.{remove}
 
 remove_nothing : {X : Type 0} (at : ℕ) → remove {X = X} [] at ≡ []
@@ -11,7 +11,8 @@ drop_nothing zero = refl
 drop_nothing (suc first) = refl
 
 -- one behind the front is taken away
-pub drop_remove : {X : Type 0} (first at : ℕ) (xs : List X) → drop first (remove xs (first + at)) ≡ remove (drop first xs) at
+pub drop_remove : {X : Type 0} (first at : ℕ) (xs : List X) →
+    drop first (remove xs (first + at)) ≡ remove (drop first xs) at
 drop_remove zero at xs = let e : 0 + at ≡ at = omega arith in rw e refl
 drop_remove (suc first) at [] = rw (remove_nothing (suc first + at), remove_nothing at) refl
 drop_remove (suc first) at (x ∷ xs) =

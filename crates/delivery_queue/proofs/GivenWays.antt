@@ -1,5 +1,6 @@
 -- Giving way ends within as many steps as the place that it begins at.
-use Rattle.std.proofs.Common.{◌≡◌, ◌<◌, ◌≤◌, ◌+◌, ℕ, zero, suc, List, take, length, min, Option, Some, None, refl, sym, subst, ap, arith, slice_get}
+use Rattle.std.proofs.Common.{◌≡◌, ◌<◌, ◌≤◌, ℕ, zero, suc, List, take, length, min, Option, Some, None, refl, subst}
+use Rattle.std.proofs.Common.{arith, slice_get}
 use Rattle.std.specs.Option.{option_map_or}
 use Rattle.std.specs.List.{position}
 use Rattle.std.proofs.lemmas.List.{length-take}
@@ -16,7 +17,8 @@ earlier_by pending at other (Some one) e =
     omega arith
 
 -- an access gives way to an earlier one
-pub gives_way_to_earlier : (pending : List PendingAccess) (at other : ℕ) → first_in_way pending at ≡ Some other → other < at
+pub gives_way_to_earlier : (pending : List PendingAccess) (at other : ℕ) →
+    first_in_way pending at ≡ Some other → other < at
 gives_way_to_earlier pending at other e = earlier_by pending at other (slice_get pending at) e
 
 -- as many steps as the place are enough, where that holds of all earlier places

@@ -1,5 +1,6 @@
 -- A rank's pending accesses and its live requests: MPI 3.1, sections 11.3.5 and 11.7.
-use Rattle.std.specs.Prelude.{ℕ, ◌≡◌, ◌+◌, ◌-◌, ◌≤◌, ◌++◌, Bool, true, false, List, [], map, Option, Some, IsTrue, slice_get, slice_index, slice_set, remove, drop, IfSome}
+use Rattle.std.specs.Prelude.{ℕ, ◌≡◌, ◌+◌, ◌-◌, ◌≤◌, ◌++◌, Bool, true, false, List, [], map, Option, Some, IsTrue}
+use Rattle.std.specs.Prelude.{slice_get, slice_index, slice_set, remove, drop, IfSome}
 use Rattle.std.specs.Option.{option_map_or}
 use Rattle.rma_types.specs.declared.accesses.Access.{Access}
 use Rattle.rma_types.specs.declared.calls.Call.{Call}
@@ -56,9 +57,10 @@ abbrev pub after_delivery : (done : Bool) → Queue → ℕ → ℕ → Queue
 after_delivery true queue at next = without_access queue at
 after_delivery false queue at next = with_touched queue at next
 
--- What is asked of the access that is to be delivered: it gives way to none, it is that of its call with its elements in
--- the cells of the memory, and there is room for the touches that are left, and a share for its updates.
-pub record IsDeliverable (queue : Queue) (at : ℕ) (layout : Layout) (calls : List Call) (face : Face) (free : ℕ) : Type 0 where
+-- What is asked of the access that is to be delivered: it gives way to none, it is that of its call with its elements
+-- in the cells of the memory, and there is room for the touches that are left, and a share for its updates.
+pub record IsDeliverable (queue : Queue) (at : ℕ) (layout : Layout) (calls : List Call) (face : Face) (free : ℕ)
+    : Type 0 where
   pub one : PendingAccess
   pub call : Call
   pub here : slice_get queue.pending at ≡ Some one
@@ -70,7 +72,9 @@ pub record IsDeliverable (queue : Queue) (at : ℕ) (layout : Layout) (calls : L
   pub share : IsTrue (is_update call) → element_count call ≤ slice_index queue.touched at + face.share
 
 -- What a delivery did: the touches of the access from the first untouched element to the next one.
-pub record Delivers (queue after : Queue) (at : ℕ) (done : Bool) (layout : Layout) (calls : List Call) (before_face after_face : Face) (knows : ℕ → Cell → Type 0) (kept_before kept_after : List Item) : Type 0 where
+pub record Delivers (queue after : Queue) (at : ℕ) (done : Bool) (layout : Layout) (calls : List Call)
+    (before_face after_face : Face) (knows : ℕ → Cell → Type 0) (kept_before kept_after : List Item)
+    : Type 0 where
   pub one : PendingAccess
   pub call : Call
   pub here : slice_get queue.pending at ≡ Some one
@@ -82,8 +86,10 @@ pub record Delivers (queue after : Queue) (at : ℕ) (done : Bool) (layout : Lay
       (planned_touches layout one.access call (slice_index queue.touched at) (next - slice_index queue.touched at))
 
 -- over a memory that tells its cells, they and the items are those of the touches that were left, one after another
-abbrev pub DeliversWhole : Queue → ℕ → Layout → List Call → List Cell → Option (List Cell) → List Item → List Item → Type 0
+abbrev pub DeliversWhole :
+    Queue → ℕ → Layout → List Call → List Cell → Option (List Cell) → List Item → List Item → Type 0
 DeliversWhole queue at layout calls cells told kept_before kept_after =
     let from = slice_index queue.touched at in
-    IfSome (slice_get queue.pending at) (λ one. IfSome (slice_get calls one.number) (λ call. IfSome (transfer_of call) (λ t.
+    IfSome (slice_get queue.pending at) (λ one. IfSome (slice_get calls one.number) (λ call.
+    IfSome (transfer_of call) (λ t.
     IsTouchEach t (drop from (pieces layout one.access t.dtype)) one.index from cells told kept_before kept_after)))

@@ -1,5 +1,6 @@
 //! The touches of one pending access.
-ghost use Rattle.std.specs.Prelude.{◌≡◌, ◌+◌, ◌-◌, ◌≤◌, ◌<◌, length, false, drop, IsTrue, IfOk, IfSome, OnErr, MatchBool};
+ghost use Rattle.std.specs.Prelude.{◌≡◌, ◌+◌, ◌-◌, ◌≤◌, ◌<◌, length, false, drop, IsTrue, IfOk, IfSome, OnErr};
+ghost use Rattle.std.specs.Prelude.{MatchBool};
 ghost use Rattle.access_steps.specs.Plans.{element_count, is_update, planned_touches};
 ghost use Rattle.access_steps.specs.TouchesMade.{TouchesKept, IsTouchEach};
 ghost use Rattle.call_rules.specs.Actions.{transfer_of};
@@ -32,7 +33,8 @@ pub fn touch_pending<M: Memory, L: Keep>(
     ensures touches { IfOk result (λ progress. TouchesKept (M.face mem.old) (M.face mem.new) (M.knows mem.new)
         (L.kept log.old) (L.kept log.new) one.now.index
         (planned_touches layout.now one.now.access call.now from (progress.next - from))) }
-    ensures moved { IfOk result (λ progress. MatchBool progress.moved (Rose (M.face mem.old).moves (M.face mem.new).moves)
+    ensures moved { IfOk result (λ progress. MatchBool progress.moved
+        (Rose (M.face mem.old).moves (M.face mem.new).moves)
         ((M.face mem.new).moves ≡ (M.face mem.old).moves × progress.next ≡ element_count call.now)) }
     ensures told_whole { IfOk result (λ progress. IfSome (M.face mem.old).told (λ _. progress.moved ≡ false)) }
     ensures told { IfOk result (λ _. IfSome (M.face mem.old).told (λ cells. IfSome (transfer_of call.now) (λ t.

@@ -1,9 +1,11 @@
-//! The accesses of a rank that are issued and not yet wholly touched, in the order of their Issues, and its live requests
-//! (MPI 3.1, sections 11.3.5 and 11.7).
+//! The accesses of a rank that are issued and not yet wholly touched, in the order of their Issues, and its live
+//! requests (MPI 3.1, sections 11.3.5 and 11.7).
 #![tactic(auto)]
 
 mod deliveries;
 mod queue;
+#[cfg(test)]
+mod tests;
 mod waits;
 mod ways;
 

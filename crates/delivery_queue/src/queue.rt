@@ -1,7 +1,9 @@
 //! A rank's pending accesses and live requests.
-ghost use Rattle.std.specs.Prelude.{◌≡◌, ◌<◌, ◌≤◌, ◌+◌, ◌++◌, [], length, slice_get, slice_index, true, false, Some, IfSome, IfOk, OnOk, OnErr};
+ghost use Rattle.std.specs.Prelude.{◌≡◌, ◌<◌, ◌≤◌, ◌+◌, ◌++◌, [], length, slice_get, slice_index, true, false, Some};
+ghost use Rattle.std.specs.Prelude.{IfSome, IfOk, OnOk, OnErr};
 ghost use Rattle.call_rules.specs.WellFormed.{IsWrittenCall};
-ghost use Rattle.delivery_queue.specs.Queues.{no_accesses, issued, with_access, with_touched, without_access, Delivers, DeliversWhole, IsDeliverable};
+ghost use Rattle.delivery_queue.specs.Queues.{no_accesses, issued, with_access, with_touched, without_access, Delivers};
+ghost use Rattle.delivery_queue.specs.Queues.{DeliversWhole, IsDeliverable};
 ghost use Rattle.cell_face.specs.Faces.{Rose, Keeps};
 ghost use Rattle.rank_rules.specs.Pending.{awaited, way as way_of};
 ghost use Rattle.rank_rules.specs.Requests.{is_live_request, with_request, without_request};
@@ -16,8 +18,8 @@ use rma_types::{Access, Call, Layout, NoMemory};
 use std::alloc::Global;
 use std::marker::Model;
 
-/// The accesses of a rank that are issued and not yet wholly touched, in the order of their Issues, and its live requests,
-/// q0 to q63.
+/// The accesses of a rank that are issued and not yet wholly touched, in the order of their Issues, and its live
+/// requests, q0 to q63.
 #[derive(Debug, Drop)]
 pub struct Pending {
     /// The accesses, after those at the front that were delivered.
@@ -36,9 +38,14 @@ impl Model for Pending {
 
     ghost Value = { Queue };
 
-    ghost view = { λ it. record { pending = drop it.first it.accesses.items; touched = drop it.first it.touched.items; requests = it.requests } };
+    ghost view = { λ it. record {
+        pending = drop it.first it.accesses.items;
+        touched = drop it.first it.touched.items;
+        requests = it.requests
+    } };
 
-    ghost invariant = { λ it. (it.first ≤ length it.accesses.items) × (length it.touched.items ≡ length it.accesses.items) };
+    ghost invariant = { λ it.
+        (it.first ≤ length it.accesses.items) × (length it.touched.items ≡ length it.accesses.items) };
 }
 
 impl Pending {
@@ -69,8 +76,8 @@ impl Pending {
         self.accesses.len() - self.first
     }
 
-    /// The place of the access to which the one at a place gives way in the end, directly or through others; its own where
-    /// it gives way to none.
+    /// The place of the access to which the one at a place gives way in the end, directly or through others; its own
+    /// where it gives way to none.
     pub fn way(&self, at: usize) -> usize
         requires { at < length self.now.pending }
         ensures end { result ≡ way_of self.now.pending at }
@@ -88,8 +95,8 @@ impl Pending {
         self.requests[usize::from(req)] = None;
     }
 
-    /// An access is issued: it stands at the end, unless it has no bytes; `index` is that of its Issue item. Where a request
-    /// is named, below 64 and not live, it is live from now on.
+    /// An access is issued: it stands at the end, unless it has no bytes; `index` is that of its Issue item. Where a
+    /// request is named, below 64 and not live, it is live from now on.
     pub fn issue(
         &mut self,
         call: u32,
@@ -121,8 +128,8 @@ impl Pending {
         Ok(())
     }
 
-    /// The place of the access that must be delivered next before the first item of the call, after giving way; none where
-    /// none must.
+    /// The place of the access that must be delivered next before the first item of the call, after giving way; none
+    /// where none must.
     pub fn next_for(&self, call: &Call) -> Option<usize>
         requires { IsWrittenCall call.now }
         ensures next { result ≡ awaited self.now.requests call.now self.now.pending }
@@ -172,9 +179,9 @@ impl Pending {
         self.touched[self.first + at]
     }
 
-    /// Delivers the access at a place: it makes room for the touches that are left of it, and makes them in the order of
-    /// its elements. The answer is true where the access is done, and pending no more; it is false where an attempt came
-    /// too late, which never comes over a memory that tells its cells.
+    /// Delivers the access at a place: it makes room for the touches that are left of it, and makes them in the order
+    /// of its elements. The answer is true where the access is done, and pending no more; it is false where an attempt
+    /// came too late, which never comes over a memory that tells its cells.
     pub fn deliver<M: Memory, L: Keep>(
         &mut self,
         at: usize,

@@ -2,7 +2,8 @@
 ghost use Rattle.std.specs.Prelude.{◌≡◌, ◌<◌, ◌≤◌, ◌+◌, ◌/◌, ℕ, nat_lt, length, take, slice_index, IsTrue, IfSome};
 ghost use Rattle.std.specs.List.{position};
 ghost use Rattle.call_rules.specs.Transfers.{is_ordered_kind as is_ordered};
-ghost use Rattle.rank_rules.specs.Pending.{share_cell as do_share_cell, gives_way as does_give_way, first_in_way as first_in_way_of, way as way_of};
+ghost use Rattle.rank_rules.specs.Pending.{share_cell as do_share_cell, gives_way as does_give_way};
+ghost use Rattle.rank_rules.specs.Pending.{first_in_way as first_in_way_of, way as way_of};
 
 use rank_rules::PendingAccess;
 use rma_types::{Access, Kind};
@@ -60,8 +61,8 @@ fn first_in_way(pending: &[PendingAccess], at: usize) -> Option<usize>
     }
 }
 
-/// The place of the access to which the one at a place gives way in the end, directly or through others; its own where it
-/// gives way to none.
+/// The place of the access to which the one at a place gives way in the end, directly or through others; its own where
+/// it gives way to none.
 #[tactic(auto, using(crate::proofs::GivenWays::way_step))]
 pub fn way(pending: &[PendingAccess], at: usize) -> usize
     requires { at < length pending.now }

@@ -1,4 +1,3 @@
-use Rattle.std.proofs.Common.{ℕ}
 use Rattle.delivery_queue.proofs.ways.+way.Given as goal
 
 abbrev pub decreases-way : goal.decreases-way
