@@ -47,7 +47,7 @@ IsFirstPast-from_partition xs address at within parts = record {
   after = λ i d le lt. leb-false _ address (parts.1 i d le lt);
 }
 
-do_overlap-true : (base bytes : ℕ) (r : Range) → 0 < bytes → 0 < r.bytes → base < r.base + r.bytes → r.base < base + bytes
+pub do_overlap-true : (base bytes : ℕ) (r : Range) → 0 < bytes → 0 < r.bytes → base < r.base + r.bytes → r.base < base + bytes
     → do_overlap (record { base = base; bytes = bytes }) r ≡ true
 do_overlap-true base bytes r a b c e =
     and_from _ _ (and_from _ _ (and_from _ _ (lt-ltb 0 bytes a) (lt-ltb 0 r.bytes b)) (lt-ltb _ _ c)) (lt-ltb _ _ e)

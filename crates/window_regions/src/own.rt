@@ -64,9 +64,11 @@ impl OwnRanges {
         ensures { result ≡ is_taken_by (map (λ own. own.range) self.now)
             (record { base = base; bytes = bytes }) }
     {
-        bytes > 0
-            && (does_any_overlap(self.created.as_slice(), base, bytes)
-                || do_any_overlap(self.attached.as_slice(), base, bytes))
+        if bytes == 0 {
+            return false;
+        }
+        does_any_overlap(self.created.as_slice(), base, bytes)
+            || do_any_overlap(self.attached.as_slice(), base, bytes)
     }
 
     /// The range of a created window comes to the ranges. `Err` changes nothing.
@@ -120,11 +122,15 @@ fn does_overlap(range: &Region, base: u32, bytes: u32) -> bool
 fn detach_from(ranges: &mut Vec<Region>, win: u8, base: u32)
     ensures { ranges.new.items ≡ filter (λ own. not (is_attached_from win base own)) ranges.old.items }
 {
-    ranges.retain(|range| !is_attached_at(range, win, base));
+    ranges.retain(|range: &Region| -> bool
+        ensures { result ≡ not (is_attached_from win base range.now) }
+    { !is_attached_at(range, win, base) });
 }
 
 fn free_from(ranges: &mut Vec<Region>, win: u8)
     ensures { ranges.new.items ≡ filter (λ own. not (own.win == win)) ranges.old.items }
 {
-    ranges.retain(|range| range.win() != win);
+    ranges.retain(|range: &Region| -> bool
+        ensures { result ≡ not (range.now.win == win) }
+    { range.win() != win });
 }
