@@ -3,7 +3,7 @@ use Rattle.std.proofs.Common.{◌≡◌, ℕ, suc, ◌+◌, ◌-◌, ◌<◌, �
 use Rattle.std.specs.Prelude.{◌⊎◌, insert, All}
 use Rattle.std.specs.List.{list_any}
 use Rattle.std.proofs.lemmas.Bool.{cases_lt, cases_Bool, cases_order, ltb-true, ltb-false, or_parts, false≢true}
-use Rattle.std.proofs.lemmas.List.Edits.{length-insert, get_or-insert_below, get_or-insert_at, get_or-insert_above}
+use Rattle.std.proofs.lemmas.List.Edits.{length-insert}
 use Rattle.std.proofs.lemmas.List.Elements.{All-filter, All-get_or, All-from_get_or}
 use Rattle.std.proofs.lemmas.List.Folds.{list_any-append, list_any_at}
 use Rattle.std.proofs.lemmas.List.Kept.{AllPairs-filter}
@@ -73,7 +73,7 @@ IsIndexed-created ranges created attached win base bytes so = record {
   ascending = so.ascending;
 }
 
-list_any-insert : (test : OwnRange → Bool) (xs : List OwnRange) (at : ℕ) (own : OwnRange)
+pub list_any-insert : (test : OwnRange → Bool) (xs : List OwnRange) (at : ℕ) (own : OwnRange)
     → list_any test (insert xs at own) ≡ (test own || list_any test xs)
 list_any-insert test xs at own =
     list_any-append test (take at xs) (own ∷ drop at xs)
@@ -93,7 +93,7 @@ list_any-parts test q (x ∷ xs) = ap (λ b. test x || b) (list_any-parts test q
     by_part false false c d = refl
 
 -- whether a byte of a range is taken, by the two lists for searches
-taken_by_parts : (ranges created attached : List OwnRange) (base bytes : ℕ) → IsIndexed ranges created attached
+pub taken_by_parts : (ranges created attached : List OwnRange) (base bytes : ℕ) → IsIndexed ranges created attached
     → is_taken (map (λ (own : OwnRange). own.range) ranges) (record { base = base; bytes = bytes })
       ≡ (list_any (λ (own : OwnRange). do_overlap (record { base = base; bytes = bytes }) own.range) created
         || list_any (λ (own : OwnRange). do_overlap (record { base = base; bytes = bytes }) own.range) attached)

@@ -1,4 +1,6 @@
 -- Proofs of the code of this crate.
+pub mod Alone
 pub mod Indexes
+pub mod Inserted
 pub mod Searches
 pub mod Tests

@@ -1,9 +1,12 @@
 //! The windows of a rank and its ranges of memory: MPI 3.1, sections 11.2 and 11.3.
 #![tactic(auto)]
 
+mod attached;
 mod own;
 mod places;
 mod region;
 mod sorted;
 
-pub use places::{address, piece, Range};
+pub use attached::Attached;
+pub use own::OwnRanges;
+pub use places::{address, piece, place, Range};

@@ -1,11 +1,11 @@
 //! The ranges of a rank's own space that belong to live windows.
-ghost use Rattle.std.specs.Prelude.{◌≡◌, ◌==◌, ◌&&◌, ◌+◌, ◌^◌, ◌<◌, not, false, [], ◌∷◌, ◌++◌, map, filter, OnOk, OnErr};
+ghost use Rattle.std.specs.Prelude.{◌≡◌, ◌==◌, ◌&&◌, ◌+◌, ◌^◌, ◌<◌, not, true, false, [], ◌∷◌, ◌++◌, map, filter, OnOk, OnErr};
 ghost use Rattle.std.specs.List.{list_any};
 ghost use Rattle.rank_rules.specs.Ranges.{covers as do_they_cover, do_overlap, is_taken as is_taken_by};
 ghost use Rattle.rank_rules.specs.Windows.{is_attached_from};
 
 use crate::region::Region;
-use crate::sorted::{do_any_overlap, do_cover, does_any_begin, is_attached_at};
+use crate::sorted::{do_any_overlap, do_cover, does_any_begin, first_past, is_attached_at};
 use rma_types::NoMemory;
 use std::alloc::Global;
 use std::marker::Model;
@@ -85,6 +85,31 @@ impl OwnRanges {
         self.ranges.push_reserved(range);
         self.created.push_reserved(range);
         Ok(())
+    }
+
+    /// A range that is attached to the window comes to the ranges: it has bytes, and none of them is taken. `Err` changes
+    /// nothing.
+    pub fn attach(&mut self, win: u8, base: u32, bytes: u32) -> Result<(), NoMemory>
+        requires some { 0 < bytes }
+        requires end { base + bytes < 2 ^ 32 }
+        requires apart { is_taken_by (map (λ own. own.range) self.old)
+            (record { base = base; bytes = bytes }) ≡ false }
+        ensures ok { OnOk result (self.new ≡ self.old ++ record {
+            win = win; range = record { base = base; bytes = bytes }; is_attached = true } ∷ []) }
+        ensures err { OnErr result (self.new ≡ self.old) }
+    {
+        if self.ranges.reserve(1).is_err() {
+            return Err(NoMemory);
+        }
+        let range = Region::new(win, base, bytes, true);
+        let at = first_past(self.attached.as_slice(), base);
+        match self.attached.insert(at, range) {
+            Ok(()) => {
+                self.ranges.push_reserved(range);
+                Ok(())
+            }
+            Err(_) => Err(NoMemory),
+        }
     }
 
     /// The range that begins at the base goes, if it is attached to the window.

@@ -1,7 +1,7 @@
 -- `retain` keeps what passes its test.
 use Rattle.std.proofs.Common.{rules}
-use Rattle.std.proofs.lemmas.List.Elements.{filter_from_retain}
+use Rattle.std.proofs.lemmas.Fn.{filter_same}
 use Rattle.window_regions.proofs.own.detach_from.Goals as goal
 
 pub returns : goal.returns
-returns c = filter_from_retain _ _ (λ p x b q called. search rules) _ _ _ c.retain.ensures.filtered
+returns c = filter_same _ _ _ (λ x b f' called. search rules) _ _ c.retain.ensures.filtered
