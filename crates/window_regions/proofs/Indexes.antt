@@ -12,7 +12,7 @@ use Rattle.rank_rules.specs.Windows.{OwnRange}
 use Rattle.window_regions.specs.Ascending.{end_of, IsBefore, IsAscending, IsFirstPast}
 use Rattle.window_regions.specs.Indexed.{IsIndexed}
 use Rattle.window_regions.proofs.Searches.{no_range, do_overlap-true}
-use Rattle.window_regions.proofs.Tests.{list_any-agree, list_any-filter, list_any-map}
+use Rattle.window_regions.proofs.RangeTests.{list_any-agree, list_any-filter, list_any-map}
 
 and-swap : (a b c : Bool) → (a && (b && c)) ≡ (b && (a && c))
 and-swap true b c = refl

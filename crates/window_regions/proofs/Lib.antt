@@ -2,5 +2,5 @@
 pub mod Alone
 pub mod Indexes
 pub mod Inserted
+pub mod RangeTests
 pub mod Searches
-pub mod Tests

@@ -7,6 +7,9 @@ mod places;
 mod region;
 mod sorted;
 
+#[cfg(test)]
+mod tests;
+
 pub use attached::Attached;
 pub use own::OwnRanges;
 pub use places::{address, piece, place, Range};

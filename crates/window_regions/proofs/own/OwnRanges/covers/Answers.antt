@@ -5,7 +5,7 @@ use Rattle.call_rules.specs.Pieces.{numbers_from}
 use Rattle.rank_rules.specs.Ranges.{covers}
 use Rattle.rank_rules.specs.Windows.{OwnRange}
 use Rattle.window_regions.specs.Ascending.{is_attached_byte}
-use Rattle.window_regions.proofs.Tests.{covers-attached}
+use Rattle.window_regions.proofs.RangeTests.{covers-attached}
 use Rattle.window_regions.proofs.own.OwnRanges.covers.Goals as goal
 
 pub returns : goal.returns
