@@ -1,5 +1,7 @@
 -- Proofs of the code of this crate.
+pub mod Accepted
 pub mod Alone
+pub mod Counts
 pub mod Indexes
 pub mod Inserted
 pub mod RangeTests

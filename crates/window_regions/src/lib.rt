@@ -2,10 +2,13 @@
 #![tactic(auto)]
 
 mod attached;
+mod numbers;
 mod own;
 mod places;
 mod region;
 mod sorted;
+mod table;
+mod window;
 
 #[cfg(test)]
 mod tests;
@@ -13,3 +16,5 @@ mod tests;
 pub use attached::Attached;
 pub use own::OwnRanges;
 pub use places::{address, piece, place, Range};
+pub use table::WindowTable;
+pub use window::Shape;

@@ -2,11 +2,11 @@
 ghost use Rattle.std.specs.Prelude.{◌≡◌, ◌==◌, ◌&&◌, ◌+◌, ◌^◌, ◌<◌, not, true, false, [], ◌∷◌, ◌++◌, map, filter, OnOk, OnErr};
 ghost use Rattle.std.specs.List.{list_any};
 ghost use Rattle.rank_rules.specs.Ranges.{covers as do_they_cover, do_overlap, is_taken as is_taken_by};
-ghost use Rattle.rank_rules.specs.Windows.{is_attached_from};
+ghost use Rattle.rank_rules.specs.Windows.{is_attached_from, range_made};
 
 use crate::region::Region;
 use crate::sorted::{do_any_overlap, do_cover, does_any_begin, first_past, is_attached_at};
-use rma_types::NoMemory;
+use rma_types::{Flavor, NoMemory, Part};
 use std::alloc::Global;
 use std::marker::Model;
 
@@ -128,6 +128,19 @@ impl OwnRanges {
         free_from(&mut self.ranges, win);
         free_from(&mut self.created, win);
         free_from(&mut self.attached, win);
+    }
+}
+
+/// The range of the space over which a window is created comes to the ranges.
+pub fn make_range(own: &mut OwnRanges, flavor: Flavor, win: u8, part: Part) -> Result<(), NoMemory>
+    requires { part.base + part.bytes < 2 ^ 32 }
+    ensures ok { OnOk result (own.new ≡ own.old ++ range_made flavor win part) }
+    ensures err { OnErr result (own.new ≡ own.old) }
+{
+    match flavor {
+        Flavor::Allocate => Ok(()),
+        Flavor::Create => own.create(win, part.base, part.bytes),
+        Flavor::Dynamic => Ok(()),
     }
 }
 

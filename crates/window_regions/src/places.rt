@@ -6,6 +6,7 @@ ghost use Rattle.rank_rules.specs.WindowTests.{address_in, is_misplaced as is_mi
 ghost use Rattle.rank_rules.specs.Windows.{no_part};
 ghost use Rattle.window_regions.specs.Places.{place_in, address_on};
 
+use crate::numbers::natural;
 use call_rules::Piece;
 use rma_types::{Class, Dtype, Layout, Part};
 
@@ -25,6 +26,14 @@ fn address_of(part: Part, disp: i32) -> u64
 {
     let disp = if disp < 0 { 0 } else { disp as u32 };
     u64::from(part.base) + u64::from(disp) * u64::from(part.unit)
+}
+
+/// The address of a displacement in a dynamic window.
+pub fn dynamic_address(part: Part, disp: i32) -> u32
+    requires { part ≡ no_part }
+    ensures { result ≡ address_in part disp }
+{
+    part.base + natural(disp) * part.unit
 }
 
 /// Whether the displacement is below 0, or its address is not a multiple of the element's size.
