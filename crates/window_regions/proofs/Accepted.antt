@@ -22,6 +22,6 @@ pub ends_in_space : (known : RankWindows) (win base bytes : ℕ)
     → window_class known (Attaches win (pos base) (pos bytes)) ≡ None → base + bytes ≤ known.space
 ends_in_space known win base bytes h =
     ltb-false known.space (base + bytes)
-        (or_parts (int_lt (pos base) (pos 0)) (int_lt (pos known.space) (pos base +ℤ pos bytes))
-            (fourth-passes (not (is_live known win)) (is_not_dynamic known win) (int_lt (pos bytes) (pos 1))
-                (is_outside known (pos base) (pos bytes)) (is_in_use known (pos base) (pos bytes)) Win Flavor Size Base Attach h)).1
+    (or_parts (int_lt (pos base) (pos 0)) (int_lt (pos known.space) (pos base +ℤ pos bytes))
+    (fourth-passes (not (is_live known win)) (is_not_dynamic known win) (int_lt (pos bytes) (pos 1))
+    (is_outside known (pos base) (pos bytes)) (is_in_use known (pos base) (pos bytes)) Win Flavor Size Base Attach h)).1

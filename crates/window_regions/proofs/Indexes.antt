@@ -1,17 +1,15 @@
 -- The ranges for searches stay those of all ranges.
-use Rattle.std.proofs.Common.{◌≡◌, ℕ, suc, ◌+◌, ◌-◌, ◌<◌, ◌≤◌, Bool, true, false, not, ◌&&◌, ◌||◌, nat_lt, List, [], ◌∷◌, ◌++◌, length, slice_index_or, take, drop, map, filter, refl, sym, ◌∙◌, ap, subst, inl, inr, arith, take-append-drop}
-use Rattle.std.specs.Prelude.{◌⊎◌, insert, All}
+use Rattle.std.proofs.Common.{◌≡◌, ℕ, ◌+◌, ◌<◌, Bool, true, false, not, ◌&&◌, ◌||◌, nat_lt, List, [], ◌∷◌, ◌++◌, take, drop, map, filter, refl, sym, ◌∙◌, ap, subst, take-append-drop}
+use Rattle.std.specs.Prelude.{insert, All}
 use Rattle.std.specs.List.{list_any}
-use Rattle.std.proofs.lemmas.Bool.{cases_lt, cases_Bool, cases_order, ltb-true, ltb-false, or_parts, false≢true}
-use Rattle.std.proofs.lemmas.List.Edits.{length-insert}
 use Rattle.std.proofs.lemmas.List.Elements.{All-filter, All-get_or, All-from_get_or}
-use Rattle.std.proofs.lemmas.List.Folds.{list_any-append, list_any_at}
+use Rattle.std.proofs.lemmas.List.Folds.{list_any-append}
 use Rattle.std.proofs.lemmas.List.Kept.{AllPairs-filter}
 use Rattle.rank_rules.specs.Ranges.{Range, do_overlap, is_taken}
 use Rattle.rank_rules.specs.Windows.{OwnRange}
-use Rattle.window_regions.specs.Ascending.{end_of, IsBefore, IsAscending, IsFirstPast}
+use Rattle.window_regions.specs.Ascending.{IsBefore, IsAscending}
 use Rattle.window_regions.specs.Indexed.{IsIndexed}
-use Rattle.window_regions.proofs.Searches.{no_range, do_overlap-true}
+use Rattle.window_regions.proofs.Searches.{no_range}
 use Rattle.window_regions.proofs.RangeTests.{list_any-agree, list_any-filter, list_any-map}
 
 and-swap : (a b c : Bool) → (a && (b && c)) ≡ (b && (a && c))
@@ -37,6 +35,7 @@ IsAscending-filter q xs up = record {
   where
     HasBytes : OwnRange → Type 0
     HasBytes own = 0 < own.range.bytes
+
     each : All (λ (own : OwnRange). 0 < own.range.bytes) xs
     each = All-from_get_or (λ (own : OwnRange). 0 < own.range.bytes) xs no_range (λ i lt. up.with_bytes i no_range lt)
 
@@ -60,7 +59,7 @@ IsIndexed-filter q ranges created attached so = record {
 -- the range of a created window comes to the ranges
 pub IsIndexed-created : (ranges created attached : List OwnRange) (win base bytes : ℕ) → IsIndexed ranges created attached
     → IsIndexed (ranges ++ record { win = win; range = record { base = base; bytes = bytes }; is_attached = false } ∷ [])
-        (created ++ record { win = win; range = record { base = base; bytes = bytes }; is_attached = false } ∷ []) attached
+    (created ++ record { win = win; range = record { base = base; bytes = bytes }; is_attached = false } ∷ []) attached
 IsIndexed-created ranges created attached win base bytes so = record {
   of_created = λ test.
       list_any-append test created _
@@ -95,15 +94,15 @@ list_any-parts test q (x ∷ xs) = ap (λ b. test x || b) (list_any-parts test q
 -- whether a byte of a range is taken, by the two lists for searches
 pub taken_by_parts : (ranges created attached : List OwnRange) (base bytes : ℕ) → IsIndexed ranges created attached
     → is_taken (map (λ (own : OwnRange). own.range) ranges) (record { base = base; bytes = bytes })
-      ≡ (list_any (λ (own : OwnRange). do_overlap (record { base = base; bytes = bytes }) own.range) created
-        || list_any (λ (own : OwnRange). do_overlap (record { base = base; bytes = bytes }) own.range) attached)
+    ≡ (list_any (λ (own : OwnRange). do_overlap (record { base = base; bytes = bytes }) own.range) created
+    || list_any (λ (own : OwnRange). do_overlap (record { base = base; bytes = bytes }) own.range) attached)
 taken_by_parts ranges created attached base bytes so =
     list_any-map (do_overlap (record { base = base; bytes = bytes })) (λ (own : OwnRange). own.range) ranges
     ∙ list_any-parts (λ (own : OwnRange). do_overlap (record { base = base; bytes = bytes }) own.range) (λ (own : OwnRange). own.is_attached) ranges
     ∙ ap (λ b. b || list_any (λ (own : OwnRange). own.is_attached && do_overlap (record { base = base; bytes = bytes }) own.range) ranges)
-        (sym (so.of_created (λ (own : OwnRange). do_overlap (record { base = base; bytes = bytes }) own.range)))
+    (sym (so.of_created (λ (own : OwnRange). do_overlap (record { base = base; bytes = bytes }) own.range)))
     ∙ ap (λ b. list_any (λ (own : OwnRange). do_overlap (record { base = base; bytes = bytes }) own.range) created || b)
-        (sym (so.of_attached (λ (own : OwnRange). do_overlap (record { base = base; bytes = bytes }) own.range)))
+    (sym (so.of_attached (λ (own : OwnRange). do_overlap (record { base = base; bytes = bytes }) own.range)))
 
 pub taken_by_created : (ranges created attached : List OwnRange) (base bytes : ℕ) (hit : Bool) → IsIndexed ranges created attached
     → hit ≡ list_any (λ (own : OwnRange). do_overlap (record { base = base; bytes = bytes }) own.range) created → hit ≡ true
@@ -137,6 +136,6 @@ pub IsIndexed-filtered : (q : OwnRange → Bool) (ranges created attached rs cs 
 IsIndexed-filtered q ranges created attached rs cs ats so r c a =
     let left = IsIndexed-filter q ranges created attached so in
     let one : IsIndexed rs (filter q created) (filter q attached) =
-        subst (λ (xs : List OwnRange). IsIndexed xs (filter q created) (filter q attached)) (sym r) left in
+    subst (λ (xs : List OwnRange). IsIndexed xs (filter q created) (filter q attached)) (sym r) left in
     let two : IsIndexed rs cs (filter q attached) = subst (λ (xs : List OwnRange). IsIndexed rs xs (filter q attached)) (sym c) one in
     subst (λ (xs : List OwnRange). IsIndexed rs cs xs) (sym a) two

@@ -5,7 +5,7 @@ use Rattle.std.specs.List.{list_any}
 use Rattle.std.proofs.lemmas.Bool.{cases_lt, or_parts, false≢true}
 use Rattle.std.proofs.lemmas.List.Edits.{length-insert, get_or-insert_below, get_or-insert_at, get_or-insert_above}
 use Rattle.std.proofs.lemmas.List.Folds.{list_any-append, list_any_at}
-use Rattle.rank_rules.specs.Ranges.{Range, do_overlap, is_taken}
+use Rattle.rank_rules.specs.Ranges.{do_overlap, is_taken}
 use Rattle.rank_rules.specs.Windows.{OwnRange}
 use Rattle.window_regions.specs.Ascending.{end_of, IsBefore, IsAscending, IsFirstPast}
 use Rattle.window_regions.specs.Indexed.{IsIndexed}
@@ -29,16 +29,24 @@ entry_at xs at own d k within = by_place (cases_lt k at)
         by_order : ((at < k) ⊎ (k ≤ at)) → IsEntry xs at own d k
         by_order (inr here) =
             let same : at ≡ k = omega arith in
-            inr (inl (sym same, subst (λ (n : ℕ). slice_index_or (insert xs at own) n d ≡ own) same
-                (get_or-insert_at xs at own d within)))
+            inr (inl (
+              sym same,
+              subst (λ (n : ℕ). slice_index_or (insert xs at own) n d ≡ own) same
+                  (get_or-insert_at xs at own d within),
+            ))
         by_order (inl later) = past k later
           where
             past : (n : ℕ) → at < n → IsEntry xs at own d n
             past zero lt = absurd (omega arith)
             past (suc m) lt =
                 let more : m + 1 ≡ suc m = omega arith in
-                inr (inr (m, sym more, (omega arith), subst (λ (n : ℕ). slice_index_or (insert xs at own) n d ≡ slice_index_or xs m d) more
-                    (get_or-insert_above xs at own d m (omega arith) within)))
+                inr (inr (
+                  m,
+                  sym more,
+                  (omega arith),
+                  subst (λ (n : ℕ). slice_index_or (insert xs at own) n d ≡ slice_index_or xs m d) more
+                      (get_or-insert_above xs at own d m (omega arith) within),
+                ))
 
 pub IsAscending-insert : (xs : List OwnRange) (at : ℕ) (own : OwnRange) → IsAscending xs → at ≤ length xs
     → 0 < own.range.bytes
@@ -52,6 +60,7 @@ IsAscending-insert xs at own up within some before after = record {
   where
     long : length (insert xs at own) ≡ length xs + 1
     long = length-insert xs at own within
+
     has_bytes : (i : ℕ) (d : OwnRange) → i < length (insert xs at own) → IsEntry xs at own d i
         → 0 < (slice_index_or (insert xs at own) i d).range.bytes
     has_bytes i d inside (inl (below, is)) =
@@ -60,9 +69,11 @@ IsAscending-insert xs at own up within some before after = record {
     has_bytes i d inside (inr (inr (m, next, above, is))) =
         let length_is = long in
         subst (λ (o : OwnRange). 0 < o.range.bytes) (sym is) (up.with_bytes m d (omega arith))
+
     both : (a b a' b' : OwnRange) → a' ≡ a → b' ≡ b → IsBefore a b → IsBefore a' b'
     both a b a' b' a_is b_is h =
         subst (λ (o : OwnRange). IsBefore o b') (sym a_is) (subst (λ (o : OwnRange). IsBefore a o) (sym b_is) h)
+
     ordered : (i j : ℕ) (d : OwnRange) → i < j → j < length (insert xs at own) → IsEntry xs at own d i → IsEntry xs at own d j
         → IsBefore (slice_index_or (insert xs at own) i d) (slice_index_or (insert xs at own) j d)
     ordered i j d lt inside (inl (below, i_is)) (inl (low, j_is)) =
@@ -111,7 +122,7 @@ pub IsIndexed-attached : (ranges created attached : List OwnRange) (win base byt
     → is_taken (map (λ (own : OwnRange). own.range) ranges) (record { base = base; bytes = bytes }) ≡ false
     → IsFirstPast attached base at
     → IsIndexed (ranges ++ record { win = win; range = record { base = base; bytes = bytes }; is_attached = true } ∷ []) created
-        (insert attached at (record { win = win; range = record { base = base; bytes = bytes }; is_attached = true }))
+    (insert attached at (record { win = win; range = record { base = base; bytes = bytes }; is_attached = true }))
 IsIndexed-attached ranges created attached win base bytes at so some free first = record {
   of_created = λ test.
       so.of_created test
@@ -128,6 +139,7 @@ IsIndexed-attached ranges created attached win base bytes at so some free first 
   where
     own : OwnRange
     own = record { win = win; range = record { base = base; bytes = bytes }; is_attached = true }
+
     none : list_any (λ (other : OwnRange). do_overlap (record { base = base; bytes = bytes }) other.range) attached ≡ false
     none = (or_parts (list_any (λ (other : OwnRange). do_overlap (record { base = base; bytes = bytes }) other.range) created)
         (list_any (λ (other : OwnRange). do_overlap (record { base = base; bytes = bytes }) other.range) attached)
@@ -144,7 +156,7 @@ pub IsIndexed-attached_as : (ranges created attached rs ats : List OwnRange) (wi
 IsIndexed-attached_as ranges created attached rs ats win base bytes at so some free first r a =
     let own : OwnRange = record { win = win; range = record { base = base; bytes = bytes }; is_attached = true } in
     let one : IsIndexed (ranges ++ own ∷ []) created (insert attached at own) =
-        IsIndexed-attached ranges created attached win base bytes at so some free first in
+    IsIndexed-attached ranges created attached win base bytes at so some free first in
     let two : IsIndexed rs created (insert attached at own) =
-        subst (λ (xs : List OwnRange). IsIndexed xs created (insert attached at own)) (sym r) one in
+    subst (λ (xs : List OwnRange). IsIndexed xs created (insert attached at own)) (sym r) one in
     subst (λ (xs : List OwnRange). IsIndexed rs created xs) (sym a) two

@@ -1,8 +1,8 @@
 -- Tests of lists of ranges.
-use Rattle.std.proofs.Common.{◌≡◌, ℕ, ◌+◌, ◌<◌, ◌≤◌, ◌==◌, Bool, true, false, not, ◌&&◌, ◌||◌, List, [], ◌∷◌, ◌++◌, map, filter, refl, sym, ◌∙◌, ap, cond}
+use Rattle.std.proofs.Common.{◌≡◌, ℕ, ◌==◌, Bool, true, false, ◌&&◌, ◌||◌, List, [], ◌∷◌, map, filter, refl, sym, ◌∙◌, ap, cond}
 use Rattle.std.specs.List.{list_any, list_all}
 use Rattle.call_rules.specs.Pieces.{numbers_from}
-use Rattle.rank_rules.specs.Ranges.{Range, has_byte, covers}
+use Rattle.rank_rules.specs.Ranges.{has_byte, covers}
 use Rattle.rank_rules.specs.Windows.{OwnRange, is_attached_from}
 use Rattle.window_regions.specs.Ascending.{is_attached_byte}
 
@@ -22,8 +22,8 @@ pub list_any-filter : {X : Type 0} (p q : X → Bool) (xs : List X) → list_any
 list_any-filter p q [] = refl
 list_any-filter p q (x ∷ xs) =
     elim (q x) as (λ b. list_any p (cond b (x ∷ filter q xs) (filter q xs)) ≡ (b && p x || list_any (λ y. q y && p y) xs)) [
-      true ↦ ap (λ b. p x || b) (list_any-filter p q xs)
-    | false ↦ list_any-filter p q xs
+      | true ↦ ap (λ b. p x || b) (list_any-filter p q xs)
+      | false ↦ list_any-filter p q xs
     ]
 
 and-again : (a b c : Bool) → (a && ((a && b) && c)) ≡ ((a && b) && c)
@@ -38,7 +38,7 @@ and-assoc false b c = refl
 pub covers-attached : (ranges attached : List OwnRange) (win lo len : ℕ)
     → ((test : OwnRange → Bool) → list_any test attached ≡ list_any (λ (own : OwnRange). own.is_attached && test own) ranges)
     → list_all (λ (address : ℕ). list_any (is_attached_byte win address) attached) (numbers_from lo len)
-      ≡ covers (map (λ (own : OwnRange). own.range) (filter (λ (own : OwnRange). own.is_attached && own.win == win) ranges)) lo len
+    ≡ covers (map (λ (own : OwnRange). own.range) (filter (λ (own : OwnRange). own.is_attached && own.win == win) ranges)) lo len
 covers-attached ranges attached win lo len same = list_all-agree _ _ each (numbers_from lo len)
   where
     each : (address : ℕ) → list_any (is_attached_byte win address) attached

@@ -1,5 +1,5 @@
 -- A rank's ranges, kept twice: in the order in which they came, and for searches.
-use Rattle.std.specs.Prelude.{ℕ, ◌≡◌, Bool, true, not, ◌&&◌, ◌==◌, List}
+use Rattle.std.specs.Prelude.{◌≡◌, Bool, true, not, ◌&&◌, ◌==◌, List}
 use Rattle.std.specs.List.{list_any}
 use Rattle.rank_rules.specs.Windows.{OwnRange}
 use Rattle.window_regions.specs.Ascending.{IsAscending}

@@ -36,8 +36,9 @@ impl Attached {
         }
     }
 
-    /// A range comes: so many bytes from the base on, at least 1, of which none is in a range that is there. `Err` changes
-    /// nothing.
+    /// A range comes: so many bytes from the base on, at least 1, of which none is in a range that is there.
+    ///
+    /// `Err` changes nothing.
     pub fn add(&mut self, base: u32, bytes: u32) -> Result<(), NoMemory>
         requires some { 0 < bytes }
         requires end { base + bytes < 2 ^ 32 }

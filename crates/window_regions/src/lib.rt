@@ -8,13 +8,12 @@ mod places;
 mod region;
 mod sorted;
 mod table;
-mod window;
-
 #[cfg(test)]
 mod tests;
+mod window;
 
 pub use attached::Attached;
 pub use own::OwnRanges;
-pub use places::{address, piece, place, Range};
+pub use places::{Range, address, piece, place};
 pub use table::WindowTable;
 pub use window::Shape;

@@ -75,7 +75,10 @@ impl OwnRanges {
     pub fn create(&mut self, win: u8, base: u32, bytes: u32) -> Result<(), NoMemory>
         requires { base + bytes < 2 ^ 32 }
         ensures ok { OnOk result (self.new ≡ self.old ++ record {
-            win = win; range = record { base = base; bytes = bytes }; is_attached = false } ∷ []) }
+          win = win;
+          range = record { base = base; bytes = bytes };
+          is_attached = false;
+        } ∷ []) }
         ensures err { OnErr result (self.new ≡ self.old) }
     {
         if self.ranges.reserve(1).is_err() || self.created.reserve(1).is_err() {
@@ -87,15 +90,19 @@ impl OwnRanges {
         Ok(())
     }
 
-    /// A range that is attached to the window comes to the ranges: it has bytes, and none of them is taken. `Err` changes
-    /// nothing.
+    /// A range that is attached to the window comes to the ranges: it has bytes, and none of them is taken.
+    ///
+    /// `Err` changes nothing.
     pub fn attach(&mut self, win: u8, base: u32, bytes: u32) -> Result<(), NoMemory>
         requires some { 0 < bytes }
         requires end { base + bytes < 2 ^ 32 }
         requires apart { is_taken_by (map (λ own. own.range) self.old)
             (record { base = base; bytes = bytes }) ≡ false }
         ensures ok { OnOk result (self.new ≡ self.old ++ record {
-            win = win; range = record { base = base; bytes = bytes }; is_attached = true } ∷ []) }
+          win = win;
+          range = record { base = base; bytes = bytes };
+          is_attached = true;
+        } ∷ []) }
         ensures err { OnErr result (self.new ≡ self.old) }
     {
         if self.ranges.reserve(1).is_err() {
@@ -160,15 +167,19 @@ fn does_overlap(range: &Region, base: u32, bytes: u32) -> bool
 fn detach_from(ranges: &mut Vec<Region>, win: u8, base: u32)
     ensures { ranges.new.items ≡ filter (λ own. not (is_attached_from win base own)) ranges.old.items }
 {
-    ranges.retain(|range: &Region| -> bool
-        ensures { result ≡ not (is_attached_from win base range.now) }
-    { !is_attached_at(range, win, base) });
+    ranges.retain(
+        |range: &Region| -> bool
+            ensures { result ≡ not (is_attached_from win base range.now) }
+        { !is_attached_at(range, win, base) },
+    );
 }
 
 fn free_from(ranges: &mut Vec<Region>, win: u8)
     ensures { ranges.new.items ≡ filter (λ own. not (own.win == win)) ranges.old.items }
 {
-    ranges.retain(|range: &Region| -> bool
-        ensures { result ≡ not (range.now.win == win) }
-    { range.win() != win });
+    ranges.retain(
+        |range: &Region| -> bool
+            ensures { result ≡ not (range.now.win == win) }
+        { range.win() != win },
+    );
 }

@@ -1,7 +1,7 @@
 //! Places and ranges of memory, against answers worked out by hand.
 ghost use Rattle.std.specs.Prelude.{◌+◌, ◌^◌, ◌<◌};
 
-use crate::{address, place, Attached, OwnRanges, Range};
+use crate::{Attached, OwnRanges, Range, address, place};
 use rma_types::{Class, Dtype, Part};
 use std::process::Abort;
 use std::test::Fail;
@@ -19,22 +19,40 @@ fn two_units(rt: HostRuntime) {
         bytes: 16,
         unit: 4,
     };
-    assert_eq!(rt; place(bytes, 2, Dtype::Int16, 1), Ok(Range { lo: 10, len: 2 }));
-    assert_eq!(rt; place(words, 2, Dtype::Int16, 1), Ok(Range { lo: 16, len: 2 }));
-    assert_eq!(rt; place(words, 3, Dtype::Int16, 2), Ok(Range { lo: 20, len: 4 }));
+    assert_eq!(rt;
+        place(bytes, 2, Dtype::Int16, 1),
+        Ok(Range { lo: 10, len: 2 })
+    );
+    assert_eq!(rt;
+        place(words, 2, Dtype::Int16, 1),
+        Ok(Range { lo: 16, len: 2 })
+    );
+    assert_eq!(rt;
+        place(words, 3, Dtype::Int16, 2),
+        Ok(Range { lo: 20, len: 4 })
+    );
     assert_eq!(rt; place(words, 3, Dtype::Int32, 2), Err(Class::Range));
     assert_eq!(rt; place(bytes, 1, Dtype::Int16, 1), Err(Class::Disp));
     assert_eq!(rt; place(bytes, 17, Dtype::Int16, 1), Err(Class::Disp));
     assert_eq!(rt; place(bytes, -1, Dtype::Int8, 0), Err(Class::Disp));
     assert_eq!(rt; place(bytes, 17, Dtype::Int8, 0), Err(Class::Range));
-    assert_eq!(rt; place(bytes, 16, Dtype::Int8, 0), Ok(Range { lo: 24, len: 0 }));
+    assert_eq!(rt;
+        place(bytes, 16, Dtype::Int8, 0),
+        Ok(Range { lo: 24, len: 0 })
+    );
 }
 
 /// In a dynamic window a displacement is an address, and the rank knows no end.
 #[test]
 fn addresses(rt: HostRuntime) {
     assert_eq!(rt; address(12, Dtype::Int32, 3), Ok(Range { lo: 12, len: 12 }));
-    assert_eq!(rt; address(2147483647, Dtype::Int8, 256), Ok(Range { lo: 2147483647, len: 256 }));
+    assert_eq!(rt;
+        address(2147483647, Dtype::Int8, 256),
+        Ok(Range {
+            lo: 2147483647,
+            len: 256
+        })
+    );
     assert_eq!(rt; address(6, Dtype::Int32, 1), Err(Class::Disp));
     assert_eq!(rt; address(-4, Dtype::Int32, 1), Err(Class::Disp));
 }
@@ -48,7 +66,7 @@ fn attach(rt: &impl Abort, ranges: &mut OwnRanges, win: u8, base: u32, bytes: u3
     assert_eq!(rt; ranges.attach(win, base, bytes), Ok(()));
 }
 
-/// Ranges that adjoin cover what none of them does alone; those of another window count for nothing but that they are taken.
+/// Ranges that adjoin cover what none of them does alone; those of another window only count as taken.
 #[test]
 fn ranges_of_windows(rt: HostRuntime) {
     let mut ranges = OwnRanges::new(rt.alloc());

@@ -109,7 +109,9 @@ pub fn find_window(windows: &[Window], win: u8) -> Option<&Window>
 pub fn leave(windows: &mut Vec<Window>, win: u8)
     ensures { windows.new.items ≡ filter (λ window. not (window.win == win)) windows.old.items }
 {
-    windows.retain(|window: &Window| -> bool
-        ensures { result ≡ not (window.now.win == win) }
-    { window.win() != win });
+    windows.retain(
+        |window: &Window| -> bool
+            ensures { result ≡ not (window.now.win == win) }
+        { window.win() != win },
+    );
 }
