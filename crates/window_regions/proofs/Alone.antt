@@ -53,6 +53,7 @@ ranges-filter base (x ∷ xs) all =
     by_test same false = ap (λ (rs : List Range). x.range ∷ rs) same
 
 pub ranges-append : (xs : List OwnRange) (own : OwnRange)
-    → map (λ (other : OwnRange). other.range) (xs ++ own ∷ []) ≡ map (λ (other : OwnRange). other.range) xs ++ own.range ∷ []
+    → map (λ (other : OwnRange). other.range) (xs ++ own ∷ []) ≡ map (λ
+    (other : OwnRange). other.range) xs ++ own.range ∷ []
 ranges-append [] own = refl
 ranges-append (x ∷ xs) own = ap (λ (rs : List Range). x.range ∷ rs) (ranges-append xs own)

@@ -74,7 +74,8 @@ IsAscending-insert xs at own up within some before after = record {
     both a b a' b' a_is b_is h =
         subst (λ (o : OwnRange). IsBefore o b') (sym a_is) (subst (λ (o : OwnRange). IsBefore a o) (sym b_is) h)
 
-    ordered : (i j : ℕ) (d : OwnRange) → i < j → j < length (insert xs at own) → IsEntry xs at own d i → IsEntry xs at own d j
+    ordered : (i j : ℕ) (d : OwnRange) → i < j → j < length (insert xs at own) → IsEntry xs at own d i → IsEntry xs
+        at own d j
         → IsBefore (slice_index_or (insert xs at own) i d) (slice_index_or (insert xs at own) j d)
     ordered i j d lt inside (inl (below, i_is)) (inl (low, j_is)) =
         both _ _ _ _ i_is j_is (up.in_order i j d lt (omega arith))
@@ -97,14 +98,17 @@ IsAscending-insert xs at own up within some before after = record {
 pub begins_past : (xs : List OwnRange) (base bytes at : ℕ) → IsAscending xs → 0 < bytes → IsFirstPast xs base at
     → list_any (λ (own : OwnRange). do_overlap (record { base = base; bytes = bytes }) own.range) xs ≡ false
     → (i : ℕ) (d : OwnRange) → at ≤ i → i < length xs → base + bytes ≤ (slice_index_or xs i d).range.base
-begins_past xs base bytes at up some first none i d le lt = by_order (cases_lt (slice_index_or xs i d).range.base (base + bytes))
+begins_past xs base bytes at up some first none i d le lt = by_order (cases_lt (slice_index_or xs i d).range.base
+    (base + bytes))
   where
-    by_order : (((slice_index_or xs i d).range.base < base + bytes) ⊎ (base + bytes ≤ (slice_index_or xs i d).range.base))
+    by_order : (((slice_index_or xs i d).range.base < base + bytes) ⊎ (base + bytes ≤
+        (slice_index_or xs i d).range.base))
         → base + bytes ≤ (slice_index_or xs i d).range.base
     by_order (inr far) = far
     by_order (inl near) = absurd (false≢true (sym none ∙ list_any_at
         (λ (own : OwnRange). do_overlap (record { base = base; bytes = bytes }) own.range) xs i d lt
-        (do_overlap-true base bytes (slice_index_or xs i d).range some (up.with_bytes i d lt) (first.after i d le lt) near)))
+        (do_overlap-true base bytes (slice_index_or xs i d).range some (up.with_bytes i d lt)
+        (first.after i d le lt) near)))
 
 or-to_end : (t a : Bool) → (t || a) ≡ (a || (t || false))
 or-to_end true true = refl
@@ -121,7 +125,8 @@ pub IsIndexed-attached : (ranges created attached : List OwnRange) (win base byt
     → IsIndexed ranges created attached → 0 < bytes
     → is_taken (map (λ (own : OwnRange). own.range) ranges) (record { base = base; bytes = bytes }) ≡ false
     → IsFirstPast attached base at
-    → IsIndexed (ranges ++ record { win = win; range = record { base = base; bytes = bytes }; is_attached = true } ∷ []) created
+    → IsIndexed (ranges ++ record { win = win; range = record { base = base; bytes = bytes }; is_attached = true } ∷
+    []) created
     (insert attached at (record { win = win; range = record { base = base; bytes = bytes }; is_attached = true }))
 IsIndexed-attached ranges created attached win base bytes at so some free first = record {
   of_created = λ test.
@@ -140,8 +145,10 @@ IsIndexed-attached ranges created attached win base bytes at so some free first 
     own : OwnRange
     own = record { win = win; range = record { base = base; bytes = bytes }; is_attached = true }
 
-    none : list_any (λ (other : OwnRange). do_overlap (record { base = base; bytes = bytes }) other.range) attached ≡ false
-    none = (or_parts (list_any (λ (other : OwnRange). do_overlap (record { base = base; bytes = bytes }) other.range) created)
+    none : list_any (λ (other : OwnRange). do_overlap (record { base = base; bytes = bytes }) other.range) attached ≡
+        false
+    none = (or_parts (list_any (λ (other : OwnRange). do_overlap
+        (record { base = base; bytes = bytes }) other.range) created)
         (list_any (λ (other : OwnRange). do_overlap (record { base = base; bytes = bytes }) other.range) attached)
         (sym (taken_by_parts ranges created attached base bytes so) ∙ free)).1
 

@@ -39,7 +39,8 @@ IsPartitionedBy-end xs address up i j d le lt h =
     le-leb _ address (omega arith)
 
 pub IsFirstPast-from_partition : (xs : List OwnRange) (address at : ℕ) → at ≤ length xs
-    → IsPartitionPoint (λ (own : OwnRange). nat_le (end_of own) address ≡ true) (λ own. nat_le (end_of own) address ≡ false) xs at
+    → IsPartitionPoint (λ (own : OwnRange). nat_le (end_of own) address ≡ true) (λ own. nat_le
+    (end_of own) address ≡ false) xs at
     → IsFirstPast xs address at
 IsFirstPast-from_partition xs address at within parts = record {
   within = within;
@@ -47,7 +48,8 @@ IsFirstPast-from_partition xs address at within parts = record {
   after = λ i d le lt. leb-false _ address (parts.1 i d le lt);
 }
 
-pub do_overlap-true : (base bytes : ℕ) (r : Range) → 0 < bytes → 0 < r.bytes → base < r.base + r.bytes → r.base < base + bytes
+pub do_overlap-true : (base bytes : ℕ) (r : Range) → 0 < bytes → 0 < r.bytes → base < r.base + r.bytes → r.base <
+    base + bytes
     → do_overlap (record { base = base; bytes = bytes }) r ≡ true
 do_overlap-true base bytes r a b c e =
     and_from _ _ (and_from _ _ (and_from _ _ (lt-ltb 0 bytes a) (lt-ltb 0 r.bytes b)) (lt-ltb _ _ c)) (lt-ltb _ _ e)
@@ -68,7 +70,8 @@ overlap_found xs base bytes at d up some first lt near =
     or_at (list_any (λ (own : OwnRange). do_overlap (record { base = base; bytes = bytes }) own.range))
     (λ (own : OwnRange). do_overlap (record { base = base; bytes = bytes }) own.range)
     refl (λ x rest. refl) xs at d lt
-    (do_overlap-true base bytes (slice_index_or xs at d).range some (up.with_bytes at d lt) (first.after at d (omega arith) lt) near)
+    (do_overlap-true base bytes (slice_index_or xs at d).range some (up.with_bytes at d lt) (first.after at d
+    (omega arith) lt) near)
 
 -- where it begins past them, or there is none, no range overlaps
 pub overlap_nowhere : (xs : List OwnRange) (base bytes at : ℕ) (d : OwnRange) → IsAscending xs
@@ -79,17 +82,21 @@ overlap_nowhere xs base bytes at d up first far =
     (λ (own : OwnRange). do_overlap (record { base = base; bytes = bytes }) own.range)
     refl (λ x rest. refl) xs d each
   where
-    each : (i : ℕ) → i < length xs → do_overlap (record { base = base; bytes = bytes }) (slice_index_or xs i d).range ≡ false
+    each : (i : ℕ) → i < length xs → do_overlap (record { base = base; bytes = bytes })
+        (slice_index_or xs i d).range ≡ false
     each i lt = by_place (cases_lt i at)
       where
-        by_place : ((i < at) ⊎ (at ≤ i)) → do_overlap (record { base = base; bytes = bytes }) (slice_index_or xs i d).range ≡ false
+        by_place : ((i < at) ⊎ (at ≤ i)) → do_overlap (record { base = base; bytes = bytes })
+            (slice_index_or xs i d).range ≡ false
         by_place (inl below) = do_overlap-below base bytes (slice_index_or xs i d).range (first.before i d below)
         by_place (inr above) = by_order (cases_lt at i)
           where
-            by_order : ((at < i) ⊎ (i ≤ at)) → do_overlap (record { base = base; bytes = bytes }) (slice_index_or xs i d).range ≡ false
+            by_order : ((at < i) ⊎ (i ≤ at)) → do_overlap (record { base = base; bytes = bytes })
+                (slice_index_or xs i d).range ≡ false
             by_order (inl later) =
                 let start : base + bytes ≤ (slice_index_or xs at d).range.base = far (omega arith) in
-                let before : end_of (slice_index_or xs at d) ≤ (slice_index_or xs i d).range.base = up.in_order at i d later lt in
+                let before : end_of (slice_index_or xs at d) ≤ (slice_index_or xs i d).range.base = up.in_order at i
+                d later lt in
                 do_overlap-above base bytes (slice_index_or xs i d).range (omega arith)
             by_order (inr here) =
                 let same : at ≡ i = omega arith in
@@ -125,7 +132,8 @@ overlap_past_all xs base bytes at d up first none =
 
 -- ---- a range that begins at a base
 
-begins_elsewhere : (win base : ℕ) (own : OwnRange) → ((own.range.base ≡ base) → ⊥) → is_attached_from win base own ≡ false
+begins_elsewhere : (win base : ℕ) (own : OwnRange) → ((own.range.base ≡ base) → ⊥) → is_attached_from win base own ≡
+    false
 begins_elsewhere win base own other = and_right _ _ (ne_eqb own.range.base base other)
 
 -- no other range than the first past the base begins there
@@ -148,7 +156,8 @@ begin_elsewhere xs win base at d up first here =
             by_order : ((at < i) ⊎ (i ≤ at)) → is_attached_from win base (slice_index_or xs i d) ≡ false
             by_order (inl later) =
                 let past : base < end_of (slice_index_or xs at d) = first.after at d (omega arith) (omega arith) in
-                let before : end_of (slice_index_or xs at d) ≤ (slice_index_or xs i d).range.base = up.in_order at i d later lt in
+                let before : end_of (slice_index_or xs at d) ≤ (slice_index_or xs i d).range.base = up.in_order at i
+                d later lt in
                 begins_elsewhere win base (slice_index_or xs i d) (λ same. absurd (omega arith))
             by_order (inr at_place) =
                 let same : at ≡ i = omega arith in
@@ -164,7 +173,8 @@ begin_at xs win base at own up first lt is = by_test (cases_Bool (is_attached_fr
     by_test (inl begins) =
         let there : is_attached_from win base (slice_index_or xs at own) ≡ true =
         subst (λ (o : OwnRange). is_attached_from win base o ≡ true) is begins in
-        begins ∙ sym (or_at (list_any (is_attached_from win base)) (is_attached_from win base) refl (λ x rest. refl) xs at own lt there)
+        begins ∙ sym (or_at (list_any (is_attached_from win base)) (is_attached_from win base) refl
+        (λ x rest. refl) xs at own lt there)
     by_test (inr other) =
         let there : is_attached_from win base (slice_index_or xs at own) ≡ false =
         subst (λ (o : OwnRange). is_attached_from win base o ≡ false) is other in
@@ -172,7 +182,8 @@ begin_at xs win base at own up first lt is = by_test (cases_Bool (is_attached_fr
 
 pub begin_past_all : (xs : List OwnRange) (win base at : ℕ) (d : OwnRange) → IsAscending xs → IsFirstPast xs base at
     → length xs ≤ at → false ≡ list_any (is_attached_from win base) xs
-begin_past_all xs win base at d up first none = sym (begin_elsewhere xs win base at d up first (λ lt. absurd (omega arith)))
+begin_past_all xs win base at d up first none = sym (begin_elsewhere xs win base at d up first (λ lt. absurd
+    (omega arith)))
 
 -- ---- bytes that are attached
 
@@ -181,7 +192,8 @@ pub byte_nowhere : (xs : List OwnRange) (win address at : ℕ) (d : OwnRange) �
     → (at < length xs → is_attached_byte win address (slice_index_or xs at d) ≡ false)
     → list_any (is_attached_byte win address) xs ≡ false
 byte_nowhere xs win address at d up first here =
-    or_from_places (list_any (is_attached_byte win address)) (is_attached_byte win address) refl (λ x rest. refl) xs d each
+    or_from_places (list_any (is_attached_byte win address)) (is_attached_byte win address) refl
+    (λ x rest. refl) xs d each
   where
     each : (i : ℕ) → i < length xs → is_attached_byte win address (slice_index_or xs i d) ≡ false
     each i lt = by_place (cases_lt i at)
@@ -195,11 +207,13 @@ byte_nowhere xs win address at d up first here =
             by_order : ((at < i) ⊎ (i ≤ at)) → is_attached_byte win address (slice_index_or xs i d) ≡ false
             by_order (inl later) =
                 let past : address < end_of (slice_index_or xs at d) = first.after at d (omega arith) (omega arith) in
-                let before : end_of (slice_index_or xs at d) ≤ (slice_index_or xs i d).range.base = up.in_order at i d later lt in
+                let before : end_of (slice_index_or xs at d) ≤ (slice_index_or xs i d).range.base = up.in_order at i
+                d later lt in
                 and_right _ _ (and_left _ _ (lt-leb (slice_index_or xs i d).range.base address (omega arith)))
             by_order (inr at_place) =
                 let same : at ≡ i = omega arith in
-                subst (λ (k : ℕ). is_attached_byte win address (slice_index_or xs k d) ≡ false) same (here (omega arith))
+                subst (λ (k : ℕ). is_attached_byte win address (slice_index_or xs k d) ≡ false) same (here
+                (omega arith))
 
 -- a range that has one byte has those up to its end
 pub bytes_of_range : (xs : List OwnRange) (win address a at : ℕ) (own : OwnRange) → at < length xs
@@ -226,7 +240,8 @@ list_all-numbers_from p low (suc len) h =
 pub list_all-numbers_from_fails : (p : ℕ → Bool) (low len a : ℕ) → low ≤ a → a < low + len → p a ≡ false
     → list_all p (numbers_from low len) ≡ false
 list_all-numbers_from_fails p low zero a le lt h = absurd (omega arith)
-list_all-numbers_from_fails p low (suc len) a le lt h = by_place (cases_lt low a) (list_all-numbers_from_fails p (low + 1) len a)
+list_all-numbers_from_fails p low (suc len) a le lt h = by_place (cases_lt low a) (list_all-numbers_from_fails p
+    (low + 1) len a)
   where
     by_place : ((low < a) ⊎ (a ≤ low))
         → (low + 1 ≤ a → a < low + 1 + len → p a ≡ false → list_all p (numbers_from (low + 1) len) ≡ false)
@@ -263,13 +278,15 @@ IsCoveredUpTo-more xs win low at address own up so lt is has = record {
 
     before : (i : ℕ) (d : OwnRange) → i < at + 1 → end_of (slice_index_or xs i d) ≤ end_of own
     before i d below =
-        let rises : end_of (slice_index_or xs i d) ≤ end_of (slice_index_or xs at d) = end-rises xs up i at d (omega arith) lt in
+        let rises : end_of (slice_index_or xs i d) ≤ end_of (slice_index_or xs at d) = end-rises xs up i at d
+        (omega arith) lt in
         let same : end_of (slice_index_or xs at d) ≡ end_of own = ends d in
         omega arith
 
     after : (i : ℕ) (d : OwnRange) → at + 1 ≤ i → i < length xs → end_of own < end_of (slice_index_or xs i d)
     after i d above within =
-        let next : end_of (slice_index_or xs at d) ≤ (slice_index_or xs i d).range.base = up.in_order at i d (omega arith) within in
+        let next : end_of (slice_index_or xs at d) ≤ (slice_index_or xs i d).range.base = up.in_order at i d
+        (omega arith) within in
         let some : 0 < (slice_index_or xs i d).range.bytes = up.with_bytes i d within in
         let same : end_of (slice_index_or xs at d) ≡ end_of own = ends d in
         omega arith

@@ -4,8 +4,8 @@ use Rattle.std.specs.List.{list_any}
 use Rattle.rank_rules.specs.Windows.{OwnRange}
 use Rattle.window_regions.specs.Ascending.{IsAscending}
 
--- Of all ranges, those of created windows and those that are attached pass the same tests as the lists for searches, and
--- the attached ones have no byte in common.
+-- Of all ranges, those of created windows and those that are attached pass the same tests as the lists for searches,
+-- and the attached ones have no byte in common.
 pub record IsIndexed (ranges created attached : List OwnRange) : Type 0 where
   pub of_created : (test : OwnRange → Bool)
       → list_any test created ≡ list_any (λ (own : OwnRange). not own.is_attached && test own) ranges

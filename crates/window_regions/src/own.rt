@@ -1,5 +1,6 @@
 //! The ranges of a rank's own space that belong to live windows.
-ghost use Rattle.std.specs.Prelude.{◌≡◌, ◌==◌, ◌&&◌, ◌+◌, ◌^◌, ◌<◌, not, true, false, [], ◌∷◌, ◌++◌, map, filter, OnOk, OnErr};
+ghost use Rattle.std.specs.Prelude.{◌≡◌, ◌==◌, ◌&&◌, ◌+◌, ◌^◌, ◌<◌, not, true, false};
+ghost use Rattle.std.specs.Prelude.{[], ◌∷◌, ◌++◌, map, filter, OnOk, OnErr};
 ghost use Rattle.std.specs.List.{list_any};
 ghost use Rattle.rank_rules.specs.Ranges.{covers as do_they_cover, do_overlap, is_taken as is_taken_by};
 ghost use Rattle.rank_rules.specs.Windows.{is_attached_from, range_made};

@@ -2,7 +2,8 @@
 ghost use Rattle.std.specs.Prelude.{◌≡◌, ◌+◌, ◌*◌, ◌<◌, ◌≤◌, ◌^◌, pos};
 ghost use Rattle.rma_types.specs.Datatypes.{size_of};
 ghost use Rattle.call_rules.specs.Pieces.{piece_at};
-ghost use Rattle.rank_rules.specs.WindowTests.{address_in, is_misplaced as is_misplaced_in, passes_end as passes_end_of};
+ghost use Rattle.rank_rules.specs.WindowTests.{address_in, is_misplaced as is_misplaced_in};
+ghost use Rattle.rank_rules.specs.WindowTests.{passes_end as passes_end_of};
 ghost use Rattle.rank_rules.specs.Windows.{no_part};
 ghost use Rattle.window_regions.specs.Places.{place_in, address_on};
 
@@ -72,8 +73,8 @@ pub fn place(part: Part, disp: i32, dtype: Dtype, count: u32) -> Result<Range, C
 
 /// Where so many elements lie in a dynamic window, whose displacements are addresses (MPI 3.1, section 11.2.4).
 ///
-/// MPI_ERR_DISP where the displacement is below 0 or no multiple of the element's size. Whether the bytes are attached is
-/// not tested here. The count is at most 256.
+/// MPI_ERR_DISP where the displacement is below 0 or no multiple of the element's size. Whether the bytes are attached
+/// is not tested here. The count is at most 256.
 pub fn address(disp: i32, dtype: Dtype, count: u32) -> Result<Range, Class>
     requires { count ≤ 256 }
     ensures { result ≡ address_on disp dtype count }

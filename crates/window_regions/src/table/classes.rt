@@ -1,7 +1,8 @@
 //! The class of a call by each of its tests: MPI 3.1, sections 11.2 and 11.3.
 ghost use Rattle.std.specs.Prelude.{◌≡◌, not, None, if◌then◌else◌};
 ghost use Rattle.std.specs.Option.{option_copied};
-ghost use Rattle.call_rules.specs.Actions.{Creates, Attaches, Detaches, Frees, Moves, Own, Named, target_of, get_transfer};
+ghost use Rattle.call_rules.specs.Actions.{Creates, Attaches, Detaches, Frees, Moves, Own, Named};
+ghost use Rattle.call_rules.specs.Actions.{target_of, get_transfer};
 ghost use Rattle.rma_types.specs.declared.accesses.Kind.TheVariants.{Get as GetKind, Load as LoadKind};
 ghost use Rattle.rma_types.specs.declared.calls.Flavor.TheVariants.{Dynamic as DynamicFlavor};
 ghost use Rattle.call_rules.specs.WellFormed.{IsUpTo};

@@ -27,7 +27,8 @@ loop-at-preserved c =
     let more = IsCoveredUpTo-more c.args.ranges.now c.args.win c.args.lo c.loop-at.at c.loop-at.address own c.requires
     c.loop-at.invariant c.loop-at-test.true c.index-ranges-at.is has in
     let ends : c.from-address-in-loop-at.result ≡ end_of own = c.from-address-in-loop-at.ensures ∙ c.end.ensures in
-    subst (λ (address : ℕ). IsCoveredUpTo c.args.ranges.now c.args.win c.args.lo (c.loop-at.at + 1) address) (sym ends) more
+    subst (λ (address : ℕ). IsCoveredUpTo c.args.ranges.now c.args.win c.args.lo (c.loop-at.at + 1) address)
+    (sym ends) more
 
 pub returns : goal.returns
 returns c =

@@ -10,7 +10,8 @@ use Rattle.window_regions.proofs.attached.Attached.remove.Goals as goal
 pub invariant_of-self : goal.invariant_of-self
 invariant_of-self c =
     subst (λ (xs : List OwnRange). AllByRecursion IsAttachedAlone xs) (sym c.detach.ensures)
-    (all_alone-filter (λ (own : OwnRange). not (is_attached_from 0 c.args.base own)) c.self.inside.ranges c.self.invariant)
+    (all_alone-filter (λ (own : OwnRange). not (is_attached_from 0 c.args.base own)) c.self.inside.ranges
+    c.self.invariant)
 
 pub returns : goal.returns
 returns c =

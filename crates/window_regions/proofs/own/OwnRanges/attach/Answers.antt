@@ -11,5 +11,6 @@ invariant_of-self-in-Ok c =
     c.push_reserved.new.self.items c.insert.new.self.items
     c.args.win c.args.base c.args.bytes c.first_past-at.result c.self.invariant c.requires.some
     (search rules)
-    (subst (λ (xs : List OwnRange). IsFirstPast xs c.args.base c.first_past-at.result) c.as_slice.ensures.value c.first_past-at.ensures)
+    (subst (λ (xs : List OwnRange). IsFirstPast xs c.args.base c.first_past-at.result) c.as_slice.ensures.value
+    c.first_past-at.ensures)
     (search rules) (search rules)
