@@ -24,8 +24,8 @@ names_no_wrong_rank : (epochs : List Epochs) (win : ℕ) (s : Synchronisation)
     → (accepted : IsAccepted epochs (Synchronises win s)) → names_wrong_rank accepted.ranks s ≡ false
 names_no_wrong_rank epochs win s accepted =
     first_class-None (names_wrong_rank accepted.ranks s) Rank
-        ((has_wrong_assert (epochs_at epochs win) s, Assert) ∷ (not (may_synchronise (epochs_at epochs win) s), Sync) ∷ [])
-        accepted.passes
+    ((has_wrong_assert (epochs_at epochs win) s, Assert) ∷ (not (may_synchronise (epochs_at epochs win) s), Sync) ∷ [])
+    accepted.passes
 
 -- a rank of a run of fewer ranks is one of a run of 16
 is_rank-16 : (ranks : ℕ) (z : ℤ) → ranks ≤ 16 → is_rank ranks z ≡ true → is_rank 16 z ≡ true

@@ -28,8 +28,8 @@ is_member-without x n (y ∷ ys) h =
     let parts = or_parts _ _ h in
     let rest = is_member-without x n ys parts.1 in
     elim (y == n) as (λ b. is_member x (cond (not b) (y ∷ without n ys) (without n ys)) ≡ false) [
-      true ↦ rest
-    | false ↦ or_from _ _ parts.0 rest
+      | true ↦ rest
+      | false ↦ or_from _ _ parts.0 rest
     ]
 
 without-absent : (n : ℕ) (xs : List ℕ) → is_member n xs ≡ false → without n xs ≡ xs
@@ -100,8 +100,8 @@ are_distinct_ranks-without (x ∷ xs) rank h =
     let rest = are_distinct_ranks-without xs rank parts.1 in
     let alone = is_member-without x rank xs (not-true _ first.1) in
     elim (x == rank) as (λ b. are_distinct_ranks (cond (not b) (x ∷ without rank xs) (without rank xs)) ≡ true) [
-      true ↦ rest
-    | false ↦ and_from _ _ (and_from _ _ first.0 (not_from_false _ alone)) rest
+      | true ↦ rest
+      | false ↦ and_from _ _ (and_from _ _ first.0 (not_from_false _ alone)) rest
     ]
 
 -- distinct ranks are at most 16
@@ -113,7 +113,7 @@ pub room_for_rank : (xs : List ℕ) (rank : ℕ) → are_distinct_ranks xs ≡ t
     → length xs < 16
 room_for_rank xs rank h absent low =
     let all : length (xs ++ rank ∷ []) ≤ 16 =
-        length_of_distinct_ranks (xs ++ rank ∷ []) (are_distinct_ranks-append xs rank h absent low) in
+    length_of_distinct_ranks (xs ++ rank ∷ []) (are_distinct_ranks-append xs rank h absent low) in
     omega (arith, length-append xs (rank ∷ []))
 
 -- ---- the targets of an access epoch

@@ -4,7 +4,7 @@ ghost use Rattle.rank_epochs.specs.Views.{access_of};
 ghost use Rattle.call_rules.specs.Ranks.{is_member as is_member_of};
 ghost use Rattle.rank_rules.specs.Epochs as rules;
 
-use crate::ranks::{is_member, Ranks};
+use crate::ranks::{Ranks, is_member};
 
 /// The access epoch: none; that of a fence, before and after its first RMA call; that of a start, with its group; that of
 /// locks, with their targets in the order of locking; or that of a lock_all.

@@ -10,9 +10,8 @@ mod classes;
 mod exposure;
 mod ranks;
 mod state;
-mod windows;
-
 #[cfg(test)]
 mod tests;
+mod windows;
 
 pub use state::EpochState;

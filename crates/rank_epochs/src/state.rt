@@ -7,8 +7,8 @@ ghost use Rattle.rank_rules.specs.EpochTests.{epoch_class};
 ghost use Rattle.rank_epochs.specs.Accepted.{IsAccepted};
 ghost use Rattle.rank_epochs.specs.Reach.{epochs_after_use};
 
-use crate::ranks::{is_rank, is_wrong_group};
 use crate::classes::{has_more_than_nocheck, synchronisation_class};
+use crate::ranks::{is_rank, is_wrong_group};
 use crate::windows::WindowEpochs;
 use rank_rules::first_class;
 use rma_types::{Call, Class};
@@ -130,7 +130,10 @@ impl EpochState {
             Call::Sync { win } => synchronisation_class(false, false, self.at(*win).is_passive()),
             Call::Barrier => None,
             Call::Put {
-                req, win, target, ..
+                req,
+                win,
+                target,
+                ..
             } => self.at(*win).reach_class(*target, req.is_some(), ranks),
             Call::Get {
                 req,
@@ -226,16 +229,28 @@ impl EpochState {
             Call::Sync { .. } => {}
             Call::Barrier => {}
             Call::Put {
-                req, win, target, ..
+                req,
+                win,
+                target,
+                ..
             } => self.use_fence(*win, *target, req.is_some()),
             Call::Get {
-                req, win, target, ..
+                req,
+                win,
+                target,
+                ..
             } => self.use_fence(*win, *target, req.is_some()),
             Call::Acc {
-                req, win, target, ..
+                req,
+                win,
+                target,
+                ..
             } => self.use_fence(*win, *target, req.is_some()),
             Call::GetAcc {
-                req, win, target, ..
+                req,
+                win,
+                target,
+                ..
             } => self.use_fence(*win, *target, req.is_some()),
             Call::Fop { win, target, .. } => self.use_fence(*win, *target, false),
             Call::Cas { win, target, .. } => self.use_fence(*win, *target, false),

@@ -9,7 +9,7 @@ ghost use Rattle.rank_epochs.specs.Reach.{may_reach_by, reach_class_of};
 
 use crate::access::AccessEpoch;
 use crate::exposure::ExposureEpoch;
-use crate::ranks::{is_rank, members_of, natural, Ranks};
+use crate::ranks::{Ranks, is_rank, members_of, natural};
 use rank_rules::first_class;
 use rma_types::{Asserts, Class};
 use std::marker::Model;

@@ -1,4 +1,8 @@
 -- Proofs of the code of this crate.
+pub mod Accepted
+pub mod Alone
+pub mod Counts
 pub mod Indexes
+pub mod Inserted
+pub mod RangeTests
 pub mod Searches
-pub mod Tests

@@ -2,3 +2,4 @@
 pub mod Ascending
 pub mod Places
 pub mod Indexed
+pub mod Shapes

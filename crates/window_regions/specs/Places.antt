@@ -1,5 +1,5 @@
 -- Where the bytes of a transfer lie, or the class that its place is given: MPI 3.1, sections 11.2 and 11.3.
-use Rattle.std.specs.Prelude.{ℕ, ◌*◌, [], ◌∷◌, Result, Ok, Err, Option, ℤ}
+use Rattle.std.specs.Prelude.{ℕ, ◌*◌, [], ◌∷◌, Result, Ok, Err, ℤ}
 use Rattle.std.specs.Option.{option_map_or}
 use Rattle.rma_types.specs.declared.classes.Class.{Class}
 use Rattle.rma_types.specs.declared.classes.Class.TheVariants.{Disp, Range as RangeClass}
@@ -19,11 +19,11 @@ elements_in part disp dtype count = record { lo = address_in part disp; len = co
 abbrev pub place_in : Part → ℤ → Dtype → ℕ → Result Range Class
 place_in part disp dtype count =
     option_map_or (λ class. Err class) (first_class (
-        (is_misplaced part disp dtype, Disp) ∷ (passes_end part disp (count * size_of dtype), RangeClass) ∷ []))
-        (Ok (elements_in part disp dtype count))
+    (is_misplaced part disp dtype, Disp) ∷ (passes_end part disp (count * size_of dtype), RangeClass) ∷ []))
+    (Ok (elements_in part disp dtype count))
 
 -- the same in a dynamic window, where the rank knows no end
 abbrev pub address_on : ℤ → Dtype → ℕ → Result Range Class
 address_on disp dtype count =
     option_map_or (λ class. Err class) (first_class ((is_misplaced no_part disp dtype, Disp) ∷ []))
-        (Ok (elements_in no_part disp dtype count))
+    (Ok (elements_in no_part disp dtype count))

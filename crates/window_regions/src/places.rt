@@ -2,10 +2,12 @@
 ghost use Rattle.std.specs.Prelude.{◌≡◌, ◌+◌, ◌*◌, ◌<◌, ◌≤◌, ◌^◌, pos};
 ghost use Rattle.rma_types.specs.Datatypes.{size_of};
 ghost use Rattle.call_rules.specs.Pieces.{piece_at};
-ghost use Rattle.rank_rules.specs.WindowTests.{address_in, is_misplaced as is_misplaced_in, passes_end as passes_end_of};
+ghost use Rattle.rank_rules.specs.WindowTests.{address_in, is_misplaced as is_misplaced_in};
+ghost use Rattle.rank_rules.specs.WindowTests.{passes_end as passes_end_of};
 ghost use Rattle.rank_rules.specs.Windows.{no_part};
 ghost use Rattle.window_regions.specs.Places.{place_in, address_on};
 
+use crate::numbers::natural;
 use call_rules::Piece;
 use rma_types::{Class, Dtype, Layout, Part};
 
@@ -25,6 +27,14 @@ fn address_of(part: Part, disp: i32) -> u64
 {
     let disp = if disp < 0 { 0 } else { disp as u32 };
     u64::from(part.base) + u64::from(disp) * u64::from(part.unit)
+}
+
+/// The address of a displacement in a dynamic window.
+pub fn dynamic_address(part: Part, disp: i32) -> u32
+    requires { part ≡ no_part }
+    ensures { result ≡ address_in part disp }
+{
+    part.base + natural(disp) * part.unit
 }
 
 /// Whether the displacement is below 0, or its address is not a multiple of the element's size.
@@ -63,8 +73,8 @@ pub fn place(part: Part, disp: i32, dtype: Dtype, count: u32) -> Result<Range, C
 
 /// Where so many elements lie in a dynamic window, whose displacements are addresses (MPI 3.1, section 11.2.4).
 ///
-/// MPI_ERR_DISP where the displacement is below 0 or no multiple of the element's size. Whether the bytes are attached is
-/// not tested here. The count is at most 256.
+/// MPI_ERR_DISP where the displacement is below 0 or no multiple of the element's size. Whether the bytes are attached
+/// is not tested here. The count is at most 256.
 pub fn address(disp: i32, dtype: Dtype, count: u32) -> Result<Range, Class>
     requires { count ≤ 256 }
     ensures { result ≡ address_on disp dtype count }

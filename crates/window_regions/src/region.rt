@@ -3,8 +3,8 @@ ghost use Rattle.std.specs.Prelude.{◌≡◌, ◌+◌, ◌^◌, ◌<◌};
 
 use std::marker::Model;
 
-/// A range of the rank's own space, which belongs to the window of this name: it was created over the range, or the range
-/// is attached to it (MPI 3.1, sections 11.2.1 and 11.2.4).
+/// A range of the rank's own space, which belongs to the window of this name: it was created over the range, or the
+/// range is attached to it (MPI 3.1, sections 11.2.1 and 11.2.4).
 #[derive(Clone, Copy, Debug)]
 pub struct Region {
     win: u8,
@@ -19,17 +19,30 @@ impl Model for Region {
 
     ghost Value = { OwnRange };
 
-    ghost view = { λ r. record { win = r.win; range = record { base = r.base; bytes = r.bytes }; is_attached = r.is_attached } };
+    ghost view = { λ r. record {
+      win = r.win;
+      range = record { base = r.base; bytes = r.bytes };
+      is_attached = r.is_attached;
+    } };
 
     ghost invariant = { λ r. r.base + r.bytes < 2 ^ 32 };
 
-    ghost inverse = { λ o. record { win = o.win; base = o.range.base; bytes = o.range.bytes; is_attached = o.is_attached } };
+    ghost inverse = { λ o. record {
+      win = o.win;
+      base = o.range.base;
+      bytes = o.range.bytes;
+      is_attached = o.is_attached;
+    } };
 }
 
 impl Region {
     pub fn new(win: u8, base: u32, bytes: u32, is_attached: bool) -> Region
         requires { base + bytes < 2 ^ 32 }
-        ensures { result ≡ record { win = win; range = record { base = base; bytes = bytes }; is_attached = is_attached } }
+        ensures { result ≡ record {
+          win = win;
+          range = record { base = base; bytes = bytes };
+          is_attached = is_attached;
+        } }
     {
         Region {
             win,

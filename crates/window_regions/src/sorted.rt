@@ -83,4 +83,3 @@ pub fn do_cover(ranges: &[Region], win: u8, lo: u32, len: u32) -> bool
     }
     end <= address
 }
-

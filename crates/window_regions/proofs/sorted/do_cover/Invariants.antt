@@ -1,6 +1,3 @@
-use Rattle.std.proofs.Common.{◌≡◌, ℕ, ◌<◌, ◌≤◌, true}
-use Rattle.std.specs.List.{list_any}
-use Rattle.window_regions.specs.Ascending.{IsFirstPast, is_attached_byte}
 use Rattle.window_regions.proofs.Searches.{IsCoveredUpTo}
 use Rattle.window_regions.proofs.sorted.do_cover.Given as goal
 

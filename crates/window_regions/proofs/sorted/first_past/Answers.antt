@@ -9,7 +9,7 @@ use Rattle.window_regions.proofs.sorted.first_past.Goals as goal
 pub returns : goal.returns
 returns c =
     IsFirstPast-from_partition c.args.ranges.now c.args.address c.partition_point.result c.partition_point.ensures.bound
-        (IsPartitionPoint-from_clause (λ (own : OwnRange). nat_le (end_of own) c.args.address) c.args.ranges.now
-            c.partition_point.result c.partition_point.ensures.partitioned
-            (IsPartitionedBy-end c.args.ranges.now c.args.address c.requires)
-            (λ a r f' called. search rules))
+    (IsPartitionPoint-from_clause (λ (own : OwnRange). nat_le (end_of own) c.args.address) c.args.ranges.now
+    c.partition_point.result c.partition_point.ensures.partitioned
+    (IsPartitionedBy-end c.args.ranges.now c.args.address c.requires)
+    (λ a r f' called. search rules))

@@ -8,7 +8,7 @@ pub returns : goal.returns
 returns c =
     let long : length c.from_fn.result ≡ 32 = c.from_fn.ensures.items.long in
     same_lists _ _ (long ∙ sym (length-replicate 32 no_epochs)) (λ k d lt.
-        let within : k < 32 = omega arith in
-        let called = (c.from_fn.ensures.items.at k d within).2 in
-        let is_none : slice_index_or c.from_fn.result k d ≡ no_epochs = search (rules, called) in
-        is_none ∙ sym (get_or-replicate 32 k no_epochs d within))
+    let within : k < 32 = omega arith in
+    let called = (c.from_fn.ensures.items.at k d within).2 in
+    let is_none : slice_index_or c.from_fn.result k d ≡ no_epochs = search (rules, called) in
+    is_none ∙ sym (get_or-replicate 32 k no_epochs d within))

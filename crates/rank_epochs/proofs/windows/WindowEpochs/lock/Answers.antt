@@ -12,21 +12,21 @@ pub push-requires : goal.push-requires
 push-requires c =
     let access = access_of c.self.inside.access in
     let may : may_lock access (Some c.args.target) ≡ true =
-        subst (λ (e : Epochs). may_lock e.access (Some c.args.target) ≡ true) (sym c.self.view_is) c.requires.free in
+    subst (λ (e : Epochs). may_lock e.access (Some c.args.target) ≡ true) (sym c.self.view_is) c.requires.free in
     let same : c.into_targets-targets.result.items ≡ targets_locked access =
-        c.into_targets-targets.ensures ∙ ap (λ a. targets_locked (access_of a)) c.replace.ensures.value in
+    c.into_targets-targets.ensures ∙ ap (λ a. targets_locked (access_of a)) c.replace.ensures.value in
     let room : length (targets_locked access) < 16 =
-        room_for_lock access c.args.target c.self.invariant may c.requires.rank in
+    room_for_lock access c.args.target c.self.invariant may c.requires.rank in
     (lit< tt, subst (λ (items : List ℕ). length items < 16) (sym same) room)
 
 pub invariant_of-self : goal.invariant_of-self
 invariant_of-self c =
     let access = access_of c.self.inside.access in
     let may : may_lock access (Some c.args.target) ≡ true =
-        subst (λ (e : Epochs). may_lock e.access (Some c.args.target) ≡ true) (sym c.self.view_is) c.requires.free in
+    subst (λ (e : Epochs). may_lock e.access (Some c.args.target) ≡ true) (sym c.self.view_is) c.requires.free in
     let same : c.into_targets-targets.result.items ≡ targets_locked access =
-        c.into_targets-targets.ensures ∙ ap (λ a. targets_locked (access_of a)) c.replace.ensures.value in
+    c.into_targets-targets.ensures ∙ ap (λ a. targets_locked (access_of a)) c.replace.ensures.value in
     let distinct : are_distinct_ranks (targets_locked access ++ natural c.args.target ∷ []) ≡ true =
-        distinct_after_lock access c.args.target c.self.invariant may c.requires.rank in
+    distinct_after_lock access c.args.target c.self.invariant may c.requires.rank in
     let pushed : c.push.new.self.items ≡ targets_locked access ++ natural c.args.target ∷ [] = search rules in
     subst (λ (items : List ℕ). are_distinct_ranks items ≡ true) (sym pushed) distinct

@@ -1,0 +1,7 @@
+-- `retain` keeps what passes its test.
+use Rattle.std.proofs.Common.{rules}
+use Rattle.std.proofs.lemmas.Fn.{filter_same}
+use Rattle.window_regions.proofs.own.free_from.Goals as goal
+
+pub returns : goal.returns
+returns c = filter_same _ _ _ (λ x b f' called. search rules) _ _ c.retain.ensures.filtered

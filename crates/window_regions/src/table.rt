@@ -1,0 +1,233 @@
+//! What a rank knows of its windows and its ranges: MPI 3.1, sections 11.2 and 11.3.
+ghost use Rattle.std.specs.Prelude.{◌≡◌, ◌≤◌, pos, None, OnOk, OnErr, IfSome};
+ghost use Rattle.call_rules.specs.Actions.{action_of, Attaches};
+ghost use Rattle.call_rules.specs.WellFormed.{IsWrittenCall};
+ghost use Rattle.rank_rules.specs.WindowTests as tests;
+ghost use Rattle.rank_rules.specs.Windows as rules;
+ghost use Rattle.window_regions.specs.Shapes.{IsShape};
+ghost use Rattle.window_regions.specs.Places.{place_in};
+
+mod classes;
+
+use crate::numbers::count_of;
+use crate::own::{OwnRanges, make_range};
+use crate::places::{Range, place};
+use crate::window::{Shape, Window, leave};
+use rma_types::{Call, Class, Dtype, Flavor, NoMemory};
+use std::alloc::Global;
+use std::marker::Model;
+
+/// The rank, the number of ranks, the bytes of the rank's space, its live windows and its ranges.
+#[derive(Debug, Drop)]
+pub struct WindowTable {
+    rank: u8,
+    ranks: u8,
+    space: u32,
+    created: Vec<u8>,
+    windows: Vec<Window>,
+    own: OwnRanges,
+}
+
+impl Model for WindowTable {
+    ghost use Rattle.std.specs.Prelude.{◌<◌, ◌^◌};
+    ghost use Rattle.rank_rules.specs.Windows.{RankWindows};
+
+    ghost Value = { RankWindows };
+
+    ghost view = { λ t. record {
+      rank = t.rank;
+      ranks = t.ranks;
+      space = t.space;
+      created = t.created.items;
+      windows = t.windows.items;
+      ranges = t.own;
+    } };
+
+    ghost invariant = { λ t. t.space < 2 ^ 32 };
+}
+
+impl WindowTable {
+    /// No windows, at a rank of a run of so many ranks, with so many bytes of space.
+    pub fn new(alloc: Global, rank: u8, ranks: u8, space: u32) -> WindowTable
+        ensures { result ≡ rules.no_windows rank ranks space }
+    {
+        WindowTable {
+            rank,
+            ranks,
+            space,
+            created: Vec::new(alloc),
+            windows: Vec::new(alloc),
+            own: OwnRanges::new(alloc),
+        }
+    }
+
+    /// The first error class that the windows and the ranges give the call, or none (MPI 3.1, sections 11.2 and 11.3).
+    ///
+    /// MPI_ERR_WIN, MPI_ERR_RMA_FLAVOR, MPI_ERR_SIZE, MPI_ERR_BASE, MPI_ERR_DISP, MPI_ERR_RMA_RANGE and
+    /// MPI_ERR_RMA_ATTACH are tested, in this order.
+    pub fn judge(&self, call: &Call) -> Option<Class>
+        requires { IsWrittenCall call.now }
+        ensures { result ≡ tests.window_class self.now (action_of call.now) }
+    {
+        match call {
+            Call::Allocate { win, bytes, unit } => {
+                self.creation_class(*win, Flavor::Allocate, 0, *bytes, *unit)
+            }
+            Call::Create {
+                win,
+                base,
+                bytes,
+                unit,
+            } => self.creation_class(*win, Flavor::Create, *base, *bytes, *unit),
+            Call::Dynamic { win } => self.creation_class(*win, Flavor::Dynamic, 0, 0, 1),
+            Call::Free { win } => self.live_class(*win),
+            Call::Attach { win, base, bytes } => self.attach_class(*win, *base, *bytes),
+            Call::Detach { win, base } => self.detach_class(*win, *base),
+            Call::Fence { win, .. } => self.live_class(*win),
+            Call::Post { win, .. } => self.live_class(*win),
+            Call::Start { win, .. } => self.live_class(*win),
+            Call::Complete { win } => self.live_class(*win),
+            Call::WaitWin { win } => self.live_class(*win),
+            Call::TestWin { win } => self.live_class(*win),
+            Call::LockOne { win, .. } => self.live_class(*win),
+            Call::Unlock { win, .. } => self.live_class(*win),
+            Call::LockAll { win, .. } => self.live_class(*win),
+            Call::UnlockAll { win } => self.live_class(*win),
+            Call::Flush { win, .. } => self.live_class(*win),
+            Call::FlushAll { win } => self.live_class(*win),
+            Call::FlushLocal { win, .. } => self.live_class(*win),
+            Call::FlushLocalAll { win } => self.live_class(*win),
+            Call::Sync { win } => self.live_class(*win),
+            Call::Barrier => None,
+            Call::Put {
+                win,
+                target,
+                disp,
+                dtype,
+                values,
+                ..
+            } => self.reach_class(*win, *target, *disp, *dtype, count_of(values)),
+            Call::Get {
+                win,
+                target,
+                disp,
+                dtype,
+                count,
+                ..
+            } => self.reach_class(*win, *target, *disp, *dtype, *count),
+            Call::Acc {
+                win,
+                target,
+                disp,
+                dtype,
+                values,
+                ..
+            } => self.reach_class(*win, *target, *disp, *dtype, count_of(values)),
+            Call::GetAcc {
+                win,
+                target,
+                disp,
+                dtype,
+                values,
+                ..
+            } => self.reach_class(*win, *target, *disp, *dtype, count_of(values)),
+            Call::Fop {
+                win,
+                target,
+                disp,
+                dtype,
+                ..
+            } => self.reach_class(*win, *target, *disp, *dtype, 1),
+            Call::Cas {
+                win,
+                target,
+                disp,
+                dtype,
+                ..
+            } => self.reach_class(*win, *target, *disp, *dtype, 1),
+            Call::Load {
+                win,
+                disp,
+                dtype,
+                count,
+            } => self.own_class(*win, *disp, *dtype, *count),
+            Call::Store {
+                win,
+                disp,
+                dtype,
+                values,
+            } => self.own_class(*win, *disp, *dtype, count_of(values)),
+            Call::WaitReq { .. } => None,
+            Call::TestReq { .. } => None,
+        }
+    }
+
+    /// The window of this name and number is made (MPI 3.1, sections 11.2.1, 11.2.2 and 11.2.4). `Err` changes nothing.
+    pub fn made(&mut self, win: u8, window: u32, shape: Shape) -> Result<(), NoMemory>
+        requires { IsShape shape.flavor shape.parts }
+        ensures ok { OnOk result (self.new ≡ rules.with_window self.old win window shape.flavor shape.parts) }
+        ensures err { OnErr result (self.new ≡ self.old) }
+    {
+        if self.created.reserve(1).is_err() || self.windows.reserve(1).is_err() {
+            return Err(NoMemory);
+        }
+        let flavor = shape.flavor;
+        let made = Window::new(win, window, shape);
+        let part = made.part(u32::from(self.rank));
+        match make_range(&mut self.own, flavor, win, part) {
+            Ok(()) => {
+                self.created.push_reserved(win);
+                self.windows.push_reserved(made);
+                Ok(())
+            }
+            Err(_) => Err(NoMemory),
+        }
+    }
+
+    /// The window is freed, and with it the ranges that belong to it (MPI 3.1, section 11.2.5).
+    pub fn freed(&mut self, win: u8)
+        ensures { self.new ≡ rules.without_window self.old win }
+    {
+        leave(&mut self.windows, win);
+        self.own.free(win);
+    }
+
+    /// So many bytes from the base on are attached to the window; the call is accepted. `Err` changes nothing.
+    pub fn attach(&mut self, win: u8, base: u32, bytes: u32) -> Result<(), NoMemory>
+        requires { tests.window_class self.old (Attaches win (pos base) (pos bytes)) ≡ None }
+        ensures ok { OnOk result (self.new ≡ rules.with_range self.old win
+            (record { base = base; bytes = bytes })) }
+        ensures err { OnErr result (self.new ≡ self.old) }
+    {
+        self.own.attach(win, base, bytes)
+    }
+
+    /// The range that begins at the base is detached from the window.
+    pub fn detach(&mut self, win: u8, base: u32)
+        ensures { self.new ≡ rules.without_range self.old win base }
+    {
+        self.own.detach(win, base);
+    }
+
+    /// Where so many elements, at most 256, lie at a target of a live window.
+    ///
+    /// MPI_ERR_DISP where the displacement is below 0 or the address is no multiple of the element's size; else
+    /// MPI_ERR_RMA_RANGE where the elements end past the end of the target's part.
+    pub fn resolve(
+        &self,
+        win: u8,
+        target: u8,
+        disp: i32,
+        dtype: Dtype,
+        count: u32,
+    ) -> Result<Range, Class>
+        requires { count ≤ 256 }
+        ensures { IfSome (rules.window_of_name self.now win)
+            (λ window. result ≡ place_in (rules.part_at window.parts target) disp dtype count) }
+    {
+        match self.window(win) {
+            None => Err(Class::Win),
+            Some(window) => place(window.part(u32::from(target)), disp, dtype, count),
+        }
+    }
+}

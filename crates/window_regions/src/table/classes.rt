@@ -1,0 +1,224 @@
+//! The class of a call by each of its tests: MPI 3.1, sections 11.2 and 11.3.
+ghost use Rattle.std.specs.Prelude.{◌≡◌, not, None, if◌then◌else◌};
+ghost use Rattle.std.specs.Option.{option_copied};
+ghost use Rattle.call_rules.specs.Actions.{Creates, Attaches, Detaches, Frees, Moves, Own, Named};
+ghost use Rattle.call_rules.specs.Actions.{target_of, get_transfer};
+ghost use Rattle.rma_types.specs.declared.accesses.Kind.TheVariants.{Get as GetKind, Load as LoadKind};
+ghost use Rattle.rma_types.specs.declared.calls.Flavor.TheVariants.{Dynamic as DynamicFlavor};
+ghost use Rattle.call_rules.specs.WellFormed.{IsUpTo};
+ghost use Rattle.rank_rules.specs.Ranges.{covers};
+ghost use Rattle.rank_rules.specs.Classes.{first_class as class_of_first};
+ghost use Rattle.rank_rules.specs.WindowTests as tests;
+ghost use Rattle.rank_rules.specs.Windows as rules;
+
+use super::WindowTable;
+use crate::numbers::{few_elements, is_rank, natural};
+use crate::places::{dynamic_address, is_misplaced, passes_end};
+use crate::window::{Window, find_window};
+use rank_rules::first_class;
+use rma_types::{Class, Dtype, Flavor};
+
+impl WindowTable {
+    pub(super) fn window(&self, win: u8) -> Option<&Window>
+        ensures { option_copied result ≡ rules.window_of_name self.now win }
+    {
+        find_window(self.windows.as_slice(), win)
+    }
+
+    pub(super) fn is_live(&self, win: u8) -> bool
+        ensures { result ≡ rules.is_live self.now win }
+    {
+        self.window(win).is_some()
+    }
+
+    pub(super) fn is_not_dynamic(&self, win: u8) -> bool
+        ensures { result ≡ tests.is_not_dynamic self.now win }
+    {
+        match self.window(win) {
+            None => false,
+            Some(window) => !window.is_dynamic(),
+        }
+    }
+
+    pub(super) fn is_outside(&self, base: i32, bytes: i32) -> bool
+        ensures { result ≡ tests.is_outside self.now base bytes }
+    {
+        base < 0 || i64::from(self.space) < i64::from(base) + i64::from(bytes)
+    }
+
+    pub(super) fn is_in_use(&self, base: i32, bytes: i32) -> bool
+        ensures { result ≡ tests.is_in_use self.now base bytes }
+    {
+        self.own.is_taken(natural(base), natural(bytes))
+    }
+
+    pub(super) fn has_wrong_base(&self, flavor: Flavor, base: i32, bytes: i32) -> bool
+        ensures { result ≡ tests.has_wrong_base self.now flavor base bytes }
+    {
+        match flavor {
+            Flavor::Allocate => false,
+            Flavor::Create => self.is_outside(base, bytes) || self.is_in_use(base, bytes),
+            Flavor::Dynamic => false,
+        }
+    }
+
+    pub(super) fn is_no_base(&self, win: u8, base: i32) -> bool
+        ensures { result ≡ tests.is_no_base self.now win base }
+    {
+        base < 0 || !self.own.has_attached(win, natural(base))
+    }
+
+    /// The class of a call that only needs the window to be live.
+    pub(super) fn live_class(&self, win: u8) -> Option<Class>
+        ensures { result ≡ tests.window_class self.now (Frees win) }
+    {
+        first_class(&[(!self.is_live(win), Class::Win)])
+    }
+
+    pub(super) fn creation_class(
+        &self,
+        win: u8,
+        flavor: Flavor,
+        base: i32,
+        bytes: i32,
+        unit: i32,
+    ) -> Option<Class>
+        ensures { result ≡ tests.window_class self.now (Creates (record {
+          win = win;
+          flavor = flavor;
+          base = base;
+          bytes = bytes;
+          unit = unit;
+        })) }
+    {
+        first_class(&[
+            (self.is_live(win), Class::Win),
+            (bytes < 0, Class::Size),
+            (self.has_wrong_base(flavor, base, bytes), Class::Base),
+            (unit < 1, Class::Disp),
+        ])
+    }
+
+    pub(super) fn attach_class(&self, win: u8, base: i32, bytes: i32) -> Option<Class>
+        ensures { result ≡ tests.window_class self.now (Attaches win base bytes) }
+    {
+        first_class(&[
+            (!self.is_live(win), Class::Win),
+            (self.is_not_dynamic(win), Class::Flavor),
+            (bytes < 1, Class::Size),
+            (self.is_outside(base, bytes), Class::Base),
+            (self.is_in_use(base, bytes), Class::Attach),
+        ])
+    }
+
+    pub(super) fn detach_class(&self, win: u8, base: i32) -> Option<Class>
+        ensures { result ≡ tests.window_class self.now (Detaches win base) }
+    {
+        first_class(&[
+            (!self.is_live(win), Class::Win),
+            (self.is_not_dynamic(win), Class::Flavor),
+            (self.is_no_base(win, base), Class::Base),
+        ])
+    }
+
+    /// Whether bytes of the rank's own memory are out of the window's reach.
+    pub(super) fn is_out_of_own_reach(&self, window: &Window, disp: i32, bytes: u32) -> bool
+        ensures { result ≡ (if rules.is_same_flavor window.now.flavor DynamicFlavor
+            then not (covers (rules.attached_to self.now window.now.win)
+            (tests.address_in (rules.part_at window.now.parts self.now.rank) disp) bytes)
+            else tests.passes_end (rules.part_at window.now.parts self.now.rank) disp bytes) }
+    {
+        let part = window.part(u32::from(self.rank));
+        if window.is_dynamic() {
+            !self
+                .own
+                .covers(window.win(), dynamic_address(part, disp), bytes)
+        } else {
+            passes_end(part, disp, bytes)
+        }
+    }
+
+    /// The class of a load or a store by its place in the window.
+    pub(super) fn own_place_class(
+        &self,
+        window: &Window,
+        disp: i32,
+        dtype: Dtype,
+        count: i32,
+    ) -> Option<Class>
+        requires { IsUpTo 256 count }
+        ensures { result ≡ class_of_first (tests.place_tests self.now window.now
+            (get_transfer None window.now.win Own disp dtype LoadKind count)) }
+    {
+        if count < 0 {
+            return None;
+        }
+        let part = window.part(u32::from(self.rank));
+        let bytes = few_elements(count) * dtype.size();
+        first_class(&[
+            (is_misplaced(part, disp, dtype), Class::Disp),
+            (self.is_out_of_own_reach(window, disp, bytes), Class::Range),
+        ])
+    }
+
+    /// The class of an RMA call by its place in the window at a target.
+    pub(super) fn place_class(
+        &self,
+        window: &Window,
+        target: i32,
+        disp: i32,
+        dtype: Dtype,
+        count: i32,
+    ) -> Option<Class>
+        requires { IsUpTo 256 count }
+        ensures { result ≡ class_of_first (tests.place_tests self.now window.now
+            (get_transfer None window.now.win (Named target) disp dtype GetKind count)) }
+    {
+        if !is_rank(target, self.ranks) || count < 0 {
+            return None;
+        }
+        let part = window.part(natural(target));
+        let bytes = few_elements(count) * dtype.size();
+        first_class(&[
+            (is_misplaced(part, disp, dtype), Class::Disp),
+            (
+                !window.is_dynamic() && passes_end(part, disp, bytes),
+                Class::Range,
+            ),
+        ])
+    }
+
+    /// The class of a load or a store.
+    pub(super) fn own_class(&self, win: u8, disp: i32, dtype: Dtype, count: i32) -> Option<Class>
+        requires { IsUpTo 256 count }
+        ensures { result ≡ tests.window_class self.now
+            (Moves (get_transfer None win Own disp dtype LoadKind count)) }
+    {
+        match self.window(win) {
+            None => Some(Class::Win),
+            Some(window) => self.own_place_class(window, disp, dtype, count),
+        }
+    }
+
+    /// The class of an RMA call; one at MPI_PROC_NULL needs the window to be live, and nothing else.
+    pub(super) fn reach_class(
+        &self,
+        win: u8,
+        target: Option<i32>,
+        disp: i32,
+        dtype: Dtype,
+        count: i32,
+    ) -> Option<Class>
+        requires { IsUpTo 256 count }
+        ensures { result ≡ tests.window_class self.now
+            (Moves (get_transfer None win (target_of target) disp dtype GetKind count)) }
+    {
+        match self.window(win) {
+            None => Some(Class::Win),
+            Some(window) => match target {
+                None => None,
+                Some(target) => self.place_class(window, target, disp, dtype, count),
+            },
+        }
+    }
+}
