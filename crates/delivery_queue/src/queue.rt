@@ -39,9 +39,9 @@ impl Model for Pending {
     ghost Value = { Queue };
 
     ghost view = { λ it. record {
-        pending = drop it.first it.accesses.items;
-        touched = drop it.first it.touched.items;
-        requests = it.requests
+      pending = drop it.first it.accesses.items;
+      touched = drop it.first it.touched.items;
+      requests = it.requests;
     } };
 
     ghost invariant = { λ it.

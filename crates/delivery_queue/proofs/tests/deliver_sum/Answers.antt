@@ -21,8 +21,12 @@ deliver-requires-clause-deliverable c =
       here = refl;
       named = refl;
       first_way = refl;
-      is_its = (search rules, search rules, λ element below.
-        (omega (arith, below, first, cells), omega (arith, below, first)));
+      is_its = (
+        search rules,
+        search rules,
+        λ element below.
+            (omega (arith, below, first, cells), omega (arith, below, first)),
+      );
       begun = search rules;
       room = search rules;
       share = λ _. enough;
