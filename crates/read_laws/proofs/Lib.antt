@@ -2,4 +2,10 @@
 pub mod Bytes
 pub mod Changes
 pub mod Folds
+pub mod Firsts
+pub mod Lists
+pub mod Leaves
+pub mod Names
+pub mod Points
 pub mod Touches
+pub mod Waits
