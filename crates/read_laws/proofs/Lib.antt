@@ -6,6 +6,8 @@ pub mod Firsts
 pub mod Lists
 pub mod Leaves
 pub mod Names
+pub mod Places
 pub mod Points
 pub mod Touches
+pub mod Transfers
 pub mod Waits
