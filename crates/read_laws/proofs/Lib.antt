@@ -6,6 +6,7 @@ pub mod Firsts
 pub mod Lists
 pub mod Leaves
 pub mod Names
+pub mod Ordered
 pub mod Places
 pub mod Points
 pub mod Touches

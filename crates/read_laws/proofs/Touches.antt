@@ -121,13 +121,14 @@ pub record IsIssuedBy (calls : List Call) (index : ℕ) (item : Item) (one : Pen
   pub at : one.index ≡ index
   pub t : Transfer
   pub moves : transfer_at calls one.number ≡ Some t
+  pub fetches : one.fetches ≡ t.fetches
 
 issue_is : (calls : List Call) (index number : ℕ) (access : Access) (one : PendingAccess) (o : Option Transfer) →
     transfer_at calls number ≡ o → pending_by index number access o ≡ Some one → IsIssuedBy calls index (Issue number access) one
 issue_is calls index number access one None moves e = absurd (cc e)
 issue_is calls index number access one (Some t) moves e =
     let same : record { index = index; number = number; access = access; fetches = t.fetches } ≡ one = cc e in
-    subst (IsIssuedBy calls index (Issue number access)) same (record { is = refl; at = refl; t = t; moves = moves })
+    subst (IsIssuedBy calls index (Issue number access)) same (record { is = refl; at = refl; t = t; moves = moves; fetches = refl })
 
 pub issued_is : (calls : List Call) (index : ℕ) (item : Item) (one : PendingAccess) → issued_by calls index item ≡ Some one →
     IsIssuedBy calls index item one
