@@ -50,7 +50,7 @@ use Rattle.read_laws.proofs.Touches.{IsTouch, touch_is}
 
 -- ---- kinds
 
-local_kind : (kind : Kind) → is_local_role (role_of kind) ≡ true → is_local kind ≡ true
+pub local_kind : (kind : Kind) → is_local_role (role_of kind) ≡ true → is_local kind ≡ true
 local_kind GetKind h = absurd (cc h)
 local_kind PutKind h = absurd (cc h)
 local_kind (AccKind op dtype) h = by_test (is_no_op op) h
@@ -62,13 +62,13 @@ local_kind (CasKind dtype) h = absurd (cc h)
 local_kind LoadKind h = refl
 local_kind StoreKind h = refl
 
-no_read : (role : Role) → is_update_role role ≡ true → is_rma_read role ≡ true → ⊥
+pub no_read : (role : Role) → is_update_role role ≡ true → is_rma_read role ≡ true → ⊥
 no_read RmaUpdate h k = cc k
 no_read RmaRead h k = cc h
 no_read Store h k = cc k
 no_read Load h k = cc k
 
-read_role : (kind : Kind) → is_get_or_load kind ≡ true → (is_update_role (role_of kind) ≡ false) × (accumulation_of kind ≡ None)
+pub read_role : (kind : Kind) → is_get_or_load kind ≡ true → (is_update_role (role_of kind) ≡ false) × (accumulation_of kind ≡ None)
 read_role GetKind h = (refl, refl)
 read_role PutKind h = absurd (cc h)
 read_role (AccKind op dtype) h = absurd (cc h)
@@ -78,15 +78,15 @@ read_role StoreKind h = absurd (cc h)
 
 -- ---- places
 
-update_passed : (u v : Touching) (change : Change) → u.change ≡ Some change → KeepsOrder u v → u.place < v.place
+pub update_passed : (u v : Touching) (change : Change) → u.change ≡ Some change → KeepsOrder u v → u.place < v.place
 update_passed u v change is keeps = subst (λ o. KeepsOrder (record u { change = o }) v) is keeps
 
-read_kept : (u v : Touching) → u.change ≡ None → KeepsOrder u v → u.place ≤ v.place
+pub read_kept : (u v : Touching) → u.change ≡ None → KeepsOrder u v → u.place ≤ v.place
 read_kept u v is keeps = subst (λ o. KeepsOrder (record u { change = o }) v) is keeps
 
 -- ---- accesses of one name
 
-same_issued : (script : Script) (run : Run) (a b : IssuedAccess) → IsAccess script run a → IsAccess script run b → a.id ≡ b.id → a.issued ≡ b.issued
+pub same_issued : (script : Script) (run : Run) (a b : IssuedAccess) → IsAccess script run a → IsAccess script run b → a.id ≡ b.id → a.issued ≡ b.issued
 same_issued script run a b access other same =
     let first : issued_at (calls_of script a.id.rank) (log_of run a.id.rank) a.id.index ≡ Some a.issued = found a access in
     let second : issued_at (calls_of script b.id.rank) (log_of run b.id.rank) b.id.index ≡ Some b.issued = found b other in
@@ -100,7 +100,7 @@ same_issued script run a b access other same =
         ∙ ap (λ o. option_map_or (issued_by (calls_of script x.id.rank) x.issued.index) o None) is.logged ∙ is.issued
 
 -- two touches of one name are of one access
-same_access : (script : Script) (run : Run) (a b : IssuedAccess) (u v : Touching) → IsAccess script run a → IsAccess script run b →
+pub same_access : (script : Script) (run : Run) (a b : IssuedAccess) (u v : Touching) → IsAccess script run a → IsAccess script run b →
     IsTouchBy script run a u → IsTouchBy script run b v → u.id ≡ v.id → a.id ≡ b.id
 same_access script run a b u v access other by of same =
     let rank : a.id.rank ≡ b.id.rank = sym by.rank ∙ ap (λ (i : Id). i.rank) same ∙ of.rank in
@@ -112,22 +112,22 @@ same_access script run a b u v access other by of same =
     λ k. record { rank = rank k; index = index k }
 
 -- an update of a cell: its access, its transfer, its element and its change
-record IsUpdateOn (script : Script) (run : Run) (cell : ℕ) (v : Touching) (change : Change) : Type 0 where
-  listed : In v (all_touches script run)
-  access : IssuedAccess
-  of_run : In access (accesses_in script run)
-  t : Transfer
-  is : IsOfTransfer script access t
-  part : IsPart script run access t v
-  makes : IsUpdateOf t part.piece change
-  element : IsElement (layout script) access.issued.access t.dtype v.element part.piece
-  aligned : IsAligned change.first_byte change.dtype
-  on : v.cell ≡ cell
+pub record IsUpdateOn (script : Script) (run : Run) (cell : ℕ) (v : Touching) (change : Change) : Type 0 where
+  pub listed : In v (all_touches script run)
+  pub access : IssuedAccess
+  pub of_run : In access (accesses_in script run)
+  pub t : Transfer
+  pub is : IsOfTransfer script access t
+  pub part : IsPart script run access t v
+  pub makes : IsUpdateOf t part.piece change
+  pub element : IsElement (layout script) access.issued.access t.dtype v.element part.piece
+  pub aligned : IsAligned change.first_byte change.dtype
+  pub on : v.cell ≡ cell
 
 module _ (script : Script) (delay : Delay) (run : Run) (formed : IsWellFormed script) (lawful : IsLawful script delay run)
     (agree : TouchesAgree script run) (before : Id → Id → Bool) (order : IsOrder script run before)
     (none : findings script run Separate before ≡ []) (each : AreOfTransfers script run) where
-  update_on : (cell : ℕ) (v : Touching) (change : Change) → In v (updates_of script run cell) → v.change ≡ Some change →
+  pub update_on : (cell : ℕ) (v : Touching) (change : Change) → In v (updates_of script run cell) → v.change ≡ Some change →
       IsUpdateOn script run cell v change
   update_on cell v change m some =
       let one = filter_in is_update (on_cell cell (all_touches script run)) m in
@@ -152,18 +152,18 @@ module _ (script : Script) (delay : Delay) (run : Run) (formed : IsWellFormed sc
         on = eqb-true v.cell cell two.1;
       }
 
-  is_updating : (cell : ℕ) (v : Touching) (change : Change) (u : IsUpdateOn script run cell v change) →
+  pub is_updating : (cell : ℕ) (v : Touching) (change : Change) (u : IsUpdateOn script run cell v change) →
       is_update_role (role_of u.access.issued.access.kind) ≡ true
   is_updating cell v change u = ap (λ k. is_update_role (role_of k)) u.is.kind ∙ u.is.facts.updates u.makes.updates
 
-  own_target : (a : IssuedAccess) (t : Transfer) → IsOfTransfer script a t → is_local_role (role_of a.issued.access.kind) ≡ true →
+  pub own_target : (a : IssuedAccess) (t : Transfer) → IsOfTransfer script a t → is_local_role (role_of a.issued.access.kind) ≡ true →
       a.issued.access.target ≡ a.id.rank
   own_target a t is local = is.own (is.facts.local (sym (ap is_local is.kind) ∙ local_kind a.issued.access.kind local))
 
   -- ---- two updates of a cell
 
   -- an update that shares a byte with a later one is before it, or changes the same element
-  earlier_update : (cell : ℕ) (v w : Touching) (c d : Change) → IsUpdateOn script run cell v c → IsUpdateOn script run cell w d →
+  pub earlier_update : (cell : ℕ) (v w : Touching) (c d : Change) → IsUpdateOn script run cell v c → IsUpdateOn script run cell w d →
       v.change ≡ Some c → w.change ≡ Some d → v.place < w.place → c.first_byte < d.first_byte + size_of d.dtype →
       d.first_byte < c.first_byte + size_of c.dtype → Before script run v.id w.id ⊎ ((c.first_byte ≡ d.first_byte) × (c.dtype ≡ d.dtype))
   earlier_update cell v w c d u x some_v some_w place low high = elim (cases_eq u.access.id.rank x.access.id.rank) [

@@ -9,9 +9,11 @@ pub mod Leaves
 pub mod Meetings
 pub mod Names
 pub mod Ordered
+pub mod Orderly
 pub mod Parts
 pub mod Places
 pub mod Points
 pub mod Touches
 pub mod Transfers
+pub mod Values
 pub mod Waits
