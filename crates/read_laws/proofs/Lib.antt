@@ -1,7 +1,9 @@
 -- What gets and loads read.
 pub mod Bytes
+pub mod Begun
 pub mod Changes
 pub mod Folds
+pub mod Counts
 pub mod Elements
 pub mod Firsts
 pub mod Lists

@@ -61,7 +61,7 @@ touch_item memory calls log id (Tested number seen) m = elim m [ ]
 touch_item memory calls log id (Refused number class seen) m = elim m [ ]
 touch_item memory calls log id Ended m = elim m [ ]
 
-named_at : (rank index : ℕ) (items : List Item) {x : Named} → In x (named_from rank index items) →
+pub named_at : (rank index : ℕ) (items : List Item) {x : Named} → In x (named_from rank index items) →
     (k : ℕ) × (x.id.rank ≡ rank) × (x.id.index ≡ index + k) × (slice_get items k ≡ Some x.item)
 named_at rank index [] m = elim m [ ]
 named_at rank index (item ∷ items) here = (0, refl, omega arith, refl)
