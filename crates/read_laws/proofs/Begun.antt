@@ -63,7 +63,7 @@ item_member run rank k item below e =
 -- ---- the rows before an entry
 
 -- an act of a row among others
-act_among : (acc before : List Row) (row : Row) (rest : List Row) →
+pub act_among : (acc before : List Row) (row : Row) (rest : List Row) →
     In (record { row = row; window = window_of (acc ++ before) row }) (acts_after acc (before ++ row ∷ rest))
 act_among acc [] row rest = let same : acc ++ [] ≡ acc = append-nil acc in
     subst (λ l. In (record { row = row; window = window_of l row }) (acts_after acc (row ∷ rest))) (sym same) here

@@ -1,8 +1,8 @@
 -- The proofs.
 mod Lists
 mod Picks
-mod OwnTests
-mod EntryMoves
+pub mod OwnTests
+pub mod EntryMoves
 mod Weights
 mod BoardWeights
 mod DataWeights
@@ -11,12 +11,12 @@ mod Turns
 mod Ending
 mod Bound
 mod Draining
-mod Memory
-mod OwnRoom
-mod Creations
-mod Flavors
-mod Sound
-mod CallCourses
+pub mod Memory
+pub mod OwnRoom
+pub mod Creations
+pub mod Flavors
+pub mod Sound
+pub mod CallCourses
 mod LookUps
 mod SoundEntries
 mod SoundSteps
