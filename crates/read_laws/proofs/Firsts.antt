@@ -79,7 +79,7 @@ class_items None known number call items (inl refused) =
 class_items None known number call items (inr accepted) =
     course_items (course_of known.windows call) known number call items accepted
 
-one_call : (here : RankOfRun) (before : List Item) (number : ℕ) (items : List Item) → AreItemsOf here before number items →
+pub one_call : (here : RankOfRun) (before : List Item) (number : ℕ) (items : List Item) → AreItemsOf here before number items →
     AreOfOne number items
 one_call here before number items h =
     let call = some_and (slice_get (calls_here here) number) h in

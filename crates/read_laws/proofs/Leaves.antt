@@ -94,7 +94,7 @@ ending_leaves here before number rest (inr stands) =
     let call = some_and (slice_get (calls_here here) number) stands in standing_leaves here before number call.0 rest call.2
 
 -- of the items of a log without its touches, and so of all
-with_touches : (P : Item → Type 0) → ((x : Item) → is_touch x ≡ true → P x) → (log : List Item) → AllByRecursion P (untouched log) →
+pub with_touches : (P : Item → Type 0) → ((x : Item) → is_touch x ≡ true → P x) → (log : List Item) → AllByRecursion P (untouched log) →
     AllByRecursion P log
 with_touches P touch [] all = tt
 with_touches P touch (x ∷ log) all = by_test (is_touch x) refl (λ rest. with_touches P touch log rest) all

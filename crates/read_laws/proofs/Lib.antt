@@ -7,6 +7,7 @@ pub mod Counts
 pub mod Elements
 pub mod Firsts
 pub mod Lists
+pub mod InMemory
 pub mod Known
 pub mod Leaves
 pub mod Meetings
