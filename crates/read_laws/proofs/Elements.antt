@@ -196,9 +196,11 @@ module _ (script : Script) (delay : Delay) (run : Run) (formed : IsWellFormed sc
 
       same_dtype : u.t.dtype ≡ x.t.dtype → (c.first_byte ≡ d.first_byte) × (c.dtype ≡ d.dtype)
       same_dtype same =
-          let dtype : c.dtype ≡ d.dtype = u.makes.dtype_is ∙ same ∙ sym x.makes.dtype_is in
-          (one_element d.dtype c.first_byte d.first_byte (subst (IsAligned c.first_byte) dtype u.aligned) x.aligned low
-          (subst (λ (t : Dtype). d.first_byte < c.first_byte + size_of t) dtype high), dtype)
+          let dtype : c.dtype ≡ d.dtype = u.makes.dtype_is ∙ same ∙ sym x.makes.dtype_is in (
+            one_element d.dtype c.first_byte d.first_byte (subst (IsAligned c.first_byte) dtype u.aligned) x.aligned low
+                (subst (λ (t : Dtype). d.first_byte < c.first_byte + size_of t) dtype high),
+            dtype,
+          )
 
       pieces_share : (p q : Piece) (e f : Dtype) → c.first_byte ≡ p.first_byte → d.first_byte ≡ q.first_byte → c.dtype ≡ e → d.dtype ≡ f →
           (p.first_byte < q.first_byte + size_of f) × (q.first_byte < p.first_byte + size_of e)
@@ -234,5 +236,5 @@ module _ (script : Script) (delay : Delay) (run : Run) (formed : IsWellFormed sc
             | inr alike ↦ inr (same_dtype (
                 sym (u.is.facts.dtype_is alike.dtype alike.first (ap accumulation_of (sym u.is.kind) ∙ alike.of_a))
                 ∙ x.is.facts.dtype_is alike.dtype alike.second (ap accumulation_of (sym x.is.kind) ∙ alike.of_b)
-            ))
+                ))
           ]

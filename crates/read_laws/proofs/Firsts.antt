@@ -206,8 +206,8 @@ log_firsts before front (x ∷ log) alike h = by_test (is_touch x) refl h
     by_test true touch h skip keep = (
       λ initial. absurd (cc (initial, (touch_is_none x touch).0)),
       skip (front ++ x ∷ []) (λ number. sym (any_joined (belongs_to number) front (x ∷ [])
-      ∙ ap (λ b. list_any (belongs_to number) front || (b || false)) ((touch_is_none x touch).1 number)
-      ∙ or_false (list_any (belongs_to number) front) ∙ sym (alike number))) h,
+          ∙ ap (λ b. list_any (belongs_to number) front || (b || false)) ((touch_is_none x touch).1 number)
+          ∙ or_false (list_any (belongs_to number) front) ∙ sym (alike number))) h,
     )
       where
         or_false : (b : Bool) → (b || (false || false)) ≡ b
@@ -216,7 +216,7 @@ log_firsts before front (x ∷ log) alike h = by_test (is_touch x) refl h
     by_test false other h skip keep = (
       λ initial number is. sym (alike number) ∙ h.0 initial number is,
       keep (λ number. any_joined (belongs_to number) before (x ∷ [])
-      ∙ ap (λ b. b || (belongs_to number x || false)) (alike number) ∙ sym (any_joined (belongs_to number) front (x ∷ []))) h.1,
+          ∙ ap (λ b. b || (belongs_to number x || false)) (alike number) ∙ sym (any_joined (belongs_to number) front (x ∷ []))) h.1,
     )
 
 first_at : (before log : List Item) (k : ℕ) (x : Item) (number : ℕ) → AreFirsts before log → slice_get log k ≡ Some x →

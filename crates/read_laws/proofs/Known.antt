@@ -223,7 +223,7 @@ module _ (script : Script) (delay : Delay) (run : Run) (formed : IsWellFormed sc
       ((win : ℕ) → begun_in (item ∷ []) win ≡ 0) → ((creation : Creation) → action_of call ≡ Creates creation → ⊥) → Teaches known number call items
   single known number call items item is of accepted begins none = subst (Teaches known number call) (sym is) (inr (
     ap (λ o. option_map_or (known_after_number shapes (calls_of script rank) known) o known) accepted
-    ∙ accepts shapes (calls_of script rank) known number call of,
+        ∙ accepts shapes (calls_of script rank) known number call of,
     λ win. begins win ∙ sym (ap (count_by (λ name. name == win)) (no_names call none)),
     λ creation creates. absurd (none creation creates),
   ))
@@ -257,14 +257,14 @@ module _ (script : Script) (delay : Delay) (run : Run) (formed : IsWellFormed sc
       let apart = no_creation LookUpAndIssue known.windows call is (λ e. cc e) in
       subst (Teaches known number call) (sym e) (inr (
         ap (λ k. learn shapes (calls_of script rank) k item)
-        (learns_nothing shapes (calls_of script rank) known number place One call of (ap is_none t.1))
-        ∙ ap (learn shapes (calls_of script rank) known) one.2
-        ∙ accepts shapes (calls_of script rank) known number call of,
+            (learns_nothing shapes (calls_of script rank) known number place One call of (ap is_none t.1))
+            ∙ ap (learn shapes (calls_of script rank) known) one.2
+            ∙ accepts shapes (calls_of script rank) known number call of,
         λ win.
-        count_joined (begins_by rank win) (row_by script rank (Entry number place One)) (rows_in script rank (item ∷ []))
-        ∙ ap (λ n. n + begun_in (item ∷ []) win) (none_begins script rank win number place One call of (not_arrive rank win number call))
-        ∙ ap (λ i. 0 + begun_in (i ∷ []) win) one.2
-        ∙ sym (ap (count_by (λ name. name == win)) (no_names call apart)),
+            count_joined (begins_by rank win) (row_by script rank (Entry number place One)) (rows_in script rank (item ∷ []))
+            ∙ ap (λ n. n + begun_in (item ∷ []) win) (none_begins script rank win number place One call of (not_arrive rank win number call))
+            ∙ ap (λ i. 0 + begun_in (i ∷ []) win) one.2
+            ∙ sym (ap (count_by (λ name. name == win)) (no_names call apart)),
         λ creation creates. absurd (apart creation creates),
       ))
   course_teaches OneFlush known number call items is of h =
@@ -273,15 +273,15 @@ module _ (script : Script) (delay : Delay) (run : Run) (formed : IsWellFormed sc
       single known number call items (Request number) h of refl (λ win. refl) (no_creation OneRequest known.windows call is (λ e. cc e))
   course_teaches ArriveAndLeave known number call items is of (arrived, left, e) = subst (Teaches known number call) (sym e) (inr (
     ap (λ k. learn shapes (calls_of script rank) k (Entry number left Leave))
-    (learns_nothing shapes (calls_of script rank) known number arrived Arrive call of refl)
-    ∙ learns_call shapes (calls_of script rank) known number left Leave call of refl,
+        (learns_nothing shapes (calls_of script rank) known number arrived Arrive call of refl)
+        ∙ learns_call shapes (calls_of script rank) known number left Leave call of refl,
     λ win.
-    count_joined (begins_by rank win) (row_by script rank (Entry number arrived Arrive)) (rows_in script rank (Entry number left Leave ∷ []))
-    ∙ ap (λ n. n + begun_in (Entry number left Leave ∷ []) win) (arrive_begins script rank win number arrived call of)
-    ∙ ap (λ n. count_by (λ name. name == win) (name_made call) + n)
-    (count_joined (begins_by rank win) (row_by script rank (Entry number left Leave)) []
-    ∙ ap (λ n. n + 0) (none_begins script rank win number left Leave call of (not_leave rank win number call)))
-    ∙ plain (count_by (λ name. name == win) (name_made call)),
+        count_joined (begins_by rank win) (row_by script rank (Entry number arrived Arrive)) (rows_in script rank (Entry number left Leave ∷ []))
+        ∙ ap (λ n. n + begun_in (Entry number left Leave ∷ []) win) (arrive_begins script rank win number arrived call of)
+        ∙ ap (λ n. count_by (λ name. name == win) (name_made call) + n)
+        (count_joined (begins_by rank win) (row_by script rank (Entry number left Leave)) []
+        ∙ ap (λ n. n + 0) (none_begins script rank win number left Leave call of (not_leave rank win number call)))
+        ∙ plain (count_by (λ name. name == win) (name_made call)),
     λ creation creates. (arrived, left, refl),
   ))
     where

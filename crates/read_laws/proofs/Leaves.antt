@@ -47,10 +47,13 @@ course_leaves calls OneRequest known number call items of is h = single calls it
 course_leaves calls ArriveAndLeave known number call items of is (arrived, left, e) =
     subst (AllByRecursion (LeavesCollective calls)) (sym e) (
       λ n p same. absurd (cc same),
-      (λ n p same other found.
-      let at : number ≡ n = cc same in
-      let call_is : call ≡ other = cc (sym of ∙ ap (slice_get calls) at ∙ found) in
-      (known.windows, ap (course_of known.windows) (sym call_is) ∙ is), tt),
+      (
+        λ n p same other found.
+            let at : number ≡ n = cc same in
+            let call_is : call ≡ other = cc (sym of ∙ ap (slice_get calls) at ∙ found) in
+            (known.windows, ap (course_of known.windows) (sym call_is) ∙ is),
+        tt,
+      ),
     )
 course_leaves calls EntryOrTested known number call items of is (inl entry) =
     single calls items (Entry number entry.0 One) entry.1 (λ n place e. absurd (cc e))

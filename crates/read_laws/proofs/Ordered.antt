@@ -99,8 +99,11 @@ module _ (script : Script) (delay : Delay) (run : Run) (formed : IsWellFormed sc
         let logged : slice_get (log_of run a.id.rank) b.index ≡ Some (Entry event.number ends.0.event.place ends.0.event.step) =
         ap (λ r. slice_get (log_of run r) b.index) near.0
         ∙ ap (λ (i : Id). slice_get (log_of run i.rank) i.index) (sym ends.4) ∙ event.logged in
-        inr (Across (InLog Same (by.rank ∙ near.0, directly a u b.index (Entry event.number ends.0.event.place ends.0.event.step) access by local
-        logged refl (after b event.number ends.0.event.place ends.0.event.step near.1 logged))) edge)
+        inr (Across (InLog Same (
+          by.rank ∙ near.0,
+          directly a u b.index (Entry event.number ends.0.event.place ends.0.event.step) access by local
+              logged refl (after b event.number ends.0.event.place ends.0.event.step near.1 logged),
+        )) edge)
   ]
     where
       after : (b : Id) (number place : ℕ) (step : _) → a.id.index ≤ b.index →
@@ -202,10 +205,13 @@ module _ (script : Script) (delay : Delay) (run : Run) (formed : IsWellFormed sc
           | inr after ↦ transitive script run u.id q.0 b.id (after u by) reaches
           | inl own ↦ elim (local_before a u b.id access by own.1 (subst (λ i. Before script run i b.id) (sym own.0) reaches)) [
             | inr far ↦ far
-            | inl near ↦ InLog Same (by.rank ∙ near.0, directly a u b.id.index other.item access by own.1
-                (ap (λ r. slice_get (log_of run r) b.id.index) near.0 ∙ ap (slice_get (log_of run b.id.rank)) (sym other.index) ∙ other.logged)
-                (ap is_touch (issued_is (calls_of script b.id.rank) b.issued.index other.item b.issued other.issued).is)
-                (later near.0 near.1))
+            | inl near ↦ InLog Same (
+              by.rank ∙ near.0,
+              directly a u b.id.index other.item access by own.1
+                  (ap (λ r. slice_get (log_of run r) b.id.index) near.0 ∙ ap (slice_get (log_of run b.id.rank)) (sym other.index) ∙ other.logged)
+                  (ap is_touch (issued_is (calls_of script b.id.rank) b.issued.index other.item b.issued other.issued).is)
+                  (later near.0 near.1),
+            )
           ]
         ]
       where

@@ -103,8 +103,11 @@ module _ (script : Script) (delay : Delay) (run : Run) (formed : IsWellFormed sc
         let issued = same_issued script run u.access f (access_is script run u.of_run) access same in
         let kinds : is_update_role (role_of u.access.issued.access.kind) ≡ is_update_role (role_of f.issued.access.kind) =
         ap (λ p. is_update_role (role_of p.access.kind)) issued in
-        cc (is_updating script delay run formed lawful agree before order none each touch.cell v change u, kinds,
-        (read_role f.issued.access.kind read.reads).0)
+        cc (
+          is_updating script delay run formed lawful agree before order none each touch.cell v change u,
+          kinds,
+          (read_role f.issued.access.kind read.reads).0,
+        )
 
     -- an update that is before the read has a smaller place
     passed : (v : Touching) (change : Change) (u : IsUpdateOn script run touch.cell v change) → v.change ≡ Some change →
@@ -210,19 +213,19 @@ module _ (script : Script) (delay : Delay) (run : Run) (formed : IsWellFormed sc
         elim (nested change.dtype dtype change.first_byte base u.aligned is (omega (arith, shares.1, size)) shares.0) [
           | inl inner ↦ inl (inner.0, omega (arith, inner.1, size))
           | inr outer ↦ inr (record {
-              within = u.aligned.inside;
-              covers = (omega (arith, outer.0, covers.0), omega (arith, outer.1, covers.1, size));
-              reason = inr (record {
-                update = v;
-                change = change;
-                listed = m;
-                some = some;
-                base_is = refl;
-                whole_is = refl;
-                passes = passing;
-                late = omega arith;
-              });
-            })
+            within = u.aligned.inside;
+            covers = (omega (arith, outer.0, covers.0), omega (arith, outer.1, covers.1, size));
+            reason = inr (record {
+              update = v;
+              change = change;
+              listed = m;
+              some = some;
+              base_is = refl;
+              whole_is = refl;
+              passes = passing;
+              late = omega arith;
+            });
+          })
         ]
 
     widens : (v : Touching) (change : Change) (base whole : ℕ) → In v updates → v.change ≡ Some change → NeedsAt (suc v.place) base whole →

@@ -1,0 +1,4 @@
+-- That touches keep the order of a run.
+pub mod BoardItems
+pub mod Marks
+pub mod MarkMoves
