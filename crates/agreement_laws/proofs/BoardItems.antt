@@ -32,9 +32,10 @@ pub record Adds (agent : Agent) (rows : List Row) (step : AtBoard) : Type 0 wher
   pub log : step.agent.log ≡ agent.log ++ items
   pub now : step.rows ≡ rows ++ more
   pub are : AreItemsOfRows (length rows) items more
+  pub mine : step.agent.rank ≡ agent.rank
 
 adds_none : (agent : Agent) (rows : List Row) → Adds agent rows (waiting agent rows)
-adds_none agent rows = record { items = []; more = []; log = sym (append-nil agent.log); now = sym (append-nil rows); are = NoItem }
+adds_none agent rows = record { items = []; more = []; log = sym (append-nil agent.log); now = sym (append-nil rows); are = NoItem; mine = refl }
 
 adds_finished : (stage : Stage) (agent : Agent) (rows : List Row) (call : Call) (step : Step) → Adds agent rows (entered stage agent rows call step finished)
 adds_finished stage agent rows call step = record {
@@ -43,6 +44,7 @@ adds_finished stage agent rows call step = record {
   log = refl;
   now = refl;
   are = Single (next_row agent call step);
+  mine = refl;
 }
 
 adds_opened : (stage : Stage) (agent : Agent) (rows : List Row) (call : Call) (step : Step) → Adds agent rows (entered stage agent rows call step opened)
@@ -52,6 +54,7 @@ adds_opened stage agent rows call step = record {
   log = refl;
   now = refl;
   are = Single (next_row agent call step);
+  mine = refl;
 }
 
 finishes : (d : Decision) (stage : Stage) (agent : Agent) (rows : List Row) (call : Call) (step : Step) →
@@ -62,6 +65,7 @@ finishes (Refuse class) stage agent rows call step = record {
   log = refl;
   now = sym (append-nil rows);
   are = Quiet (Refused agent.at class (length rows)) refl refl;
+  mine = refl;
 }
 finishes Allow stage agent rows call step = adds_finished stage agent rows call step
 finishes NotYet stage agent rows call step = adds_none agent rows
@@ -74,6 +78,7 @@ opens (Refuse class) stage agent rows call step = record {
   log = refl;
   now = sym (append-nil rows);
   are = Quiet (Refused agent.at class (length rows)) refl refl;
+  mine = refl;
 }
 opens Allow stage agent rows call step = adds_opened stage agent rows call step
 opens NotYet stage agent rows call step = adds_none agent rows
@@ -85,6 +90,7 @@ tests (Refuse class) stage agent rows call = record {
   log = refl;
   now = sym (append-nil rows);
   are = Quiet (Refused agent.at class (length rows)) refl refl;
+  mine = refl;
 }
 tests Allow stage agent rows call = adds_finished stage agent rows call One
 tests NotYet stage agent rows call = record {
@@ -93,6 +99,7 @@ tests NotYet stage agent rows call = record {
   log = refl;
   now = sym (append-nil rows);
   are = Quiet (Tested agent.at (length rows)) refl refl;
+  mine = refl;
 }
 
 -- the Leave after an Arrive in one step; it is never refused
@@ -107,6 +114,7 @@ leaves Allow stage agent rows call never = record {
   now = append_assoc rows (next_row agent call Arrive ∷ []) (next_row agent call Leave ∷ []);
   are = Double (next_row agent call Arrive) (next_row agent call Leave) (length (rows ++ next_row agent call Arrive ∷ []))
       (length-append rows (next_row agent call Arrive ∷ []));
+  mine = refl;
 }
 leaves NotYet stage agent rows call never = record {
   items = Entry agent.at (length rows) Arrive ∷ [];
@@ -114,6 +122,7 @@ leaves NotYet stage agent rows call never = record {
   log = refl;
   now = refl;
   are = Single (next_row agent call Arrive);
+  mine = refl;
 }
 
 leave_or_wait : (b : Bool) (class : Class) → cond b Allow NotYet ≡ Refuse class → ⊥

@@ -2,3 +2,6 @@
 pub mod BoardItems
 pub mod Marks
 pub mod MarkMoves
+pub mod MarkedLives
+pub mod OneEdge
+pub mod Agreement

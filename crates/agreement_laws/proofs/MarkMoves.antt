@@ -85,7 +85,7 @@ touch_marks m one t issued moves element (piece ∷ rest) lows items after h at 
     passed more = subst (λ c. place_after h.0 c ≤ h.3 piece.cell) (sym (its more)) h.7
 
 -- the touches of an access whose Issue stands in the log
-access_more : (m : Marking) (stage : Stage) (one : PendingAccess) (lows after : Lows) (items : List Item) → m.memory ≡ stage.layout →
+pub access_more : (m : Marking) (stage : Stage) (one : PendingAccess) (lows after : Lows) (items : List Item) → m.memory ≡ stage.layout →
     issued_at m.calls m.log one.index ≡ Some one → (o : Option Transfer) → transfer_at m.calls one.number ≡ o →
     AreTouchesOf stage one o lows items after → AreMore m items lows after
 access_more m stage one lows after items memory issued None e touches =
