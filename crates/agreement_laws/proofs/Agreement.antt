@@ -1,19 +1,17 @@
 -- The touches of an assembled run keep its order: fronts grow along it.
-use Rattle.std.proofs.Common.{◌≡◌, ℕ, zero, suc, ◌+◌, ◌<◌, ◌≤◌, ◌⊎◌, inl, inr, Bool, true, false, List, [], ◌∷◌, ◌++◌, length, Option, Some, None, refl, ap, sym, ◌∙◌, subst, arith, append_assoc, append-nil}
-use Rattle.std.specs.Prelude.{◌≢◌, map, slice_get, Contains}
+use Rattle.std.proofs.Common.{◌≡◌, ℕ, zero, suc, ◌<◌, ◌≤◌, ◌⊎◌, inl, inr, true, List, [], ◌∷◌, ◌++◌, length, Option, Some, None, refl, ap, sym, ◌∙◌, subst, arith, append_assoc, append-nil}
+use Rattle.std.specs.Prelude.{◌≢◌, map, slice_get}
 use Rattle.std.specs.List.{AllByRecursion}
 use Rattle.std.specs.Option.{option_map_or}
-use Rattle.std.proofs.lemmas.Bool.{cases_lt, cases_eq}
-use Rattle.std.proofs.lemmas.List.{map-append, length-map}
+use Rattle.std.proofs.lemmas.Bool.{cases_lt}
+use Rattle.std.proofs.lemmas.List.{length-map}
 use Rattle.rma_types.specs.declared.accesses.Id.{Id}
-use Rattle.rma_types.specs.declared.accesses.Step.{Step}
 use Rattle.rma_types.specs.declared.schedules.Delay.{Delay}
 use Rattle.rma_types.specs.declared.scripts.Script.{Script}
 use Rattle.rma_record.specs.declared.items.Item.{Item}
 use Rattle.rma_record.specs.declared.items.Item.TheVariants.{Touch, Entry}
 use Rattle.rma_record.specs.declared.runs.Run.{Run}
 use Rattle.board_rules.specs.Edges.{Event, is_edge}
-use Rattle.board_rules.specs.Entries.{Row}
 use Rattle.board_rules.specs.Questions.{question}
 use Rattle.call_rules.specs.declared.elements.Change.{Change}
 use Rattle.call_rules.specs.Layout.{layout}
@@ -23,7 +21,7 @@ use Rattle.lawful_runs.specs.Cells.{KeepsOrder}
 use Rattle.lawful_runs.specs.Logs.{log_of, calls_of, rows_of}
 use Rattle.lawful_runs.specs.Stages.{stage_of, calls_at}
 use Rattle.order_rules.specs.Before.{NamedEvent, Before, Same, InLog, Across, events_in, is_edge_between}
-use Rattle.order_laws.proofs.Events.{each_in, get_in, IsEventAt}
+use Rattle.order_laws.proofs.Events.{each_in, get_in}
 use Rattle.order_laws.proofs.Members.{In, contains_in}
 use Rattle.order_laws.proofs.Order.{edge_between, event_on_board, same_on_board, edge_ascends_on_board}
 use Rattle.rank_laws.proofs.BoardLaws.{board_is_lawful, rows_are}
@@ -32,9 +30,9 @@ use Rattle.rank_laws.proofs.Inductions.{lived_rank}
 use Rattle.rank_laws.proofs.Runs.{rank_there}
 use Rattle.rank_laws.specs.Assembled.{IsAssembled}
 use Rattle.rank_laws.specs.Deliveries.{place_after}
-use Rattle.rank_laws.specs.Fronts.{Lows, AreAtMost, Put, rows_put, event_after, AreMetFrom, MeetsEdges}
+use Rattle.rank_laws.specs.Fronts.{Lows, AreAtMost, Put, rows_put, event_after, AreMetFrom}
 use Rattle.read_laws.proofs.Touches.{IsTouch, touch_is}
-use Rattle.agreement_laws.proofs.Marks.{Mark, AreRising, Marking, IsTouchMark, IsEntryMark, IsRightItem, IsRight, AreMarked}
+use Rattle.agreement_laws.proofs.Marks.{Mark, AreRising, Marking, IsRightItem, IsRight, AreMarked}
 use Rattle.agreement_laws.proofs.MarkedLives.{lived_marked}
 use Rattle.agreement_laws.proofs.MarkMoves.{marking_of}
 use Rattle.agreement_laws.proofs.OneEdge.{no_two_edges}

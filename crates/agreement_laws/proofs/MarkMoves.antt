@@ -1,12 +1,11 @@
 -- Every move but an entry keeps the marks of a log.
-use Rattle.std.proofs.Common.{◌≡◌, ℕ, zero, suc, ◌+◌, ◌<◌, ◌≤◌, ◌⊎◌, inl, inr, false, List, [], ◌∷◌, ◌++◌, length, Option, Some, None, refl, ap, sym, ◌∙◌, subst, arith, append_assoc, length-append}
+use Rattle.std.proofs.Common.{◌≡◌, ℕ, suc, ◌+◌, ◌<◌, ◌≤◌, ◌⊎◌, inl, inr, false, List, [], ◌∷◌, ◌++◌, length, Option, Some, None, refl, ap, sym, ◌∙◌, subst, arith, length-append}
 use Rattle.std.specs.Prelude.{map, slice_get}
 use Rattle.std.specs.List.{AllByRecursion}
 use Rattle.std.specs.Option.{option_map_or}
 use Rattle.std.proofs.lemmas.Bool.{cases_lt}
-use Rattle.rma_types.specs.declared.calls.Call.{Call}
 use Rattle.rma_record.specs.declared.items.Item.{Item}
-use Rattle.rma_record.specs.declared.items.Item.TheVariants.{Issue, Touch, Refused, Tested, Ended, Null, Flush, Request}
+use Rattle.rma_record.specs.declared.items.Item.TheVariants.{Issue, Touch, Refused, Tested, Ended}
 use Rattle.call_rules.specs.declared.elements.Piece.{Piece}
 use Rattle.board_rules.specs.Entries.{Row}
 use Rattle.call_rules.specs.Actions.{Transfer}
@@ -30,7 +29,7 @@ use Rattle.rank_rules.specs.Courses.{Course, OneNull, OneIssue, LookUpAndIssue, 
 use Rattle.rank_rules.specs.declared.pending.PendingAccess.{PendingAccess}
 use Rattle.step_runs.specs.Agents.{Agent}
 use Rattle.step_runs.specs.BoardSteps.{next_row}
-use Rattle.agreement_laws.proofs.Marks.{Mark, AreRising, IsTouchMark, Marking, IsRight, AreMarked, AreMore, marked_rises, marked_more, quiet_more}
+use Rattle.agreement_laws.proofs.Marks.{Mark, AreRising, Marking, IsRight, AreMarked, AreMore, marked_rises, marked_more, quiet_more}
 
 -- the marking of a rank's log
 abbrev pub marking_of : Stage → Agent → List Put → Marking
@@ -149,47 +148,68 @@ learnt stage puts many p more (inr here) =
 pub marks_kept : (stage : Stage) (puts : List Put) (many : ℕ) → Keeps stage (HasMarksAt stage puts many)
 marks_kept stage puts many p _ h (Learns more others) = learnt stage puts many p more h
 marks_kept stage puts many p _ (inl past) (Rises after rise) = inl past
-marks_kept stage puts many p _ (inr here) (Rises after rise) = inr (here.0, record {
-  touches = here.1.touches;
-  marked = marked_rises (marking_of stage p.agent puts) p.lows after rise here.1.marked;
-})
+marks_kept stage puts many p _ (inr here) (Rises after rise) = inr (
+  here.0,
+  record {
+    touches = here.1.touches;
+    marked = marked_rises (marking_of stage p.agent puts) p.lows after rise here.1.marked;
+  },
+)
 marks_kept stage puts many p _ (inl past) (Ends over empty going) = inl past
-marks_kept stage puts many p _ (inr here) (Ends over empty going) = inr (here.0, record {
-  touches = touches_kept stage p _ here.1.touches (Ends over empty going);
-  marked = quiet_marked stage puts p.agent Ended p.lows refl refl here.1.marked;
-})
+marks_kept stage puts many p _ (inr here) (Ends over empty going) = inr (
+  here.0,
+  record {
+    touches = touches_kept stage p _ here.1.touches (Ends over empty going);
+    marked = quiet_marked stage puts p.agent Ended p.lows refl refl here.1.marked;
+  },
+)
 marks_kept stage puts many p _ (inl past) (RefusesAlone call class at new refuses) = inl past
-marks_kept stage puts many p _ (inr here) (RefusesAlone call class at new refuses) = inr (here.0, record {
-  touches = touches_kept stage p _ here.1.touches (RefusesAlone call class at new refuses);
-  marked = quiet_marked stage puts p.agent (Refused p.agent.at class 0) p.lows refl refl here.1.marked;
-})
+marks_kept stage puts many p _ (inr here) (RefusesAlone call class at new refuses) = inr (
+  here.0,
+  record {
+    touches = touches_kept stage p _ here.1.touches (RefusesAlone call class at new refuses);
+    marked = quiet_marked stage puts p.agent (Refused p.agent.at class 0) p.lows refl refl here.1.marked;
+  },
+)
 marks_kept stage puts many p _ (inl past) (IsRefused call class begins has answer) = inl past
-marks_kept stage puts many p _ (inr here) (IsRefused call class begins has answer) = inr (here.0, record {
-  touches = touches_kept stage p _ here.1.touches (IsRefused call class begins has answer);
-  marked = quiet_marked stage puts p.agent (Refused p.agent.at class (length p.rows)) p.lows refl refl here.1.marked;
-})
+marks_kept stage puts many p _ (inr here) (IsRefused call class begins has answer) = inr (
+  here.0,
+  record {
+    touches = touches_kept stage p _ here.1.touches (IsRefused call class begins has answer);
+    marked = quiet_marked stage puts p.agent (Refused p.agent.at class (length p.rows)) p.lows refl refl here.1.marked;
+  },
+)
 marks_kept stage puts many p _ (inl past) (Tests call begins course answer) = inl past
-marks_kept stage puts many p _ (inr here) (Tests call begins course answer) = inr (here.0, record {
-  touches = touches_kept stage p _ here.1.touches (Tests call begins course answer);
-  marked = quiet_marked stage puts p.agent (Tested p.agent.at (length p.rows)) p.lows refl refl here.1.marked;
-})
+marks_kept stage puts many p _ (inr here) (Tests call begins course answer) = inr (
+  here.0,
+  record {
+    touches = touches_kept stage p _ here.1.touches (Tests call begins course answer);
+    marked = quiet_marked stage puts p.agent (Tested p.agent.at (length p.rows)) p.lows refl refl here.1.marked;
+  },
+)
 marks_kept stage puts many p _ (inl past) (Passes call item begins plain) = inl past
 marks_kept stage puts many p _ (inr here) (Passes call item begins plain) =
     let is = plain_item (course_at p.agent call) p.agent.at item plain in
-    inr (here.0, record {
-      touches = touches_kept stage p _ here.1.touches (Passes call item begins plain);
-      marked = quiet_marked stage puts p.agent item p.lows is.0 is.1 here.1.marked;
-    })
+    inr (
+      here.0,
+      record {
+        touches = touches_kept stage p _ here.1.touches (Passes call item begins plain);
+        marked = quiet_marked stage puts p.agent item p.lows is.0 is.1 here.1.marked;
+      },
+    )
 marks_kept stage puts many p _ (inl past) (Enters call step after entering answer) =
     let long = length-append p.rows (next_row p.agent call step ∷ []) in inl (omega (arith, past, long))
 marks_kept stage puts many p _ (inr here) (Enters call step after entering answer) =
     let long = length-append p.rows (next_row p.agent call step ∷ []) in
     let many_are = here.0 in inl (omega (arith, many_are, long))
 marks_kept stage puts many p _ (inl past) (Issues call t access issuing later) = inl past
-marks_kept stage puts many p _ (inr here) (Issues call t access issuing later) = inr (here.0, record {
-  touches = touches_kept stage p _ here.1.touches (Issues call t access issuing later);
-  marked = quiet_marked stage puts p.agent (Issue p.agent.at access) p.lows refl refl here.1.marked;
-})
+marks_kept stage puts many p _ (inr here) (Issues call t access issuing later) = inr (
+  here.0,
+  record {
+    touches = touches_kept stage p _ here.1.touches (Issues call t access issuing later);
+    marked = quiet_marked stage puts p.agent (Issue p.agent.at access) p.lows refl refl here.1.marked;
+  },
+)
 marks_kept stage puts many p _ (inl past) (IssuesWhole call t access items after issuing once touches) = inl past
 marks_kept stage puts many p _ (inr here) (IssuesWhole call t access items after issuing once touches) =
     let calls = calls_at stage p.agent.rank in
@@ -199,23 +219,32 @@ marks_kept stage puts many p _ (inr here) (IssuesWhole call t access items after
     (get_rest p.agent.log (item ∷ []) (length p.agent.log) 0 (omega arith))
     ∙ made_is stage p.agent call t access issuing in
     let m : Marking = record (marking_of stage p.agent puts) { log = p.agent.log ++ item ∷ [] } in
-    inr (here.0, record {
-      touches = touches_kept stage p _ here.1.touches (IssuesWhole call t access items after issuing once touches);
-      marked = marked_more m items p.lows after (quiet_marked stage puts p.agent item p.lows refl refl here.1.marked)
-          (access_more m stage (made_by p.agent access t) p.lows after items refl its (Some t)
-          (its_transfer stage p.agent call t issuing.here issuing.moves) touches);
-    })
+    inr (
+      here.0,
+      record {
+        touches = touches_kept stage p _ here.1.touches (IssuesWhole call t access items after issuing once touches);
+        marked = marked_more m items p.lows after (quiet_marked stage puts p.agent item p.lows refl refl here.1.marked)
+            (access_more m stage (made_by p.agent access t) p.lows after items refl its (Some t)
+            (its_transfer stage p.agent call t issuing.here issuing.moves) touches);
+      },
+    )
 marks_kept stage puts many p _ (inl past) (Draws state new) = inl past
-marks_kept stage puts many p _ (inr here) (Draws state new) = inr (here.0, record {
-  touches = touches_kept stage p _ here.1.touches (Draws state new);
-  marked = here.1.marked;
-})
+marks_kept stage puts many p _ (inr here) (Draws state new) = inr (
+  here.0,
+  record {
+    touches = touches_kept stage p _ here.1.touches (Draws state new);
+    marked = here.1.marked;
+  },
+)
 marks_kept stage puts many p _ (inl past) (Delivers at one items after there due touches) = inl past
 marks_kept stage puts many p _ (inr here) (Delivers at one items after there due touches) =
     let waits : IsUntouched (calls_at stage p.agent.rank) p.agent.log one =
     each_at (IsUntouched (calls_at stage p.agent.rank) p.agent.log) p.agent.pending at one here.1.touches.has.waiting there in
-    inr (here.0, record {
-      touches = touches_kept stage p _ here.1.touches (Delivers at one items after there due touches);
-      marked = marked_more (marking_of stage p.agent puts) items p.lows after here.1.marked
-          (access_more (marking_of stage p.agent puts) stage one p.lows after items refl waits.0 _ refl touches);
-    })
+    inr (
+      here.0,
+      record {
+        touches = touches_kept stage p _ here.1.touches (Delivers at one items after there due touches);
+        marked = marked_more (marking_of stage p.agent puts) items p.lows after here.1.marked
+            (access_more (marking_of stage p.agent puts) stage one p.lows after items refl waits.0 _ refl touches);
+      },
+    )

@@ -1,15 +1,12 @@
 -- The log of a rank is marked through its whole history.
-use Rattle.std.proofs.Common.{◌≡◌, ℕ, zero, suc, ◌+◌, ◌<◌, ◌≤◌, ◌⊎◌, inl, inr, Bool, true, false, List, [], ◌∷◌, ◌++◌, length, Option, Some, None, refl, ap, sym, ◌∙◌, subst, arith, append_assoc, append-nil, length-append}
-use Rattle.std.specs.Prelude.{map, slice_get, remove}
+use Rattle.std.proofs.Common.{◌≡◌, ℕ, zero, suc, ◌+◌, inl, inr, List, [], ◌∷◌, ◌++◌, length, Option, Some, None, refl, ap, sym, ◌∙◌, subst, arith, append_assoc, length-append}
+use Rattle.std.specs.Prelude.{slice_get, remove}
 use Rattle.std.specs.List.{AllByRecursion}
-use Rattle.std.specs.Option.{option_map_or}
 use Rattle.std.proofs.lemmas.List.{length-map}
-use Rattle.rma_types.specs.declared.calls.Call.{Call}
 use Rattle.rma_record.specs.declared.items.Item.{Item}
 use Rattle.rma_record.specs.declared.items.Item.TheVariants.{Entry}
 use Rattle.board_rules.specs.Entries.{Row}
 use Rattle.lawful_runs.specs.Accesses.{issued_at, transfer_at}
-use Rattle.lawful_runs.specs.Items.{is_touch, is_entry}
 use Rattle.lawful_runs.specs.Stages.{Stage, calls_at}
 use Rattle.rank_laws.proofs.DataPaths.{step_path}
 use Rattle.rank_laws.proofs.Histories.{most_same, most_join, put_rises, rows_joined}
@@ -20,14 +17,14 @@ use Rattle.rank_laws.proofs.Pendings.{IsUntouched}
 use Rattle.rank_laws.proofs.TouchLaws.{new_touches}
 use Rattle.rank_laws.proofs.Touching.{issued_still}
 use Rattle.rank_laws.proofs.TouchMoves.{KeepsTouches, touches_kept}
-use Rattle.rank_laws.specs.Deliveries.{AreTouchesOf, delivered, IsDelivered}
+use Rattle.rank_laws.specs.Deliveries.{IsDelivered}
 use Rattle.rank_laws.specs.Fronts.{Lows, AreAtMost, Put, rows_put, ArePut}
 use Rattle.rank_laws.specs.Lives.{LooksAfter, Lives, Begins, Looks, Steps, Drains, Stays, Drained, HasLived}
 use Rattle.rank_rules.specs.declared.pending.PendingAccess.{PendingAccess}
 use Rattle.step_runs.specs.Agents.{Agent}
-use Rattle.step_runs.specs.BoardSteps.{AtBoard, board_step}
-use Rattle.agreement_laws.proofs.BoardItems.{AreItemsOfRows, NoItem, Quiet, Single, Double, Adds, board_adds}
-use Rattle.agreement_laws.proofs.Marks.{Mark, Marking, IsRight, AreMarked, AreMore, marked_rises, marked_learns, marked_more, quiet_more}
+use Rattle.step_runs.specs.BoardSteps.{board_step}
+use Rattle.agreement_laws.proofs.BoardItems.{AreItemsOfRows, NoItem, Quiet, Single, Double, board_adds}
+use Rattle.agreement_laws.proofs.Marks.{Mark, Marking, AreMarked, AreMore, marked_rises, marked_learns, marked_more, quiet_more}
 use Rattle.agreement_laws.proofs.MarkMoves.{marking_of, access_more, HasMarksAt, marks_kept}
 
 -- ---- a step at the board
@@ -85,15 +82,18 @@ entries_more m before (one ∷ two ∷ []) _ _ at lows after all long is (Double
       below = (put_rises m.ranks (before ++ one ∷ []) put.0 (two ∷ []) after later, (later.4, tt));
       right = (
         record { before = before; put = one; rest = two ∷ []; split = all; long = sym long; above = put.1; meets = put.3 },
-        (record {
-          before = before ++ one ∷ [];
-          put = two;
-          rest = [];
-          split = all ∙ sym (append_assoc before (one ∷ []) (two ∷ []));
-          long = length-append before (one ∷ []) ∙ ap (λ n. n + 1) (sym long) ∙ sym e;
-          above = later.1;
-          meets = later.3;
-        }, tt),
+        (
+          record {
+            before = before ++ one ∷ [];
+            put = two;
+            rest = [];
+            split = all ∙ sym (append_assoc before (one ∷ []) (two ∷ []));
+            long = length-append before (one ∷ []) ∙ ap (λ n. n + 1) (sym long) ∙ sym e;
+            above = later.1;
+            meets = later.3;
+          },
+          tt,
+        ),
       );
       rise = put_rises m.ranks before lows (one ∷ two ∷ []) after put;
     }
@@ -132,10 +132,13 @@ life_marked stage seed rank _ _ _ (Steps agent next known lows after life tries 
     let path = step_path stage agent next rows lows after made in
     let kept = path_keeps stage (HasMarksAt stage known (length rows)) (marks_kept stage known (length rows))
     (point agent rows lows) (point next rows after)
-    (inr (refl, record {
-      touches = keeps_touches stage seed rank agent known lows life;
-      marked = life_marked stage seed rank agent known lows life;
-    })) path in
+    (inr (
+      refl,
+      record {
+        touches = keeps_touches stage seed rank agent known lows life;
+        marked = life_marked stage seed rank agent known lows life;
+      },
+    )) path in
     elim kept [
       | inl past ↦ absurd (omega (arith, past))
       | inr here ↦ here.1.marked

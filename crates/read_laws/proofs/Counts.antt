@@ -1,23 +1,19 @@
 -- The entries of a rank before one of its entries: those of its log, as the board counts them.
-use Rattle.std.proofs.Common.{◌≡◌, ℕ, zero, suc, ◌+◌, ◌-◌, ◌<◌, ◌≤◌, ◌⊎◌, inl, inr, Bool, true, false, cond, List, [], ◌∷◌, ◌++◌, length, Option, Some, None, refl, ap, sym, ◌∙◌, subst, arith, append_assoc}
-use Rattle.std.specs.Prelude.{◌==◌, nat_lt, slice_get, slice_index_or, if◌then◌else◌}
-use Rattle.std.specs.List.{find, flat_map, count_by, filter, AllByRecursion}
+use Rattle.std.proofs.Common.{◌≡◌, ℕ, zero, suc, ◌+◌, ◌-◌, ◌<◌, ◌≤◌, ◌⊎◌, inl, inr, Bool, true, false, cond, List, [], ◌∷◌, ◌++◌, Option, Some, None, refl, ap, sym, ◌∙◌, arith, append_assoc}
+use Rattle.std.specs.Prelude.{◌==◌, nat_lt, slice_index_or}
+use Rattle.std.specs.List.{find, flat_map, count_by}
 use Rattle.std.specs.Option.{option_map_or}
-use Rattle.std.proofs.lemmas.Bool.{cases_eq, cases_lt, eqb-true, eq-eqb, ne_eqb, lt-ltb, le-ltb}
-use Rattle.std.proofs.lemmas.List.Sums.{sum_by-cons, sum_by-append}
-use Rattle.rma_types.specs.declared.accesses.Id.{Id}
-use Rattle.rma_types.specs.declared.accesses.Step.{Step}
-use Rattle.rma_types.specs.declared.calls.Call.{Call}
+use Rattle.std.proofs.lemmas.Bool.{cases_eq, cases_lt, eq-eqb, ne_eqb, lt-ltb, le-ltb}
+use Rattle.std.proofs.lemmas.List.Sums.{sum_by-append}
 use Rattle.rma_types.specs.declared.scripts.Script.{Script}
 use Rattle.rma_record.specs.declared.items.Item.{Item}
 use Rattle.rma_record.specs.declared.items.Item.TheVariants.{Issue, Null, Touch, Flush, Request, Entry, Tested, Refused, Ended}
 use Rattle.rma_record.specs.declared.runs.Run.{Run}
 use Rattle.board_rules.specs.Entries.{Row}
 use Rattle.call_rules.specs.Pieces.{numbers_from}
-use Rattle.lawful_runs.specs.BoardLaw.{HasEntries}
-use Rattle.lawful_runs.specs.Logs.{Named, named_from, named_in, named_logs, named_items, log_of, calls_of, is_entry_at, is_named_entry_at, is_some_entry, entry_at, entries_of, row_by, row_of, rows_of}
-use Rattle.order_laws.proofs.Members.{In, here, there, in_append_left, in_append_right}
-use Rattle.read_laws.proofs.Folds.{find_in, counted}
+use Rattle.lawful_runs.specs.Logs.{Named, named_from, named_in, named_logs, named_items, log_of, is_entry_at, is_named_entry_at, entry_at, row_of}
+use Rattle.order_laws.proofs.Members.{In, here, there}
+use Rattle.read_laws.proofs.Folds.{counted}
 
 -- ---- totals
 

@@ -1,9 +1,8 @@
 -- What a touch of a get or a load reads is what the updates before its access leave.
-use Rattle.std.proofs.Common.{◌≡◌, ℕ, zero, suc, ◌+◌, ◌<◌, ◌≤◌, ◌⊎◌, inl, inr, Bool, true, false, cond, List, [], ◌∷◌, length, Option, Some, None, refl, ap, sym, ◌∙◌, subst, arith}
-use Rattle.std.specs.Prelude.{◌==◌, ◌≢◌, nat_lt, slice_get, slice_index, is_some}
-use Rattle.std.specs.List.{filter, count_by, AllByRecursion}
+use Rattle.std.proofs.Common.{◌≡◌, ℕ, ◌+◌, ◌<◌, ◌≤◌, ◌⊎◌, inl, inr, Bool, true, false, cond, [], Some, None, refl, ap, sym, ◌∙◌, subst, arith}
+use Rattle.std.specs.Prelude.{slice_get}
 use Rattle.std.specs.Option.{option_map_or}
-use Rattle.std.proofs.lemmas.Bool.{cases_eq, cases_Bool, eqb-true, cond_both}
+use Rattle.std.proofs.lemmas.Bool.{cases_eq, eqb-true}
 use Rattle.rma_types.specs.declared.accesses.Id.{Id}
 use Rattle.rma_types.specs.declared.accesses.Kind.{Kind}
 use Rattle.rma_types.specs.declared.accesses.Kind.TheVariants.{Get as GetKind, Put as PutKind, Acc as AccKind, Cas as CasKind, Load as LoadKind, Store as StoreKind}
@@ -17,36 +16,29 @@ use Rattle.rma_record.specs.declared.runs.Run.{Run}
 use Rattle.call_rules.specs.declared.elements.Change.{Change}
 use Rattle.call_rules.specs.declared.elements.Piece.{Piece}
 use Rattle.call_rules.specs.Actions.{Transfer}
-use Rattle.call_rules.specs.Elements.{element_in}
-use Rattle.call_rules.specs.Layout.{layout, cells_of}
+use Rattle.call_rules.specs.Layout.{layout}
 use Rattle.call_rules.specs.Transfers.{is_no_op}
 use Rattle.call_rules.specs.WellFormed.{IsWellFormed}
-use Rattle.lawful_runs.specs.Accesses.{Touching, all_touches, is_on_cell, is_update, on_cell, updates_in, transfer_at, issued_by, issued_at}
-use Rattle.lawful_runs.specs.Cells.{has_place, state, KeepsOrder, ReadsState, IsHistory}
+use Rattle.lawful_runs.specs.Accesses.{Touching, all_touches, is_on_cell, is_update, on_cell, transfer_at, issued_by, issued_at}
+use Rattle.lawful_runs.specs.Cells.{KeepsOrder}
 use Rattle.lawful_runs.specs.LawfulRun.{IsLawful}
 use Rattle.lawful_runs.specs.Logs.{log_of, calls_of}
 use Rattle.lawful_runs.specs.TouchLaw.{is_local}
 use Rattle.order_rules.specs.Before.{Before, IsOrder}
 use Rattle.order_rules.specs.CallSteps.{IssuedAccess, accesses_in}
-use Rattle.order_rules.specs.DonePoints.{timeline_of}
-use Rattle.order_rules.specs.Findings.{findings, judged}
-use Rattle.order_rules.specs.Ordered.{is_ordered}
-use Rattle.order_rules.specs.OrderedReads.{TouchesAgree, updates_of, left_before, is_get_or_load}
+use Rattle.order_rules.specs.Findings.{findings}
+use Rattle.order_rules.specs.OrderedReads.{TouchesAgree, updates_of, is_get_or_load}
 use Rattle.order_rules.specs.Roles.{Role, RmaUpdate, RmaRead, Store, Load, role_of, is_rma_read}
 use Rattle.order_rules.specs.Rules.{accumulation_of}
-use Rattle.order_laws.proofs.Events.{each_in}
-use Rattle.order_laws.proofs.Members.{In, filter_in, in_filter, in_contains}
+use Rattle.order_laws.proofs.Members.{In, filter_in, in_contains}
 use Rattle.order_laws.proofs.Order.{transitive}
 use Rattle.order_laws.specs.FindingLaws.{is_update as is_update_role}
-use Rattle.read_laws.proofs.Bytes.{DoAgree, element_agrees}
-use Rattle.read_laws.proofs.Changes.{IsInCell}
-use Rattle.read_laws.proofs.Folds.{DoShare, AreUpdates, AreNeeded, folds_agree}
-use Rattle.read_laws.proofs.Meetings.{is_local_role, AreOrdered, AreOfOneDtype, meeting}
+use Rattle.read_laws.proofs.Meetings.{is_local_role, meeting}
 use Rattle.read_laws.proofs.Ordered.{before_issue, after_issue}
-use Rattle.read_laws.proofs.Parts.{IsOfTransfer, AreOfTransfers, HasAccess, access_of_touch, IsPart, part_of, IsUpdateOf, change_is, no_change}
-use Rattle.read_laws.proofs.Places.{DoMeet, IsAligned, IsElement, LiesIn, element_of, piece_aligned, nested, one_element, some_bytes, share_byte}
+use Rattle.read_laws.proofs.Parts.{IsOfTransfer, AreOfTransfers, access_of_touch, IsPart, part_of, IsUpdateOf, change_is}
+use Rattle.read_laws.proofs.Places.{IsAligned, IsElement, element_of, piece_aligned, one_element, share_byte}
 use Rattle.read_laws.proofs.Points.{IsAccess, IsTouchBy, access_is, touch_logged}
-use Rattle.read_laws.proofs.Touches.{IsTouch, touch_is}
+use Rattle.read_laws.proofs.Touches.{touch_is}
 
 -- ---- kinds
 

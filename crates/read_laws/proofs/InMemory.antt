@@ -1,13 +1,13 @@
 -- Each access of a lawful run is of a transfer, and lies in the memory of its target.
-use Rattle.std.proofs.Common.{◌≡◌, ℕ, zero, suc, ◌+◌, ◌<◌, ◌≤◌, ◌⊎◌, inl, inr, Bool, true, false, cond, not, List, [], ◌∷◌, ◌++◌, length, Option, Some, None, refl, ap, sym, ◌∙◌, subst, arith, append_assoc}
-use Rattle.std.specs.Prelude.{◌==◌, map, slice_get, slice_index_or}
-use Rattle.std.specs.List.{count_by, filter, flat_map, fold, AllByRecursion}
+use Rattle.std.proofs.Common.{◌≡◌, ℕ, zero, suc, ◌+◌, ◌<◌, ◌≤◌, inl, inr, Bool, true, false, cond, not, List, [], ◌∷◌, ◌++◌, Option, Some, None, refl, ap, sym, ◌∙◌, subst, append_assoc}
+use Rattle.std.specs.Prelude.{◌==◌, slice_get}
+use Rattle.std.specs.List.{count_by, flat_map, AllByRecursion}
 use Rattle.std.specs.Option.{option_map_or}
 use Rattle.std.proofs.lemmas.Bool.{not-false}
 use Rattle.std.proofs.lemmas.List.{append-nil}
 use Rattle.rma_types.specs.declared.accesses.Access.{Access}
 use Rattle.rma_types.specs.declared.accesses.Step.{Step}
-use Rattle.rma_types.specs.declared.accesses.Step.TheVariants.{Arrive, Leave, One}
+use Rattle.rma_types.specs.declared.accesses.Step.TheVariants.{Arrive, One}
 use Rattle.rma_types.specs.declared.calls.Call.{Call}
 use Rattle.rma_types.specs.declared.calls.Flavor.TheVariants.{Dynamic}
 use Rattle.rma_types.specs.declared.classes.Class.{Class}
@@ -16,41 +16,38 @@ use Rattle.rma_types.specs.declared.schedules.Delay.{Delay}
 use Rattle.rma_types.specs.declared.scripts.Part.{Part}
 use Rattle.rma_types.specs.declared.scripts.Script.{Script}
 use Rattle.rma_record.specs.declared.items.Item.{Item}
-use Rattle.rma_record.specs.declared.items.Item.TheVariants.{Issue, Null, Touch, Flush, Request, Entry, Tested, Refused, Ended}
+use Rattle.rma_record.specs.declared.items.Item.TheVariants.{Issue, Null, Flush, Request, Entry, Tested, Refused, Ended}
 use Rattle.rma_record.specs.declared.runs.Run.{Run}
 use Rattle.board_rules.specs.AttachedRanges.{ranges_attached, reaches_unattached}
 use Rattle.board_rules.specs.Board.{Allow, refuse_if, one_refusal, refusal, decision_by, is_allowed_now, decide}
 use Rattle.board_rules.specs.Entries.{Row, acts}
 use Rattle.board_rules.specs.Questions.{Question, question}
-use Rattle.call_rules.specs.Actions.{Action, Moves, Transfer, Own, action_of, transfer_of}
+use Rattle.call_rules.specs.Actions.{Moves, Transfer, Own, action_of, transfer_of}
 use Rattle.call_rules.specs.Layout.{layout}
 use Rattle.call_rules.specs.Ranks.{natural}
 use Rattle.call_rules.specs.Transfers.{rank_reached, bytes_of}
 use Rattle.call_rules.specs.WellFormed.{IsWellFormed}
-use Rattle.lawful_runs.specs.Accesses.{transfer_at}
 use Rattle.lawful_runs.specs.BoardLaw.{AreAllowed}
-use Rattle.lawful_runs.specs.CallItems.{untouched, AreItemsOfCourse, AreItemsBy, AreItemsOf, AreFinished, StandsAt, EndsOrStands, HasItemsOfCalls}
+use Rattle.lawful_runs.specs.CallItems.{untouched, AreItemsOfCourse, AreItemsBy, AreFinished, StandsAt, EndsOrStands, HasItemsOfCalls}
 use Rattle.lawful_runs.specs.Items.{is_touch, number_in}
 use Rattle.lawful_runs.specs.LawfulRun.{IsLawful, rank_in}
 use Rattle.lawful_runs.specs.Logs.{Named, log_of, calls_of, entries_of, row_by, row_of, rows_of}
-use Rattle.lawful_runs.specs.Stages.{RankOfRun, calls_here, known_at, shapes_in, first_knowledge, stage_of}
-use Rattle.order_rules.specs.CallSteps.{IssuedAccess, accesses_in}
+use Rattle.lawful_runs.specs.Stages.{RankOfRun, known_at, shapes_in, first_knowledge, stage_of}
 use Rattle.rank_rules.specs.Classes.{first_class}
 use Rattle.rank_rules.specs.Courses.{Course, OneNull, OneIssue, LookUpAndIssue, OneFlush, OneRequest, ArriveAndLeave, EntryOrTested, OneEntry, course_of_transfer, course_of_action, course_of, access_on, access_of}
 use Rattle.rank_rules.specs.EpochTests.{epoch_class}
 use Rattle.rank_rules.specs.Knowledge.{Knowledge, own_class, learn, known_after, known_after_call, known_after_number, accepted_by}
 use Rattle.rank_rules.specs.Ranges.{covers}
-use Rattle.rank_rules.specs.Windows.{Window, RankWindows, window_of_name, windows_after}
+use Rattle.rank_rules.specs.Windows.{Window, window_of_name}
 use Rattle.rank_rules.specs.WindowTests.{place_tests, window_class}
 use Rattle.order_laws.proofs.Events.{AllFrom, IsEntryOf, entries_placed}
-use Rattle.order_laws.proofs.Members.{In}
 use Rattle.read_laws.proofs.Begun.{IsEntered, entered, rows_in, rows_untouched}
 use Rattle.read_laws.proofs.Firsts.{some_and, AreOfOne, Single, Double, one_call}
 use Rattle.read_laws.proofs.Known.{AreEntered, IsSound, begun_in, IsOfCallAfter, Refuses, Accepts, of_call_after, known_sound}
 use Rattle.read_laws.proofs.Leaves.{with_touches}
 use Rattle.read_laws.proofs.Lists.{each_append, each_front, each_get, found_is}
 use Rattle.read_laws.proofs.Parts.{IsOfTransfer, AreOfTransfers}
-use Rattle.read_laws.proofs.Points.{IsAccess, access_is}
+use Rattle.read_laws.proofs.Points.{access_is}
 use Rattle.read_laws.proofs.Touches.{issued_is}
 use Rattle.read_laws.proofs.Transfers.{call_facts}
 use Rattle.step_laws.proofs.CallCourses.{looks_up_dynamic}

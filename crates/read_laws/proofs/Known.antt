@@ -1,10 +1,9 @@
 -- What a rank knows in a lawful run lies in memory: its windows, with the parts that their creations brought, and its ranges.
-use Rattle.std.proofs.Common.{◌≡◌, ℕ, zero, suc, ◌+◌, ◌<◌, ◌≤◌, ◌⊎◌, inl, inr, Bool, true, false, cond, not, List, [], ◌∷◌, ◌++◌, length, Option, Some, None, refl, ap, sym, ◌∙◌, subst, arith, append_assoc}
-use Rattle.std.specs.Prelude.{◌==◌, ◌&&◌, slice_get, slice_index_or, is_none, is_some}
-use Rattle.std.specs.List.{count_by, filter, flat_map, fold, AllByRecursion}
+use Rattle.std.proofs.Common.{◌≡◌, ℕ, zero, suc, ◌+◌, ◌<◌, ◌≤◌, ◌⊎◌, inl, inr, Bool, true, false, cond, List, [], ◌∷◌, ◌++◌, Option, Some, None, refl, ap, sym, ◌∙◌, subst, arith, append_assoc}
+use Rattle.std.specs.Prelude.{◌==◌, ◌&&◌, slice_get, is_none, is_some}
+use Rattle.std.specs.List.{count_by, fold, AllByRecursion}
 use Rattle.std.specs.Option.{option_map_or}
 use Rattle.std.proofs.lemmas.Bool.{eq-eqb, ne_eqb, and_left, and_right}
-use Rattle.std.proofs.lemmas.List.{append-nil}
 use Rattle.std.proofs.lemmas.List.Sums.{sum_by-cons, sum_by-append}
 use Rattle.rma_types.specs.declared.accesses.Step.{Step}
 use Rattle.rma_types.specs.declared.accesses.Step.TheVariants.{Arrive, Leave, One}
@@ -16,29 +15,29 @@ use Rattle.rma_types.specs.declared.schedules.Delay.{Delay}
 use Rattle.rma_types.specs.declared.scripts.Part.{Part}
 use Rattle.rma_types.specs.declared.scripts.Script.{Script}
 use Rattle.rma_record.specs.declared.items.Item.{Item}
-use Rattle.rma_record.specs.declared.items.Item.TheVariants.{Issue, Null, Touch, Flush, Request, Entry, Tested, Refused, Ended}
+use Rattle.rma_record.specs.declared.items.Item.TheVariants.{Null, Flush, Request, Entry, Tested, Refused}
 use Rattle.rma_record.specs.declared.runs.Run.{Run}
-use Rattle.board_rules.specs.Entries.{Row, Act, acts, acts_after, window_of, creations, is_creation, names_window}
-use Rattle.call_rules.specs.Actions.{Action, Creates, Creation, Transfer, action_of, creation_in, creation_of, transfer_of}
+use Rattle.board_rules.specs.Entries.{Row, Act, acts, window_of, is_creation, names_window}
+use Rattle.call_rules.specs.Actions.{Creates, Creation, action_of, creation_in, creation_of}
 use Rattle.call_rules.specs.Layout.{layout}
 use Rattle.call_rules.specs.WellFormed.{IsWellFormed}
-use Rattle.lawful_runs.specs.CallItems.{untouched, AreItemsOfCourse, AreItemsBy, AreItemsOf, AreFinished, IsIssueOf}
+use Rattle.lawful_runs.specs.CallItems.{AreItemsOfCourse, AreItemsBy, AreItemsOf, AreFinished}
 use Rattle.lawful_runs.specs.LawfulRun.{IsLawful, rank_in}
-use Rattle.lawful_runs.specs.Logs.{log_of, calls_of, row_by, rows_of}
-use Rattle.lawful_runs.specs.Stages.{RankOfRun, calls_here, known_at, shapes_in, first_knowledge, stage_of}
+use Rattle.lawful_runs.specs.Logs.{calls_of, row_by, rows_of}
+use Rattle.lawful_runs.specs.Stages.{RankOfRun, known_at, shapes_in, first_knowledge, stage_of}
 use Rattle.rank_rules.specs.Courses.{Course, OneNull, OneIssue, LookUpAndIssue, OneFlush, OneRequest, ArriveAndLeave, EntryOrTested, OneEntry, course_of, course_of_action, access_of}
 use Rattle.rank_rules.specs.Knowledge.{Knowledge, own_class, ends_call, learn, known_after_call, known_after_number, accepted_by}
-use Rattle.rank_rules.specs.Windows.{RankWindows, next_number, window_number, windows_after, is_same_flavor, part_at}
+use Rattle.rank_rules.specs.Windows.{RankWindows, next_number, window_number}
 use Rattle.order_laws.proofs.Events.{each_in}
 use Rattle.order_laws.proofs.Members.{In}
 use Rattle.read_laws.proofs.Begun.{IsEntered, rows_in, act_among}
 use Rattle.read_laws.proofs.Firsts.{some_and}
 use Rattle.step_laws.proofs.CallCourses.{one_entry_moves_none, learns_call}
-use Rattle.step_laws.proofs.Creations.{HasRoom, HasLists, IsSoundRow, own_has_room, MakesWith, creates_it, parts_fit, parts_by_address}
+use Rattle.step_laws.proofs.Creations.{HasLists, own_has_room, MakesWith, creates_it, parts_fit, parts_by_address}
 use Rattle.step_laws.proofs.EntryMoves.{IsOneEntry}
 use Rattle.step_laws.proofs.Flavors.{AreRegular, begins_by, names_it, is_creation_if, new_number, same_flavor}
 use Rattle.step_laws.proofs.Memory.{space_has_memory}
-use Rattle.step_laws.proofs.OwnRoom.{AreRoomy, IsByAddress}
+use Rattle.step_laws.proofs.OwnRoom.{AreRoomy}
 use Rattle.step_laws.proofs.OwnTests.{HasIssue, transfer_with_issue}
 use Rattle.step_laws.proofs.Sound.{MakesByAddress, windows_stay_roomy, rank_stays, space_stays, name_made, created_grows}
 use Rattle.step_laws.specs.Inside.{bytes_at}

@@ -1,7 +1,7 @@
 -- In a lawful log a Leave is an entry of a collective call.
-use Rattle.std.proofs.Common.{◌≡◌, ℕ, zero, suc, ◌⊎◌, inl, inr, Bool, true, false, cond, not, List, [], ◌∷◌, Option, Some, None, refl, ap, sym, ◌∙◌, subst}
+use Rattle.std.proofs.Common.{◌≡◌, ℕ, zero, suc, inl, inr, Bool, true, false, cond, not, List, [], ◌∷◌, Option, Some, None, refl, ap, sym, ◌∙◌, subst}
 use Rattle.std.specs.Prelude.{slice_get, IsSomeAnd}
-use Rattle.std.specs.List.{filter, AllByRecursion}
+use Rattle.std.specs.List.{AllByRecursion}
 use Rattle.std.proofs.lemmas.Option.{some_pair_parts}
 use Rattle.rma_types.specs.declared.accesses.Access.{Access}
 use Rattle.rma_types.specs.declared.accesses.Step.{Step}
@@ -18,7 +18,7 @@ use Rattle.rank_rules.specs.Courses.{Course, OneNull, OneIssue, LookUpAndIssue, 
 use Rattle.rank_rules.specs.Knowledge.{Knowledge, own_class}
 use Rattle.rank_rules.specs.Windows.{RankWindows}
 use Rattle.read_laws.proofs.Firsts.{some_and, begins_with_step, is_initial}
-use Rattle.read_laws.proofs.Lists.{each_append, each_get}
+use Rattle.read_laws.proofs.Lists.{each_append}
 
 -- where the item is a Leave, its call is a collective one
 abbrev pub LeavesCollective : List Call → Item → Type 0

@@ -1,7 +1,7 @@
 -- Two accesses of a run without findings, one of them an update, that have a byte in common: one is ordered before the other, or
 -- both are accumulates of one datatype.
-use Rattle.std.proofs.Common.{◌≡◌, ℕ, zero, suc, ◌+◌, ◌<◌, ◌≤◌, ◌⊎◌, inl, inr, Bool, true, false, cond, not, List, [], ◌∷◌, ◌++◌, Option, Some, None, refl, ap, sym, ◌∙◌, subst, arith}
-use Rattle.std.specs.Prelude.{◌&&◌, ◌||◌, ◌==◌, ◌≢◌, map, nat_lt, Contains}
+use Rattle.std.proofs.Common.{◌≡◌, ℕ, zero, suc, ◌<◌, ◌⊎◌, inl, inr, Bool, true, false, cond, not, List, [], ◌∷◌, ◌++◌, Option, Some, None, refl, ap, sym, ◌∙◌, arith}
+use Rattle.std.specs.Prelude.{◌&&◌, ◌||◌, ◌==◌, ◌≢◌, map, nat_lt}
 use Rattle.std.specs.List.{list_any}
 use Rattle.std.specs.Option.{option_map_or}
 use Rattle.std.proofs.lemmas.Bool.{and_parts, and_from, cases_Bool, cases_eq, cases_lt, eq-eqb, eqb-true, or_left}
@@ -19,7 +19,7 @@ use Rattle.rma_types.specs.declared.ops.Op.{Op}
 use Rattle.rma_types.specs.declared.scripts.Script.{Script}
 use Rattle.rma_record.specs.declared.runs.Run.{Run}
 use Rattle.call_rules.specs.Sameness.{dtype_number, is_same_dtype}
-use Rattle.order_rules.specs.Before.{Before, Same, InLog, IsOrder}
+use Rattle.order_rules.specs.Before.{Same, InLog, IsOrder}
 use Rattle.order_rules.specs.CallSteps.{IssuedAccess, accesses_in}
 use Rattle.order_rules.specs.DonePoints.{timeline_of}
 use Rattle.order_rules.specs.Findings.{judged, judged_accesses, unless_ordered, forbidden, findings}

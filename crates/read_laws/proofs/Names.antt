@@ -1,7 +1,7 @@
 -- The number of a window that a rank knows tells its name.
-use Rattle.std.proofs.Common.{◌≡◌, ℕ, zero, suc, ◌+◌, ◌*◌, ◌%◌, ◌<◌, Bool, true, false, cond, not, List, [], ◌∷◌, ◌++◌, get_or, Option, Some, None, refl, ap, sym, ◌∙◌, subst, arith}
-use Rattle.std.specs.Prelude.{◌==◌, slice_get, slice_index_or}
-use Rattle.std.specs.List.{filter, find, fold, AllByRecursion}
+use Rattle.std.proofs.Common.{◌≡◌, ℕ, ◌%◌, ◌<◌, not, List, [], ◌∷◌, Option, Some, None, refl, ◌∙◌, arith}
+use Rattle.std.specs.Prelude.{◌==◌, slice_get}
+use Rattle.std.specs.List.{AllByRecursion}
 use Rattle.std.specs.Option.{option_map_or}
 use Rattle.std.proofs.lemmas.Bool.{eqb-true}
 use Rattle.rma_types.specs.declared.calls.Call.{Call}
@@ -13,7 +13,7 @@ use Rattle.call_rules.specs.WellFormed.{IsWellFormed, IsWrittenCall, IsWrittenAc
 use Rattle.lawful_runs.specs.Logs.{calls_of}
 use Rattle.lawful_runs.specs.Stages.{RankOfRun, calls_here, known_at, shapes_in, first_knowledge}
 use Rattle.rank_rules.specs.Knowledge.{Knowledge, known_after, known_after_number, known_after_call, learn, accepted_by}
-use Rattle.rank_rules.specs.Windows.{Window, RankWindows, window_of_name, window_number, next_number, windows_after}
+use Rattle.rank_rules.specs.Windows.{Window, RankWindows, window_of_name, window_number, windows_after}
 use Rattle.read_laws.proofs.Lists.{each_append, each_kept, each_get, each_get_or, found_is}
 
 -- the number of a window is its name, and 32 for each round

@@ -1,9 +1,8 @@
 -- Where an access is ordered before another, each of its touches is before each of the other's.
-use Rattle.std.proofs.Common.{◌≡◌, ℕ, zero, suc, ◌+◌, ◌<◌, ◌≤◌, ◌⊎◌, inl, inr, Bool, true, false, cond, List, [], ◌∷◌, length, Option, Some, None, refl, ap, sym, ◌∙◌, subst, arith}
+use Rattle.std.proofs.Common.{◌≡◌, ℕ, ◌<◌, ◌≤◌, ◌⊎◌, inl, inr, Bool, true, false, cond, List, [], ◌∷◌, length, Some, refl, ap, sym, ◌∙◌, subst, arith}
 use Rattle.std.specs.Prelude.{◌&&◌, ◌==◌, ◌≢◌, nat_lt, slice_get, IfSome}
-use Rattle.std.specs.List.{filter, list_any, AllByRecursion}
-use Rattle.std.specs.Option.{option_map_or}
-use Rattle.std.proofs.lemmas.Bool.{and_parts, cases_eq, cases_lt, eqb-true, ltb-true}
+use Rattle.std.specs.List.{filter, list_any}
+use Rattle.std.proofs.lemmas.Bool.{and_parts, cases_eq, eqb-true, ltb-true}
 use Rattle.std.proofs.lemmas.Option.{slice_get_within}
 use Rattle.rma_types.specs.declared.accesses.Id.{Id}
 use Rattle.rma_types.specs.declared.accesses.Kind.{Kind}
@@ -18,23 +17,23 @@ use Rattle.call_rules.specs.Actions.{action_of}
 use Rattle.call_rules.specs.Pieces.{numbers_from}
 use Rattle.call_rules.specs.Transfers.{is_no_op}
 use Rattle.call_rules.specs.WellFormed.{IsWellFormed}
-use Rattle.lawful_runs.specs.Accesses.{Touching, issued_by}
+use Rattle.lawful_runs.specs.Accesses.{Touching}
 use Rattle.lawful_runs.specs.Items.{is_touch}
 use Rattle.lawful_runs.specs.LawfulRun.{IsLawful, rank_in}
 use Rattle.lawful_runs.specs.Logs.{log_of, calls_of}
-use Rattle.lawful_runs.specs.TouchLaw.{touch_of, issued_in, is_local, IsLocalDirect, FollowsDirectly, HasItsIssue, HasIssueBefore}
+use Rattle.lawful_runs.specs.TouchLaw.{touch_of, issued_in, is_local, IsLocalDirect, HasItsIssue, HasIssueBefore}
 use Rattle.order_rules.specs.Before.{Before, Same, InLog, Across, IsOrder, events_in}
 use Rattle.order_rules.specs.CallSteps.{CallStep, IssuedAccess, steps_in, is_step_on, is_later_at_origin, is_later_on_window}
-use Rattle.order_rules.specs.DonePoints.{Timeline, timeline_of, ids_of, done_points, is_done_at}
+use Rattle.order_rules.specs.DonePoints.{timeline_of, done_points, is_done_at}
 use Rattle.order_rules.specs.Findings.{judged}
-use Rattle.order_rules.specs.Ordered.{JudgedAccess, points_for, is_ordered}
+use Rattle.order_rules.specs.Ordered.{points_for, is_ordered}
 use Rattle.order_rules.specs.Roles.{Role, RmaUpdate, RmaRead, Store, Load, role_of, is_rma_read}
 use Rattle.order_rules.specs.VisiblePoints.{takes_in, is_taken_in_at, gives_out, is_given_out_at, separate_points, visible_points}
 use Rattle.order_laws.proofs.Events.{each_in}
 use Rattle.order_laws.proofs.Members.{In, here, there, map_in, filter_in, any_in, in_numbers}
 use Rattle.order_laws.proofs.Order.{transitive, edge_between, event_at}
 use Rattle.read_laws.proofs.Leaves.{step_untouched}
-use Rattle.read_laws.proofs.Points.{IsAccess, IsTouchBy, IsStep, touch_logged, step_is, before_done}
+use Rattle.read_laws.proofs.Points.{IsAccess, IsTouchBy, touch_logged, step_is, before_done}
 use Rattle.read_laws.proofs.Touches.{issued_is}
 use Rattle.read_laws.proofs.Waits.{IsIssuedAt, issued_among, directly_before}
 

@@ -1,5 +1,5 @@
 -- Each get and each load of a run without findings reads what the updates before it leave.
-use Rattle.std.proofs.Common.{◌≡◌, ℕ, ◌+◌, Bool, true, List, [], ◌∷◌, Option, Some, None, refl, ap, sym, ◌∙◌, subst, arith}
+use Rattle.std.proofs.Common.{◌≡◌, ℕ, ◌+◌, Bool, true, List, [], ◌∷◌, Some, ap, sym, ◌∙◌, arith}
 use Rattle.std.specs.Prelude.{◌==◌, map, slice_get}
 use Rattle.std.specs.List.{filter, zip, AllByRecursion}
 use Rattle.std.specs.Option.{option_map_or}
@@ -24,10 +24,10 @@ use Rattle.order_rules.specs.CallSteps.{IssuedAccess, accesses_in}
 use Rattle.order_rules.specs.Findings.{findings}
 use Rattle.order_rules.specs.OrderedReads.{TouchesAgree, updates_of, left_before, element_before, ordered_read, touches_by, element_touched, elements_read, is_get_or_load, ReadsInOrder}
 use Rattle.order_laws.proofs.Members.{In, here, there, filter_in}
-use Rattle.read_laws.proofs.Parts.{IsOfTransfer, AreOfTransfers, IsPart, part_of, touched_whole}
-use Rattle.read_laws.proofs.Points.{IsAccess, access_is}
+use Rattle.read_laws.proofs.Parts.{IsOfTransfer, AreOfTransfers, part_of, touched_whole}
+use Rattle.read_laws.proofs.Points.{access_is}
 use Rattle.read_laws.proofs.Touches.{touch_of_rank, touch_of_all, pair_of, is_by, pairs_are, each_read}
-use Rattle.read_laws.proofs.Values.{IsRead, element_is_left}
+use Rattle.read_laws.proofs.Values.{element_is_left}
 
 all_members : {X : Type 0} (P : X → Type 0) (xs : List X) → ((x : X) → In x xs → P x) → AllByRecursion P xs
 all_members P [] each = tt

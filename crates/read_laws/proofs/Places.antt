@@ -17,11 +17,11 @@ use Rattle.rma_types.specs.Datatypes.{size_of}
 use Rattle.call_rules.specs.declared.elements.Piece.{Piece}
 use Rattle.call_rules.specs.Actions.{Creation, creation_of}
 use Rattle.call_rules.specs.Layout.{rounded, own_bytes, call_bytes, memory_bytes, ranks_of, parts_from, layout}
-use Rattle.call_rules.specs.Pieces.{numbers_from, first_cell, byte_in_cell, piece_at, element_address, pieces}
+use Rattle.call_rules.specs.Pieces.{numbers_from, first_cell, piece_at, element_address, pieces}
 use Rattle.call_rules.specs.Ranks.{natural}
 use Rattle.order_rules.specs.Rules.{bytes_reached}
 use Rattle.rank_rules.specs.Ranges.{do_overlap}
-use Rattle.step_laws.specs.Inside.{bytes_at, LiesInMemory}
+use Rattle.step_laws.specs.Inside.{LiesInMemory}
 
 -- ---- the cells of ranks are apart
 

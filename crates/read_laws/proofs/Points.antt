@@ -1,10 +1,8 @@
 -- The touches of an access are before its done points.
-use Rattle.std.proofs.Common.{◌≡◌, ℕ, zero, suc, ◌+◌, ◌%◌, ◌<◌, ◌≤◌, ◌⊎◌, inl, inr, Bool, true, false, not, List, [], ◌∷◌, take, Option, Some, None, refl, ap, sym, ◌∙◌, subst, arith}
+use Rattle.std.proofs.Common.{◌≡◌, ℕ, ◌+◌, ◌%◌, ◌<◌, inl, inr, Bool, true, false, [], ◌∷◌, take, Option, Some, None, refl, ap, sym, ◌∙◌, subst, arith}
 use Rattle.std.specs.Prelude.{◌&&◌, ◌||◌, ◌==◌, slice_get, nat_lt}
-use Rattle.std.specs.List.{find, flat_map, AllByRecursion}
 use Rattle.std.specs.Option.{option_map_or}
-use Rattle.std.proofs.lemmas.Bool.{and_parts, and_from, or_cases, not-true, eqb-true, eq-eqb, ltb-true}
-use Rattle.rma_types.specs.declared.accesses.Id.{Id}
+use Rattle.std.proofs.lemmas.Bool.{and_parts, and_from, or_cases, eqb-true, eq-eqb, ltb-true}
 use Rattle.rma_types.specs.declared.accesses.Step.{Step}
 use Rattle.rma_types.specs.declared.accesses.Step.TheVariants.{Arrive, Leave, One}
 use Rattle.rma_types.specs.declared.calls.Call.{Call}
@@ -14,24 +12,23 @@ use Rattle.rma_types.specs.declared.scripts.Script.{Script}
 use Rattle.rma_record.specs.declared.items.Item.{Item}
 use Rattle.rma_record.specs.declared.items.Item.TheVariants.{Touch}
 use Rattle.rma_record.specs.declared.runs.Run.{Run}
-use Rattle.board_rules.specs.Entries.{Fence, Collective, is_arrive, is_collective, collective_in, fence_or_none, is_same_collective}
+use Rattle.board_rules.specs.Entries.{Fence, is_arrive, is_collective, collective_in, fence_or_none, is_same_collective}
 use Rattle.board_rules.specs.Posts.{is_complete}
 use Rattle.call_rules.specs.Actions.{Action, Creates, Frees, Attaches, Detaches, Synchronises, Meets, Moves, EndsRequest, Synchronisation, Fences, Posts, Starts, Completes, Waits, Locks, Unlocks, Flushes, Syncs, action_of, synchronisation_in, synchronisation_of, window_in_action, window_named}
 use Rattle.call_rules.specs.Pieces.{numbers_from}
 use Rattle.call_rules.specs.WellFormed.{IsWellFormed}
 use Rattle.lawful_runs.specs.Accesses.{Touching, issued_by, issued_from}
-use Rattle.lawful_runs.specs.LawfulRun.{IsLawful, IsLawfulLog, rank_in}
+use Rattle.lawful_runs.specs.LawfulRun.{IsLawful, rank_in}
 use Rattle.lawful_runs.specs.Logs.{Named, log_of, calls_of, named_items}
 use Rattle.lawful_runs.specs.Stages.{known_at}
-use Rattle.rank_rules.specs.Courses.{ArriveAndLeave, EntryOrTested, OneEntry, OneRequest, Course, course_of, course_of_action, course_of_synchronisation}
+use Rattle.rank_rules.specs.Courses.{ArriveAndLeave, OneRequest, course_of, course_of_action, course_of_synchronisation}
 use Rattle.rank_rules.specs.declared.pending.PendingAccess.{PendingAccess}
 use Rattle.rank_rules.specs.Epochs.{AccessEpoch, Idle, FenceUnused, FenceUsed, StartTo, LocksAt, LockAll}
 use Rattle.rank_rules.specs.Pending.{is_on, is_towards, completes_access, is_requested_by, waits_for, must_wait}
-use Rattle.rank_rules.specs.Requests.{Requests}
 use Rattle.rank_rules.specs.Windows.{RankWindows, Window, window_of_name}
 use Rattle.order_rules.specs.Before.{Before, Same, InLog, Across, events_in, leads_to}
 use Rattle.order_rules.specs.CallSteps.{CallStep, IssuedAccess, known_before, step_by, call_step, steps_of_item, steps_in, is_numbered, is_step_on, issued_access, accesses_of, accesses_in, is_later_at_origin, is_later_on_window}
-use Rattle.order_rules.specs.DonePoints.{Timeline, timeline_of, arrives_at_fence, completes_start, next_step, follows_next, completes_at_target, is_completed_at_target, is_done_by_epoch, completes_at_origin, is_completed_at_origin, request_ended, ends_its_request, is_done_at}
+use Rattle.order_rules.specs.DonePoints.{timeline_of, arrives_at_fence, completes_start, next_step, follows_next, completes_at_target, is_completed_at_target, is_done_by_epoch, completes_at_origin, is_completed_at_origin, request_ended, ends_its_request, is_done_at}
 use Rattle.order_rules.specs.Roles.{is_rma_read, role_of}
 use Rattle.order_laws.proofs.Events.{named_item_in}
 use Rattle.order_laws.proofs.Members.{In, here, there, flat_map_in, map_in, some_of}
@@ -41,7 +38,7 @@ use Rattle.read_laws.proofs.Leaves.{LeavesCollective, leaves_are, step_begins, s
 use Rattle.read_laws.proofs.Lists.{each_get}
 use Rattle.read_laws.proofs.Names.{name_of_window}
 use Rattle.read_laws.proofs.Touches.{IsTouch, issued_is, issued_at_some, numbers_in}
-use Rattle.read_laws.proofs.Waits.{IsIssuedAt, WaitsFor, touched_before}
+use Rattle.read_laws.proofs.Waits.{touched_before}
 
 -- ---- accesses, touches and steps, with their items
 

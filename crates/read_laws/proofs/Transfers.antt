@@ -1,16 +1,15 @@
 -- What the transfer of a call tells of the access that it makes.
-use Rattle.std.proofs.Common.{◌≡◌, ◌⊎◌, inl, inr, Bool, true, false, cond, List, Option, Some, None, refl, ap, sym, ◌∙◌, subst}
-use Rattle.rma_types.specs.declared.accesses.Kind.{Kind}
-use Rattle.rma_types.specs.declared.accesses.Kind.TheVariants.{Get as GetKind, Put as PutKind, Acc as AccKind, Cas as CasKind, Load as LoadKind, Store as StoreKind}
+use Rattle.std.proofs.Common.{◌≡◌, true, false, cond, Option, Some, None, refl, ap, sym, subst}
+use Rattle.rma_types.specs.declared.accesses.Kind.TheVariants.{Acc as AccKind}
 use Rattle.rma_types.specs.declared.calls.Call.{Call}
 use Rattle.rma_types.specs.declared.calls.Call.TheVariants.{Allocate, Create, Dynamic, Free, Attach, Detach, Fence, Post, Start, Complete, WaitWin, TestWin, LockOne, Unlock, LockAll, UnlockAll, Flush, FlushAll, FlushLocal, FlushLocalAll, Sync, Barrier, Put, Get, Acc, GetAcc, Fop, Cas, Load, Store, WaitReq, TestReq}
 use Rattle.rma_types.specs.declared.dtypes.Dtype.{Dtype}
 use Rattle.rma_types.specs.declared.ops.Op.{Op}
-use Rattle.call_rules.specs.Actions.{Transfer, Target, Own, transfer_of}
+use Rattle.call_rules.specs.Actions.{Transfer, Own, transfer_of}
 use Rattle.call_rules.specs.Transfers.{is_no_op}
 use Rattle.lawful_runs.specs.TouchLaw.{is_local}
 use Rattle.order_rules.specs.OrderedReads.{is_get_or_load}
-use Rattle.order_rules.specs.Roles.{Role, RmaUpdate, RmaRead, role_of}
+use Rattle.order_rules.specs.Roles.{RmaUpdate, RmaRead, role_of}
 use Rattle.order_rules.specs.Rules.{accumulation_of}
 use Rattle.order_laws.specs.FindingLaws.{is_update}
 

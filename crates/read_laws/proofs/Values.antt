@@ -1,8 +1,8 @@
 -- What a touch of a get or a load reads is what the updates before its access leave.
-use Rattle.std.proofs.Common.{◌≡◌, ℕ, zero, suc, ◌+◌, ◌<◌, ◌≤◌, ◌⊎◌, inl, inr, Bool, true, false, cond, List, [], ◌∷◌, length, Option, Some, None, refl, ap, sym, ◌∙◌, subst, arith}
+use Rattle.std.proofs.Common.{◌≡◌, ℕ, suc, ◌+◌, ◌<◌, ◌≤◌, ◌⊎◌, inl, inr, Bool, true, false, List, [], length, Some, None, refl, ap, sym, ◌∙◌, subst, arith}
 use Rattle.std.specs.Prelude.{◌≢◌, map, nat_lt, slice_index, if◌then◌else◌}
-use Rattle.std.specs.List.{filter, count_by, AllByRecursion}
-use Rattle.std.proofs.lemmas.Bool.{cases_Bool, eq-eqb}
+use Rattle.std.specs.List.{filter, count_by}
+use Rattle.std.proofs.lemmas.Bool.{eq-eqb}
 use Rattle.rma_types.specs.declared.accesses.Id.{Id}
 use Rattle.rma_types.specs.declared.dtypes.Dtype.{Dtype}
 use Rattle.rma_types.specs.declared.findings.Model.TheVariants.{Separate}
@@ -11,35 +11,31 @@ use Rattle.rma_types.specs.declared.scripts.Script.{Script}
 use Rattle.rma_types.specs.Datatypes.{size_of}
 use Rattle.rma_record.specs.declared.runs.Run.{Run}
 use Rattle.call_rules.specs.declared.elements.Change.{Change}
-use Rattle.call_rules.specs.declared.elements.Piece.{Piece}
 use Rattle.call_rules.specs.Actions.{Transfer}
 use Rattle.call_rules.specs.Elements.{element_in}
 use Rattle.call_rules.specs.Layout.{layout, cells_of}
 use Rattle.call_rules.specs.Pieces.{numbers_from}
 use Rattle.call_rules.specs.WellFormed.{IsWellFormed}
-use Rattle.lawful_runs.specs.Accesses.{Touching, all_touches, is_on_cell, on_cell, updates_in, touches_of}
+use Rattle.lawful_runs.specs.Accesses.{Touching, all_touches, is_on_cell, on_cell, touches_of}
 use Rattle.lawful_runs.specs.Cells.{has_place, state, ReadsState, IsHistory}
 use Rattle.lawful_runs.specs.LawfulRun.{IsLawful}
 use Rattle.order_rules.specs.Before.{Before, IsOrder}
 use Rattle.order_rules.specs.CallSteps.{IssuedAccess, accesses_in}
-use Rattle.order_rules.specs.DonePoints.{timeline_of}
 use Rattle.order_rules.specs.Findings.{findings}
 use Rattle.order_rules.specs.OrderedReads.{TouchesAgree, updates_of, left_before, is_get_or_load}
-use Rattle.order_rules.specs.Roles.{role_of, is_rma_read}
-use Rattle.order_rules.specs.Rules.{accumulation_of}
+use Rattle.order_rules.specs.Roles.{role_of}
 use Rattle.order_laws.proofs.Events.{each_in}
 use Rattle.order_laws.proofs.Members.{In, in_filter, in_contains}
 use Rattle.order_laws.proofs.Order.{transitive}
 use Rattle.order_laws.specs.FindingLaws.{is_update as is_update_role}
-use Rattle.read_laws.proofs.Bytes.{DoAgree, element_agrees}
-use Rattle.read_laws.proofs.Changes.{IsInCell}
+use Rattle.read_laws.proofs.Bytes.{element_agrees}
 use Rattle.read_laws.proofs.Elements.{IsUpdateOn, update_on, is_updating, own_target, earlier_update, update_passed, read_kept, same_issued, same_access, no_read, read_role}
-use Rattle.read_laws.proofs.Folds.{DoShare, AreUpdates, AreNeeded, folds_agree}
+use Rattle.read_laws.proofs.Folds.{DoShare, folds_agree}
 use Rattle.read_laws.proofs.Meetings.{meeting}
 use Rattle.read_laws.proofs.Ordered.{before_issue, after_issue}
-use Rattle.read_laws.proofs.Parts.{IsOfTransfer, AreOfTransfers, IsPart, part_of, no_change}
+use Rattle.read_laws.proofs.Parts.{IsOfTransfer, AreOfTransfers, IsPart, no_change}
 use Rattle.read_laws.proofs.Places.{IsAligned, IsElement, LiesIn, element_of, piece_aligned, nested, some_bytes, share_byte}
-use Rattle.read_laws.proofs.Points.{IsAccess, IsTouchBy, access_is}
+use Rattle.read_laws.proofs.Points.{IsAccess, access_is}
 
 -- a test that is one or none
 at_most_one : (b : Bool) (n : ℕ) → n ≡ (if b then 1 else 0) → n ≤ 1
