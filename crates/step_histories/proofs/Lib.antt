@@ -1,0 +1,4 @@
+-- The proofs.
+mod CellGrowth
+mod LogGrowth
+mod Deliveries
