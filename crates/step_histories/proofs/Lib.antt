@@ -2,3 +2,5 @@
 mod CellGrowth
 mod LogGrowth
 mod Deliveries
+mod PlainMoves
+mod Waits
