@@ -4,3 +4,6 @@ mod LogGrowth
 mod Deliveries
 mod PlainMoves
 mod Waits
+mod AllTouches
+mod Living
+
