@@ -6,4 +6,5 @@ mod PlainMoves
 mod Waits
 mod AllTouches
 mod Living
-
+mod Turns
+mod Draining

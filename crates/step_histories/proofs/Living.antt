@@ -25,7 +25,7 @@ use Rattle.rank_rules.specs.declared.pending.PendingAccess.{PendingAccess}
 use Rattle.step_histories.proofs.CellGrowth.{places_of}
 use Rattle.step_histories.proofs.Deliveries.{IsFit, IsStepOf, IsDelivery, delivery_made}
 use Rattle.step_histories.proofs.LogGrowth.{touches_at, IsIssuedIn, HasIssues}
-use Rattle.step_histories.proofs.PlainMoves.{IsLooked, move_plain}
+use Rattle.step_histories.proofs.PlainMoves.{move_plain}
 use Rattle.step_runs.specs.Agents.{Agent, tries_entry}
 use Rattle.step_runs.specs.BoardSteps.{AtBoard, board_step}
 use Rattle.step_runs.specs.DataSteps.{OnMemory, Move, deliver, move_of, data_step}
@@ -112,16 +112,15 @@ all_put ranks before (row ∷ rows) lows now past low =
 -- ---- steps
 
 -- a step at the board goes on with the history of its rank
-pub living_looks : (stage : Stage) (seed rank : ℕ) (puts : List Put) (agent : Agent) (now : Lows) →
-    IsLiving stage seed rank puts agent now → AllByRecursion (IsPast now) puts →
-    tries_entry stage agent ≡ true →
-    (let step = board_step stage agent (rows_put puts) in
-    (looked : IsLooked stage rank agent (rows_put puts) step.agent step.rows) →
-    IsLiving stage seed rank (puts ++ puts_with now looked.more) step.agent now)
-living_looks stage seed rank puts agent now living past tries looked =
-    let new = puts_with now looked.more in
-    let all = living.known ++ living.later in
-    record {
+pub living_looks : (stage : Stage) (seed rank : ℕ) (puts : List Put) (agent : Agent) (now : Lows)
+    (rows more : List Row) → IsLiving stage seed rank puts agent now → AllByRecursion (IsPast now) puts →
+    tries_entry stage agent ≡ true → rows ≡ rows_put puts →
+    (let step = board_step stage agent rows in step.rows ≡ rows ++ more →
+    IsLiving stage seed rank (puts ++ puts_with now more) step.agent now)
+living_looks stage seed rank puts agent now rows more living past tries is =
+    subst (λ (rs : List Row). (board_step stage agent rs).rows ≡ rs ++ more →
+    IsLiving stage seed rank (puts ++ new) (board_step stage agent rs).agent now) (sym is)
+    (λ put. record {
       known = puts ++ new;
       later = [];
       lows = now;
@@ -130,14 +129,16 @@ living_looks stage seed rank puts agent now living past tries looked =
           (Looks agent living.known living.later new living.lows now living.life living.apart
           (subst (λ (ps : List Put). LooksAfter stage agent ps living.lows new now) living.entries (record {
             tries = tries;
-            rows = looked.put ∙ ap (λ rows. rows_put puts ++ rows) (sym (rows_with now looked.more))
-                ∙ sym (rows_joined puts new);
-            fronts = all_put stage.script.ranks puts looked.more living.lows now past living.low;
+            rows = put ∙ ap (λ rs. rows_put puts ++ rs) (sym (rows_with now more)) ∙ sym (rows_joined puts new);
+            fronts = all_put stage.script.ranks puts more living.lows now past living.low;
           })));
       entries = sym (append-nil (puts ++ new));
       apart = tt;
       low = λ cell. omega arith;
-    }
+    })
+  where
+    new : List Put
+    new = puts_with now more
 
 -- entries of another rank are put
 pub living_learns : (stage : Stage) (seed rank : ℕ) (puts more : List Put) (agent : Agent) (now : Lows) →
