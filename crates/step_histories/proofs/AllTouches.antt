@@ -1,5 +1,5 @@
 -- The touches of all ranks, where one of them goes on.
-use Rattle.std.proofs.Common.{◌≡◌, ℕ, zero, suc, ◌+◌, ◌<◌, ◌≤◌, inl, inr, List, [], ◌∷◌, ◌++◌, length, get_or, refl, sym, ◌∙◌, ap, subst, arith, append_assoc, get_or-set_same, get_or-set_other}
+use Rattle.std.proofs.Common.{◌≡◌, ℕ, zero, suc, ◌+◌, ◌<◌, ◌≤◌, inl, inr, List, [], ◌++◌, length, get_or, refl, sym, ◌∙◌, ap, subst, arith, append_assoc, get_or-set_same, get_or-set_other}
 use Rattle.std.specs.Prelude.{slice_set}
 use Rattle.std.specs.List.{flat_map}
 use Rattle.std.proofs.lemmas.Bool.Decides.{eqb_tells}
@@ -43,13 +43,13 @@ split_at : (f g : ℕ → List Touching) (at : ℕ) → ((n : ℕ) → (n ≡ at
 split_at f g at same first zero low high = absurd (omega arith)
 split_at f g at same first (suc count) low high = elim (eqb_tells at first) [
   | inl is ↦ record {
-      before = [];
-      after = flat_map f (numbers_from (first + 1) count);
-      old = ap (λ n. f n ++ flat_map f (numbers_from (first + 1) count)) (sym is.1);
-      new = ap (λ back. g first ++ back) (flat_same f g (first + 1) count
-          (λ n past _. same n (λ e. let there = is.1 in absurd (omega arith))))
-          ∙ ap (λ n. g n ++ flat_map f (numbers_from (first + 1) count)) (sym is.1);
-    }
+    before = [];
+    after = flat_map f (numbers_from (first + 1) count);
+    old = ap (λ n. f n ++ flat_map f (numbers_from (first + 1) count)) (sym is.1);
+    new = ap (λ back. g first ++ back) (flat_same f g (first + 1) count
+        (λ n past _. same n (λ e. let there = is.1 in absurd (omega arith))))
+        ∙ ap (λ n. g n ++ flat_map f (numbers_from (first + 1) count)) (sym is.1);
+  }
   | inr apart ↦
       let ne = apart.1 in
       let rest = split_at f g at same (first + 1) count (omega arith) (omega arith) in

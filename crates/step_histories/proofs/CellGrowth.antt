@@ -1,7 +1,7 @@
 -- The history of each cell goes on with each touch that finds its cell as it is at the moment.
-use Rattle.std.proofs.Common.{◌≡◌, ℕ, zero, suc, ◌+◌, ◌<◌, ◌≤◌, inl, inr, Bool, true, false, cond, List, [], ◌∷◌, ◌++◌, length, Option, Some, None, refl, sym, ◌∙◌, ap, subst, arith, append_assoc, length-append, length-set, get_or-set_same, get_or-set_other}
+use Rattle.std.proofs.Common.{◌≡◌, ℕ, zero, suc, ◌+◌, ◌<◌, ◌≤◌, inl, inr, Bool, true, false, cond, List, [], ◌∷◌, ◌++◌, length, Option, Some, None, refl, sym, ◌∙◌, ap, subst, arith, append_assoc, length-set, get_or-set_same, get_or-set_other}
 use Rattle.std.specs.Prelude.{◌==◌, nat_lt, is_some, replicate, slice_set, if◌then◌else◌}
-use Rattle.std.specs.List.{count_by, filter, AllByRecursion}
+use Rattle.std.specs.List.{count_by, AllByRecursion}
 use Rattle.std.proofs.lemmas.Bool.{eq-eqb, ne_eqb, lt-ltb, le-ltb, ltb-true, ltb-false}
 use Rattle.std.proofs.lemmas.Bool.Decides.{eqb_tells}
 use Rattle.std.proofs.lemmas.List.Elements.{filter-append}
@@ -287,15 +287,18 @@ all_empty (suc count) (suc cell) = all_empty count cell
 pub none_recorded : (count : ℕ) → AreRecorded [] (replicate count empty_cell)
 none_recorded count = record {
   inside = tt;
-  each = λ cell. subst (HasHistory []) (sym (all_empty count cell)) (λ _. 0, record {
-    first = refl;
-    places = λ place. ap (λ b. if b then 1 else 0) (sym (le-ltb place 0 (omega arith)));
-    below = tt;
-    reads = tt;
-    changes = tt;
-    last = refl;
-    place = refl;
-  });
+  each = λ cell. subst (HasHistory []) (sym (all_empty count cell)) (
+    λ _. 0,
+    record {
+      first = refl;
+      places = λ place. ap (λ b. if b then 1 else 0) (sym (le-ltb place 0 (omega arith)));
+      below = tt;
+      reads = tt;
+      changes = tt;
+      last = refl;
+      place = refl;
+    },
+  );
 }
 
 -- what is kept of a cell is its history

@@ -1,5 +1,5 @@
 -- A delivery on memory is one of a history, with the places of the cells at the moment as lows.
-use Rattle.std.proofs.Common.{◌≡◌, ℕ, zero, suc, ◌+◌, ◌<◌, ◌≤◌, List, [], ◌∷◌, ◌++◌, length, Option, Some, None, refl, sym, ◌∙◌, ap, subst, arith, append-nil, append_assoc}
+use Rattle.std.proofs.Common.{◌≡◌, ℕ, suc, ◌+◌, ◌<◌, ◌≤◌, List, [], ◌∷◌, ◌++◌, length, Option, Some, None, refl, sym, ◌∙◌, ap, subst, arith, append-nil, append_assoc}
 use Rattle.std.specs.Prelude.{slice_get, remove}
 use Rattle.std.specs.List.{AllByRecursion}
 use Rattle.std.specs.Option.{option_map_or}
@@ -8,7 +8,6 @@ use Rattle.rma_types.specs.declared.schedules.Delay.{Delay}
 use Rattle.rma_types.specs.declared.scripts.Layout.{Layout}
 use Rattle.rma_types.specs.declared.scripts.Script.{Script}
 use Rattle.rma_record.specs.declared.items.Item.{Item}
-use Rattle.rma_record.specs.declared.items.Item.TheVariants.{Touch}
 use Rattle.call_rules.specs.declared.cells.Cell.{Cell}
 use Rattle.call_rules.specs.declared.elements.Change.{Change}
 use Rattle.call_rules.specs.declared.elements.Piece.{Piece}
@@ -18,14 +17,14 @@ use Rattle.call_rules.specs.Pieces.{pieces}
 use Rattle.call_rules.specs.Touches.{cell_at, cells_after, Touched, touch_each}
 use Rattle.call_rules.specs.Transfers.{change_of}
 use Rattle.lawful_runs.specs.Accesses.{Touching, touches_among, change_made, issued_at, transfer_at}
-use Rattle.lawful_runs.specs.Logs.{named_from, named_in}
+use Rattle.lawful_runs.specs.Logs.{named_from}
 use Rattle.lawful_runs.specs.Stages.{Stage, stage_of, calls_at}
-use Rattle.rank_laws.proofs.Lists.{each_turned, each_left}
+use Rattle.rank_laws.proofs.Lists.{each_turned}
 use Rattle.rank_laws.proofs.Touching.{touches_own, issued_still}
-use Rattle.rank_laws.specs.Deliveries.{place_after, AreTouches, AreTouchesOf, delivered, IsDelivered, Delivers}
+use Rattle.rank_laws.specs.Deliveries.{place_after, AreTouches, AreTouchesOf, IsDelivered}
 use Rattle.rank_laws.specs.Fronts.{Lows, AreAtMost}
 use Rattle.rank_rules.specs.declared.pending.PendingAccess.{PendingAccess}
-use Rattle.step_histories.proofs.CellGrowth.{Finds, IsMadeOn, AreMade, after_change, length_after, cell_after, places_of, places_rise, made_joined}
+use Rattle.step_histories.proofs.CellGrowth.{AreMade, length_after, cell_after, places_of, places_rise, made_joined}
 use Rattle.step_histories.proofs.LogGrowth.{touches_at, IsIssuedIn, HasIssues, log_grows, below_touches}
 use Rattle.step_laws.proofs.Lists.{each_get, each_removed}
 use Rattle.step_laws.proofs.Memory.{pieces_inside}

@@ -1,16 +1,13 @@
 -- The deliveries at the end of the run on one thread go on with the histories of all ranks and cells.
-use Rattle.std.proofs.Common.{◌≡◌, ℕ, zero, suc, ◌+◌, ◌<◌, ◌≤◌, ◌⊎◌, inl, inr, Bool, true, false, not, List, [], ◌∷◌, ◌++◌, length, None, refl, sym, ◌∙◌, ap, subst, arith, append-nil, length-set}
-use Rattle.std.specs.Prelude.{slice_set, ◌&&◌}
+use Rattle.std.proofs.Common.{◌≡◌, ℕ, ◌<◌, ◌⊎◌, inl, inr, Bool, true, false, not, List, [], ◌∷◌, ◌++◌, length, None, refl, sym, ◌∙◌, subst, arith, append-nil, length-set}
+use Rattle.std.specs.Prelude.{◌&&◌}
 use Rattle.std.specs.List.{fold, AllByRecursion}
 use Rattle.rma_types.specs.declared.schedules.Delay.{Delay}
 use Rattle.rma_types.specs.declared.schedules.Order.{Order}
 use Rattle.rma_types.specs.declared.scripts.Script.{Script}
-use Rattle.board_rules.specs.Entries.{Row}
-use Rattle.call_rules.specs.declared.cells.Cell.{Cell}
 use Rattle.call_rules.specs.Layout.{layout, cells_of}
 use Rattle.call_rules.specs.Pieces.{numbers_from}
 use Rattle.call_rules.specs.Ranks.{is_member}
-use Rattle.call_rules.specs.WellFormed.{IsWellFormed}
 use Rattle.lawful_runs.specs.Stages.{Stage, stage_of}
 use Rattle.rank_laws.specs.Fronts.{Lows, AreAtMost, Put, rows_put, AreOthers}
 use Rattle.rank_laws.specs.Lives.{Lives, Stops, Drains, Stays, Drained}
@@ -18,16 +15,16 @@ use Rattle.rank_rules.specs.declared.pending.PendingAccess.{PendingAccess}
 use Rattle.step_histories.proofs.AllTouches.{touches_of_all, recorded_step}
 use Rattle.step_histories.proofs.CellGrowth.{AreRecorded, places_of, made_rise, length_made}
 use Rattle.step_histories.proofs.Deliveries.{IsFit, IsStepOf, delivery_made, steps_joined}
-use Rattle.step_histories.proofs.Living.{IsLiving, living_issues}
+use Rattle.step_histories.proofs.Living.{living_issues}
 use Rattle.step_histories.proofs.LogGrowth.{touches_at}
-use Rattle.step_histories.proofs.Turns.{IsLived, IsFullyLived}
+use Rattle.step_histories.proofs.Turns.{IsFullyLived}
 use Rattle.step_histories.proofs.Waits.{IsStuck}
 use Rattle.step_laws.proofs.Lists.{each_set_apart, numbers_below}
 use Rattle.step_laws.proofs.Picks.{none_may_go}
 use Rattle.step_runs.specs.Agents.{Agent, new_agent}
 use Rattle.step_runs.specs.DataSteps.{OnMemory, deliver}
 use Rattle.step_runs.specs.Schedules.{pick}
-use Rattle.step_runs.specs.StepRun.{World, agent_at, is_ready, deliver_each, drain_rank, drain, turn_on_memory}
+use Rattle.step_runs.specs.StepRun.{World, agent_at, is_ready, deliver_each, drain_rank, drain}
 
 -- ---- a rank that stops
 

@@ -8,3 +8,4 @@ mod AllTouches
 mod Living
 mod Turns
 mod Draining
+mod Assembled

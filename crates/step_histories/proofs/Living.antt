@@ -1,9 +1,8 @@
 -- The history of a rank in the run on one thread, with the places of the cells at the moment as what it can still touch.
-use Rattle.std.proofs.Common.{◌≡◌, ◌≢◌, ℕ, zero, suc, ◌+◌, ◌<◌, ◌≤◌, Bool, true, false, List, [], ◌∷◌, ◌++◌, length, Option, Some, None, refl, sym, ◌∙◌, ap, subst, arith, append-nil, append_assoc}
+use Rattle.std.proofs.Common.{◌≡◌, ◌≢◌, ℕ, true, false, List, [], ◌∷◌, ◌++◌, length, Option, Some, None, refl, sym, ◌∙◌, ap, subst, arith, append-nil, append_assoc}
 use Rattle.std.specs.Prelude.{map}
 use Rattle.std.specs.List.{AllByRecursion}
 use Rattle.std.specs.Option.{option_map_or}
-use Rattle.rma_types.specs.declared.calls.Call.{Call}
 use Rattle.rma_types.specs.declared.schedules.Delay.{Delay}
 use Rattle.rma_types.specs.declared.scripts.Script.{Script}
 use Rattle.board_rules.specs.Edges.{Event}
@@ -11,7 +10,6 @@ use Rattle.board_rules.specs.Entries.{Row}
 use Rattle.call_rules.specs.declared.cells.Cell.{Cell}
 use Rattle.call_rules.specs.Layout.{layout, cells_of}
 use Rattle.lawful_runs.specs.Stages.{Stage, stage_of, calls_at}
-use Rattle.lawful_runs.specs.TouchLaw.{issues_touched}
 use Rattle.rank_laws.proofs.Histories.{rows_joined}
 use Rattle.rank_laws.proofs.Inductions.{life_holds}
 use Rattle.rank_laws.proofs.Lists.{each_turned, each_append}
@@ -21,13 +19,12 @@ use Rattle.rank_laws.proofs.TouchMoves.{KeepsTouches, touches_kept}
 use Rattle.rank_laws.specs.Deliveries.{Delivers}
 use Rattle.rank_laws.specs.Fronts.{Lows, AreAtMost, Put, rows_put, AreOthers, event_after, AreMetFrom, ArePut}
 use Rattle.rank_laws.specs.Lives.{Lives, Looks, Steps, LooksAfter, IsMade}
-use Rattle.rank_rules.specs.declared.pending.PendingAccess.{PendingAccess}
 use Rattle.step_histories.proofs.CellGrowth.{places_of}
-use Rattle.step_histories.proofs.Deliveries.{IsFit, IsStepOf, IsDelivery, delivery_made}
+use Rattle.step_histories.proofs.Deliveries.{IsFit, IsStepOf, delivery_made}
 use Rattle.step_histories.proofs.LogGrowth.{touches_at, IsIssuedIn, HasIssues}
 use Rattle.step_histories.proofs.PlainMoves.{move_plain}
 use Rattle.step_runs.specs.Agents.{Agent, tries_entry}
-use Rattle.step_runs.specs.BoardSteps.{AtBoard, board_step}
+use Rattle.step_runs.specs.BoardSteps.{board_step}
 use Rattle.step_runs.specs.DataSteps.{OnMemory, Move, deliver, move_of, data_step}
 
 -- a history of the rank among the entries so far, of which it knows all up to its last; its lows are not above these

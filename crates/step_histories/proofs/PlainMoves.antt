@@ -1,29 +1,27 @@
 -- What a rank does by itself, and what it does at the board, touches nothing.
-use Rattle.std.proofs.Common.{◌≡◌, ◌≢◌, ℕ, Bool, true, false, cond, List, [], ◌∷◌, ◌++◌, length, Option, Some, None, refl, sym, ◌∙◌, ap, subst, append_assoc, append-nil}
-use Rattle.std.specs.Prelude.{slice_get}
+use Rattle.std.proofs.Common.{◌≡◌, ℕ, Bool, true, false, cond, List, [], ◌∷◌, ◌++◌, length, Option, Some, None, refl, sym, ◌∙◌, ap, subst, append_assoc, append-nil}
 use Rattle.std.specs.List.{AllByRecursion}
 use Rattle.std.specs.Option.{option_map_or}
 use Rattle.rma_types.specs.declared.accesses.Access.{Access}
 use Rattle.rma_types.specs.declared.accesses.Step.{Step}
 use Rattle.rma_types.specs.declared.calls.Call.{Call}
 use Rattle.rma_types.specs.declared.classes.Class.{Class}
-use Rattle.rma_types.specs.declared.scripts.Part.{Part}
 use Rattle.rma_record.specs.declared.items.Item.{Item}
-use Rattle.rma_record.specs.declared.items.Item.TheVariants.{Issue, Null, Flush, Request, Entry, Tested, Refused, Ended}
+use Rattle.rma_record.specs.declared.items.Item.TheVariants.{Null, Flush, Request, Entry, Refused, Ended}
 use Rattle.board_rules.specs.Entries.{Row}
 use Rattle.call_rules.specs.Actions.{Transfer, transfer_of}
 use Rattle.lawful_runs.specs.Accesses.{transfer_at}
 use Rattle.lawful_runs.specs.Items.{is_touch}
-use Rattle.lawful_runs.specs.Stages.{Stage, calls_at, shapes_in}
+use Rattle.lawful_runs.specs.Stages.{Stage, calls_at}
 use Rattle.rank_laws.proofs.DataPaths.{its_transfer}
 use Rattle.rank_laws.proofs.Lists.{each_append}
 use Rattle.rank_rules.specs.Courses.{Course, OneNull, OneIssue, LookUpAndIssue, OneFlush, OneRequest, ArriveAndLeave, EntryOrTested, OneEntry, course_of, access_of}
 use Rattle.rank_rules.specs.Knowledge.{own_class}
-use Rattle.step_histories.proofs.LogGrowth.{touches_at, HasIssues, IsPlain, plain_same, plain_item, plain_issue}
+use Rattle.step_histories.proofs.LogGrowth.{HasIssues, IsPlain, plain_same, plain_item, plain_issue}
 use Rattle.step_laws.proofs.DataWeights.{ended_now}
-use Rattle.step_laws.proofs.EntryMoves.{HasBegun, IsAllowedEntry, with_entry, with_row, IsTurnedAway, ByRefusal, ByTest, EntryMove, TurnsAway, Arrives, LooksUp, Leaves, EntersOnce, moves_keep, board_step_moves}
-use Rattle.step_runs.specs.Agents.{Agent, kept, finished, opened, next_call, has_pending, must_draw, awaited_by, tries_entry}
-use Rattle.step_runs.specs.BoardSteps.{AtBoard, next_row, board_step}
+use Rattle.step_laws.proofs.EntryMoves.{HasBegun, with_row, IsTurnedAway, ByRefusal, ByTest, EntryMove, TurnsAway, Arrives, LooksUp, Leaves, EntersOnce, moves_keep, board_step_moves}
+use Rattle.step_runs.specs.Agents.{Agent, next_call, has_pending, must_draw, awaited_by, tries_entry}
+use Rattle.step_runs.specs.BoardSteps.{next_row, board_step}
 use Rattle.step_runs.specs.DataSteps.{just_delivers, without_delivery, with_item, with_issue, issue_of, issue, draw, first_item, wait_or_go_on, judge, begin, go_on, end, move_of}
 
 -- ---- without the board

@@ -1,6 +1,6 @@
 -- Each turn of the run on one thread goes on with the histories of all ranks and cells, in any order and with any delay.
-use Rattle.std.proofs.Common.{◌≡◌, ◌≢◌, ℕ, zero, suc, ◌+◌, ◌<◌, ◌≤◌, inl, inr, Bool, true, false, cond, List, [], ◌∷◌, ◌++◌, length, get_or, refl, sym, ◌∙◌, ap, subst, arith, append-nil, length-append, length-set}
-use Rattle.std.specs.Prelude.{◌||◌, ◌==◌, map, nat_lt, replicate, slice_set}
+use Rattle.std.proofs.Common.{◌≡◌, ◌≢◌, ℕ, zero, suc, ◌+◌, ◌<◌, Bool, true, false, cond, List, [], ◌∷◌, ◌++◌, length, get_or, refl, sym, ◌∙◌, ap, subst, arith, append-nil, length-append}
+use Rattle.std.specs.Prelude.{◌||◌, map, nat_lt}
 use Rattle.std.specs.List.{flat_map, AllByRecursion}
 use Rattle.std.proofs.lemmas.Bool.{ne_eqb, lt-ltb}
 use Rattle.std.proofs.lemmas.List.{length-replicate}
@@ -8,7 +8,6 @@ use Rattle.rma_types.specs.declared.schedules.Delay.{Delay}
 use Rattle.rma_types.specs.declared.schedules.Order.{Order}
 use Rattle.rma_types.specs.declared.scripts.Script.{Script}
 use Rattle.board_rules.specs.Entries.{Row}
-use Rattle.call_rules.specs.declared.cells.Cell.{Cell}
 use Rattle.call_rules.specs.Layout.{layout, cells_of}
 use Rattle.call_rules.specs.Pieces.{numbers_from}
 use Rattle.call_rules.specs.Ranks.{is_member}
@@ -17,12 +16,12 @@ use Rattle.call_rules.specs.WellFormed.{IsWellFormed}
 use Rattle.lawful_runs.specs.Accesses.{Touching}
 use Rattle.lawful_runs.specs.Stages.{Stage, stage_of}
 use Rattle.rank_laws.proofs.Lists.{each_turned, each_append}
-use Rattle.rank_laws.specs.Fronts.{Lows, first_lows, AreAtMost, Put, rows_put, AreOthers}
+use Rattle.rank_laws.specs.Fronts.{Lows, first_lows, AreAtMost, Put, rows_put}
 use Rattle.rank_laws.specs.Lives.{Begins}
 use Rattle.rank_laws.proofs.Histories.{rows_joined}
 use Rattle.step_histories.proofs.AllTouches.{touches_of_all, recorded_step}
 use Rattle.step_histories.proofs.CellGrowth.{AreRecorded, none_recorded, places_of, made_rise, length_made}
-use Rattle.step_histories.proofs.Deliveries.{IsFit, IsStepOf}
+use Rattle.step_histories.proofs.Deliveries.{IsFit}
 use Rattle.step_histories.proofs.Living.{IsLiving, living_issues, lows_rise, puts_with, IsPast, rows_with, each_put, each_past, living_looks, living_learns, IsDataStep, living_steps}
 use Rattle.step_histories.proofs.LogGrowth.{touches_at}
 use Rattle.step_histories.proofs.PlainMoves.{IsLooked, move_plain, board_looked}
