@@ -1,4 +1,4 @@
--- The history of a rank in the run on one thread, with the places of the cells at the moment as what it can still touch.
+-- The history of a rank in the run on one thread: what it can still touch are the cells as they are at the moment.
 use Rattle.std.proofs.Common.{◌≡◌, ◌≢◌, ℕ, true, false, List, [], ◌∷◌, ◌++◌, length, Option, Some, None, refl, sym, ◌∙◌, ap, subst, arith, append-nil, append_assoc}
 use Rattle.std.specs.Prelude.{map}
 use Rattle.std.specs.List.{AllByRecursion}

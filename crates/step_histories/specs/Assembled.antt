@@ -1,5 +1,5 @@
--- That the run on one thread is put together from histories, and so lawful: this project's profile of MPI 3.1, sections 11.5
--- and 11.7.
+-- That the run on one thread is put together from histories, and so lawful: this project's profile of MPI 3.1,
+-- sections 11.5 and 11.7.
 use Rattle.std.specs.Prelude.{ℕ}
 use Rattle.rma_types.specs.declared.schedules.Delay.{Delay}
 use Rattle.rma_types.specs.declared.schedules.Order.{Order}

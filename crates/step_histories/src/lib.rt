@@ -4,8 +4,9 @@
 
 ghost use Rattle.step_histories.specs.Assembled.{AssembledRunsOfScriptsAreLawful, StepRunIsAssembled, StepRunIsLawful};
 
-/// The run on one thread has a history of each rank among the entries of all, and one of each cell among the touches of all,
-/// for each well-formed script, order of the ranks, delay and seed (MPI 3.1, sections 11.5 and 11.7, in this project's profile).
+/// The run on one thread has a history of each rank among the entries of all, and one of each cell among the touches of
+/// all, for each well-formed script, order of the ranks, delay and seed (MPI 3.1, sections 11.5 and 11.7, in this
+/// project's profile). So it is lawful where runs put together from histories are.
 ///
 /// It is a theorem, and does nothing when it is called.
 pub fn step_run_is_assembled()
