@@ -15,7 +15,6 @@ use Rattle.rank_rules.specs.declared.pending.PendingAccess.{PendingAccess}
 use Rattle.step_histories.proofs.AllTouches.{touches_of_all, recorded_step}
 use Rattle.step_histories.proofs.CellGrowth.{AreRecorded, places_of, made_rise, length_made}
 use Rattle.step_histories.proofs.Deliveries.{IsFit, IsStepOf, delivery_made, steps_joined}
-use Rattle.step_histories.proofs.Living.{living_issues}
 use Rattle.step_histories.proofs.LogGrowth.{touches_at}
 use Rattle.step_histories.proofs.Turns.{IsFullyLived}
 use Rattle.step_histories.proofs.Waits.{IsStuck}
@@ -207,7 +206,7 @@ run_stops script order delay seed world full none = record {
         low = living.low;
         fit = record {
           mine = (full.sound.each rank below).mine;
-          issues = living_issues stage seed rank full.lived.puts agent (places_of world.cells) living;
+          issues = living.issues;
           pending = (full.sound.each rank below).pending;
         };
       };

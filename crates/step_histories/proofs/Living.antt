@@ -9,25 +9,22 @@ use Rattle.board_rules.specs.Edges.{Event}
 use Rattle.board_rules.specs.Entries.{Row}
 use Rattle.call_rules.specs.declared.cells.Cell.{Cell}
 use Rattle.call_rules.specs.Layout.{layout, cells_of}
-use Rattle.lawful_runs.specs.Stages.{Stage, stage_of, calls_at}
+use Rattle.lawful_runs.specs.Stages.{Stage, stage_of}
 use Rattle.rank_laws.proofs.Histories.{rows_joined}
-use Rattle.rank_laws.proofs.Inductions.{life_holds}
-use Rattle.rank_laws.proofs.Lists.{each_turned, each_append}
-use Rattle.rank_laws.proofs.Pendings.{IsUntouched}
-use Rattle.rank_laws.proofs.TouchLaws.{new_touches}
-use Rattle.rank_laws.proofs.TouchMoves.{KeepsTouches, touches_kept}
+use Rattle.rank_laws.proofs.Lists.{each_append}
 use Rattle.rank_laws.specs.Deliveries.{Delivers}
 use Rattle.rank_laws.specs.Fronts.{Lows, AreAtMost, Put, rows_put, AreOthers, event_after, AreMetFrom, ArePut}
 use Rattle.rank_laws.specs.Lives.{Lives, Looks, Steps, LooksAfter, IsMade}
 use Rattle.step_histories.proofs.CellGrowth.{places_of}
 use Rattle.step_histories.proofs.Deliveries.{IsFit, IsStepOf, delivery_made}
-use Rattle.step_histories.proofs.LogGrowth.{touches_at, IsIssuedIn, HasIssues}
+use Rattle.step_histories.proofs.LogGrowth.{touches_at, HasIssues}
 use Rattle.step_histories.proofs.PlainMoves.{move_plain}
 use Rattle.step_runs.specs.Agents.{Agent, tries_entry}
 use Rattle.step_runs.specs.BoardSteps.{board_step}
 use Rattle.step_runs.specs.DataSteps.{OnMemory, Move, deliver, move_of, data_step}
 
--- a history of the rank among the entries so far, of which it knows all up to its last; its lows are not above these
+-- A history of the rank among the entries so far, of which it knows all up to its last. Its lows are not above these, and
+-- its log has the Issues of what is pending or touched.
 pub record IsLiving (stage : Stage) (seed rank : ℕ) (puts : List Put) (agent : Agent) (now : Lows) : Type 0 where
   pub known : List Put
   pub later : List Put
@@ -36,19 +33,7 @@ pub record IsLiving (stage : Stage) (seed rank : ℕ) (puts : List Put) (agent :
   pub entries : puts ≡ known ++ later
   pub apart : AreOthers rank later
   pub low : AreAtMost lows now
-
--- what the history says of the touches of its log
-pub living_issues : (stage : Stage) (seed rank : ℕ) (puts : List Put) (agent : Agent) (now : Lows) →
-    IsLiving stage seed rank puts agent now → HasIssues stage rank agent
-living_issues stage seed rank puts agent now living =
-    let held = life_holds stage seed rank (λ p. KeepsTouches stage p.agent) (touches_kept stage)
-    (new_touches stage seed rank) agent living.known living.lows living.life in
-    record {
-      issued = subst (λ r. AllByRecursion (IsIssuedIn stage r agent.log) agent.pending) held.1
-          (each_turned (IsUntouched (calls_at stage agent.rank) agent.log)
-          (IsIssuedIn stage agent.rank agent.log) (λ one is. is.0) agent.pending held.0.has.waiting);
-      below = held.0.has.below;
-    }
+  pub issues : HasIssues stage rank agent
 
 pub lows_rise : (stage : Stage) (seed rank : ℕ) (puts : List Put) (agent : Agent) (now next : Lows) →
     AreAtMost now next → IsLiving stage seed rank puts agent now → IsLiving stage seed rank puts agent next
@@ -60,6 +45,7 @@ lows_rise stage seed rank puts agent now next rise living = record {
   entries = living.entries;
   apart = living.apart;
   low = λ cell. let first = living.low cell in let more = rise cell in omega arith;
+  issues = living.issues;
 }
 
 -- ---- entries with their fronts
@@ -112,12 +98,12 @@ all_put ranks before (row ∷ rows) lows now past low =
 pub living_looks : (stage : Stage) (seed rank : ℕ) (puts : List Put) (agent : Agent) (now : Lows)
     (rows more : List Row) → IsLiving stage seed rank puts agent now → AllByRecursion (IsPast now) puts →
     tries_entry stage agent ≡ true → rows ≡ rows_put puts →
-    (let step = board_step stage agent rows in step.rows ≡ rows ++ more →
+    (let step = board_step stage agent rows in step.rows ≡ rows ++ more → HasIssues stage rank step.agent →
     IsLiving stage seed rank (puts ++ puts_with now more) step.agent now)
 living_looks stage seed rank puts agent now rows more living past tries is =
     subst (λ (rs : List Row). (board_step stage agent rs).rows ≡ rs ++ more →
-    IsLiving stage seed rank (puts ++ new) (board_step stage agent rs).agent now) (sym is)
-    (λ put. record {
+    HasIssues stage rank (board_step stage agent rs).agent → IsLiving stage seed rank (puts ++ new) (board_step stage agent rs).agent now) (sym is)
+    (λ put has. record {
       known = puts ++ new;
       later = [];
       lows = now;
@@ -132,6 +118,7 @@ living_looks stage seed rank puts agent now rows more living past tries is =
       entries = sym (append-nil (puts ++ new));
       apart = tt;
       low = λ cell. omega arith;
+      issues = has;
     })
   where
     new : List Put
@@ -149,6 +136,7 @@ living_learns stage seed rank puts more agent now others living = record {
   entries = ap (λ ps. ps ++ more) living.entries ∙ append_assoc living.known living.later more;
   apart = each_append (λ (put : Put). put.row.rank ≢ rank) living.later more living.apart others;
   low = living.low;
+  issues = living.issues;
 }
 
 -- a step on memory, with what holds of the rank after it
@@ -172,12 +160,11 @@ living_steps script delay seed rank puts agent cells living mine tries fit memor
     move = move_of stage agent
 
     untouched : touches_at stage rank move.agent ≡ touches_at stage rank agent
-    untouched = (move_plain stage rank agent mine (living_issues stage seed rank puts agent (places_of cells)
-        living)).touches
+    untouched = (move_plain stage rank agent mine living.issues).touches
 
-    lived : (next : Agent) (now : List Cell) → IsMade stage move living.lows next (places_of now) →
+    lived : (next : Agent) (now : List Cell) → HasIssues stage rank next → IsMade stage move living.lows next (places_of now) →
         IsLiving stage seed rank puts next (places_of now)
-    lived next now made = record {
+    lived next now has made = record {
       known = living.known;
       later = living.later;
       lows = places_of now;
@@ -185,12 +172,13 @@ living_steps script delay seed rank puts agent cells living mine tries fit memor
       entries = living.entries;
       apart = living.apart;
       low = λ cell. omega arith;
+      issues = has;
     }
 
     by_delivery : (o : Option ℕ) → move.delivers ≡ o → IsDataStep script delay seed rank puts agent cells
         (option_map_or (deliver stage move.agent cells) o (record { agent = move.agent; cells = cells }))
     by_delivery None e = record {
-      living = lived move.agent cells
+      living = lived move.agent cells fit.issues
           (subst (λ (d : Option ℕ). Delivers stage move.agent d living.lows move.agent (places_of cells)) (sym e)
           (refl, living.low));
       step_of = record {
@@ -203,7 +191,7 @@ living_steps script delay seed rank puts agent cells living mine tries fit memor
         let is = delivery_made script delay rank move.agent cells at living.lows fit memory living.low in
         let step = deliver stage move.agent cells at in
         record {
-          living = lived step.agent step.cells
+          living = lived step.agent step.cells is.fit.issues
               (subst (λ (d : Option ℕ). Delivers stage move.agent d living.lows step.agent (places_of step.cells))
               (sym e) is.delivers);
           step_of = record {

@@ -22,7 +22,7 @@ use Rattle.rank_laws.proofs.Histories.{rows_joined}
 use Rattle.step_histories.proofs.AllTouches.{touches_of_all, recorded_step}
 use Rattle.step_histories.proofs.CellGrowth.{AreRecorded, none_recorded, places_of, made_rise, length_made}
 use Rattle.step_histories.proofs.Deliveries.{IsFit}
-use Rattle.step_histories.proofs.Living.{IsLiving, living_issues, lows_rise, puts_with, IsPast, rows_with, each_put, each_past, living_looks, living_learns, IsDataStep, living_steps}
+use Rattle.step_histories.proofs.Living.{IsLiving, lows_rise, puts_with, IsPast, rows_with, each_put, each_past, living_looks, living_learns, IsDataStep, living_steps}
 use Rattle.step_histories.proofs.LogGrowth.{touches_at}
 use Rattle.step_histories.proofs.PlainMoves.{IsLooked, move_plain, board_looked}
 use Rattle.step_histories.proofs.Waits.{IsStuck, waits_stuck}
@@ -154,14 +154,14 @@ lived_at_board script delay seed world rank may tries sound lived = record {
 
     looked : IsLooked stage rank agent world.rows step.agent step.rows
     looked = board_looked stage rank agent world.rows (sound.each rank may.0).mine
-        (living_issues stage seed rank lived.puts agent now living) (sound.ranks.begun rank) tries
+        living.issues (sound.ranks.begun rank) tries
 
     new : List Put
     new = puts_with now looked.more
 
     here : IsLiving stage seed rank (lived.puts ++ new) step.agent now
     here = living_looks stage seed rank lived.puts agent now world.rows looked.more living lived.fronts tries lived.rows
-        looked.put
+        looked.put looked.plain.issues
 
     there : (other : ℕ) → (other ≡ rank → ⊥) → other < script.ranks →
         IsLiving stage seed other (lived.puts ++ new) (agent_at stage world other) now
@@ -227,7 +227,7 @@ lived_on_memory script delay seed world rank may tries sound lived = record {
         record {
           mine = moved.mine;
           issues = (move_plain stage rank agent (sound.each rank may.0).mine
-              (living_issues stage seed rank lived.puts agent now living)).issues;
+              living.issues).issues;
           pending = moved.pending;
         }
 
@@ -274,6 +274,7 @@ first_is_lived script order delay seed =
             entries = refl;
             apart = tt;
             low = λ cell. omega arith;
+            issues = record { issued = tt; below = tt };
           });
       waits = λ rank member. absurd (cc member);
       memory = length-replicate (cells_of (layout script)) empty_cell;
