@@ -34,7 +34,7 @@ pub record KnowsLog (stage : Stage) (p : Point) : Type 0 where
 
 -- ---- one more entry, or one more item
 
-knows_longer : (stage : Stage) (rank : ℕ) (rows new : List Row) (log : List Item) (known : Knowledge) →
+pub knows_longer : (stage : Stage) (rank : ℕ) (rows new : List Row) (log : List Item) (known : Knowledge) →
     KnowsAlways stage rank rows log known → KnowsAlways stage rank (rows ++ new) log known
 knows_longer stage rank rows new log known h more =
     subst (λ (all : List Row). known_at (rank_of stage rank all) log ≡ known) (sym (append_assoc rows new more))

@@ -134,7 +134,7 @@ pub data IsPlain (calls : List Call) (item : Item) : Type 0 where
   TeachesCall : (number : ℕ) (call : Call) → accepted_by calls item ≡ Some number →
       slice_get calls number ≡ Some call → creation_of call ≡ None → IsPlain calls item
 
-nothing_learnt : (s : ℕ → List Part) (calls : List Call) (known : Knowledge) (item : Item) →
+pub nothing_learnt : (s : ℕ → List Part) (calls : List Call) (known : Knowledge) (item : Item) →
     accepted_by calls item ≡ None → learn s calls known item ≡ known
 nothing_learnt s calls known item none = ap (λ (o : Option ℕ). option_map_or (known_after_number s calls known) o known)
     none
@@ -202,18 +202,25 @@ issue_is_plain stage agent call t access issuing =
     by_call stage agent call (Issue agent.at access) issuing.here (transfer_makes_none call t issuing.moves) refl
 
 -- an Arrive, and a look-up, teach nothing
+pub arrive_accepts : (stage : Stage) (agent : Agent) (call : Call) (place : ℕ) → next_call stage agent ≡ Some call →
+    accepted_by (calls_at stage agent.rank) (Entry agent.at place Arrive) ≡ None
+arrive_accepts stage agent call place here =
+    (ap (λ (o : Option Call). option_map_or (λ (c : Call). cond (ends_call Arrive c) (Some agent.at) None) o None) here)
+
 pub arrive_is_plain : (stage : Stage) (agent : Agent) (call : Call) (place : ℕ) → next_call stage agent ≡ Some call →
     IsPlain (calls_at stage agent.rank) (Entry agent.at place Arrive)
-arrive_is_plain stage agent call place here = TeachesNothing
-    (ap (λ (o : Option Call). option_map_or (λ (c : Call). cond (ends_call Arrive c) (Some agent.at) None) o None) here)
+arrive_is_plain stage agent call place here = TeachesNothing (arrive_accepts stage agent call place here)
+
+pub look_up_accepts : (stage : Stage) (agent : Agent) (call : Call) (place : ℕ) → next_call stage agent ≡ Some call →
+    course_at agent call ≡ LookUpAndIssue → accepted_by (calls_at stage agent.rank) (Entry agent.at place One) ≡ None
+look_up_accepts stage agent call place here course =
+    let moves = look_up_moves agent.known.windows call course in
+    ap (λ (o : Option Call). option_map_or (λ (c : Call). cond (ends_call One c) (Some agent.at) None) o None) here
+    ∙ ap (λ (o : Option Transfer). cond (is_none o) (Some agent.at) None) moves.1
 
 pub look_up_is_plain : (stage : Stage) (agent : Agent) (call : Call) (place : ℕ) → next_call stage agent ≡ Some call →
     course_at agent call ≡ LookUpAndIssue → IsPlain (calls_at stage agent.rank) (Entry agent.at place One)
-look_up_is_plain stage agent call place here course =
-    let moves = look_up_moves agent.known.windows call course in
-    TeachesNothing
-    (ap (λ (o : Option Call). option_map_or (λ (c : Call). cond (ends_call One c) (Some agent.at) None) o None) here
-    ∙ ap (λ (o : Option Transfer). cond (is_none o) (Some agent.at) None) moves.1)
+look_up_is_plain stage agent call place here course = TeachesNothing (look_up_accepts stage agent call place here course)
 
 -- an entry of step One that ends its call
 pub only_is_plain : (stage : Stage) (agent : Agent) (call : Call) (place : ℕ) → next_call stage agent ≡ Some call →
