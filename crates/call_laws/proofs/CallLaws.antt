@@ -176,7 +176,7 @@ new_calls stage seed rank lows = record {
 pub lived_items : (stage : Stage) (seed rank : ℕ) (puts : List Put) (agent : Agent) →
     HasLived stage seed rank puts agent → HasItemsOfCalls (rank_of stage rank (rows_put puts)) (untouched agent.log)
 lived_items stage seed rank puts agent lived =
-    let stopped = stops_holding stage seed rank (HasCalls stage) (calls_kept stage) (new_calls stage seed rank first_lows) puts
+    let stopped = stops_holding true stage seed rank (HasCalls stage) (calls_kept stage) (new_calls stage seed rank first_lows) puts
     agent lived in
     subst (HasItemsOfCalls (rank_of stage rank (rows_put puts)))
     (sym (drained_items stage lived.stopped lived.lows agent lived.last lived.drains))

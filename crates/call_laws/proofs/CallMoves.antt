@@ -86,7 +86,7 @@ plain_items EntryOrTested known number call item e = absurd e
 plain_items OneEntry known number call item e = absurd e
 
 -- the board refuses a call after an entry
-after_some : (stage : Stage) (p : Point) (call : Call) (class : Class) → KnowsLog stage p →
+pub after_some : (stage : Stage) (p : Point) (call : Call) (class : Class) → KnowsLog stage p →
     has_entry (course_at p.agent call) ≡ true →
     decide stage.script.ranks p.rows (next_row p.agent call (step_by (course_at p.agent call))) ≡ Refuse class →
     (before : ℕ) × (length p.rows ≡ suc before)
