@@ -163,7 +163,7 @@ drained_items stage agent lows _ _ (Drained now next low after drains made) =
 
 -- ---- the run
 
-new_calls : (stage : Stage) (seed rank : ℕ) (lows : Lows) → HasCalls stage (point (new_agent stage seed rank) [] lows)
+pub new_calls : (stage : Stage) (seed rank : ℕ) (lows : Lows) → HasCalls stage (point (new_agent stage seed rank) [] lows)
 new_calls stage seed rank lows = record {
   known = record {
     begun = record { outside = λ new win. refl; inside = λ entered. absurd (cc entered) };

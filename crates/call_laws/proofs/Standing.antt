@@ -26,7 +26,7 @@ use Rattle.step_runs.specs.Agents.{Agent}
 
 -- ---- items without touches
 
-touch_is_touch : (issue : ℕ) (item : Item) → IsTouchOf issue item → is_touch item ≡ true
+pub touch_is_touch : (issue : ℕ) (item : Item) → IsTouchOf issue item → is_touch item ≡ true
 touch_is_touch issue (Touch of element cell place bits) is = refl
 touch_is_touch issue (Issue number access) is = absurd is
 touch_is_touch issue (Null number) is = absurd is

@@ -209,7 +209,7 @@ its_access : (stage : Stage) (agent : Agent) (call : Call) (t : Transfer) (acces
 its_access stage agent call t access one issuing e = let both = sym (made_is stage agent call t access issuing)
     ∙ e in cc both
 
-made_count : (stage : Stage) (agent : Agent) (call : Call) (t : Transfer) (access : Access) →
+pub made_count : (stage : Stage) (agent : Agent) (call : Call) (t : Transfer) (access : Access) →
     Issuing stage agent call t access →
     length (pieces_of stage.layout (calls_at stage agent.rank) (made_by agent access t)) ≡ length
     (pieces stage.layout access t.dtype)
