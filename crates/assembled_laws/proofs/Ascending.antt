@@ -1,5 +1,5 @@
 -- Lists whose numbers rise are equal where they have the same elements.
-use Rattle.std.proofs.Common.{◌≡◌, ℕ, ◌+◌, ◌<◌, ◌≤◌, ◌⊎◌, inl, inr, Bool, true, false, cond, List, [], ◌∷◌, ◌++◌, refl, sym, ◌∙◌, ap, subst, arith}
+use Rattle.std.proofs.Common.{◌≡◌, ℕ, ◌<◌, inl, inr, Bool, true, false, cond, List, [], ◌∷◌, refl, sym, ◌∙◌, ap, arith}
 use Rattle.std.specs.List.{AllByRecursion, filter}
 use Rattle.lawful_runs.specs.Accesses.{EachPair}
 use Rattle.rank_laws.proofs.Lists.{Among, among_each}

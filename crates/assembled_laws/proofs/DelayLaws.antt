@@ -1,7 +1,6 @@
 -- In an assembled run each log has the touches where the delay has them.
-use Rattle.std.proofs.Common.{◌≡◌, ◌<◌, ℕ, true, false, List, [], ◌++◌, length, Option, Some, None, IsTrue, refl, sym, ◌∙◌, ap, subst}
+use Rattle.std.proofs.Common.{◌≡◌, ◌<◌, ℕ, false, List, [], length, Option, Some, None, refl, sym, subst}
 use Rattle.std.specs.Prelude.{slice_get, IfSome}
-use Rattle.std.specs.List.{AllByRecursion}
 use Rattle.rma_types.specs.declared.schedules.Delay.{Delay}
 use Rattle.rma_types.specs.declared.schedules.Delay.TheVariants.{None as NoDelay, End as EndDelay, Seeded as SeededDelay}
 use Rattle.rma_types.specs.declared.scripts.Script.{Script}
@@ -16,7 +15,7 @@ use Rattle.call_laws.proofs.CallLaws.{new_calls}
 use Rattle.lawful_runs.specs.DelayLaw.{IsMadeWhenDue, IsDueAt, KeepsDelay}
 use Rattle.lawful_runs.specs.LawfulRun.{rank_in}
 use Rattle.lawful_runs.specs.Logs.{log_of, rows_of}
-use Rattle.lawful_runs.specs.Stages.{Stage, RankOfRun, stage_of}
+use Rattle.lawful_runs.specs.Stages.{Stage, stage_of}
 use Rattle.rank_laws.proofs.Awaiting.{rank_of}
 use Rattle.rank_laws.proofs.Inductions.{stops_holding, lived_rank}
 use Rattle.rank_laws.proofs.Lists.{numbers_each}

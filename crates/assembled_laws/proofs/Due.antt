@@ -1,6 +1,6 @@
 -- Each touch of an RMA access is made when it is due, as a log grows. Touches at the log's end are owed: the next item that
 -- is no touch is one that must wait for them.
-use Rattle.std.proofs.Common.{◌≡◌, ℕ, zero, suc, ◌+◌, ◌-◌, ◌<◌, ◌≤◌, inl, inr, Bool, true, false, not, ◌&&◌, ◌||◌, List, [], ◌∷◌, ◌++◌, length, take, drop, Option, Some, None, refl, sym, ◌∙◌, ap, subst, arith, length-append, length-drop}
+use Rattle.std.proofs.Common.{◌≡◌, ℕ, zero, suc, ◌+◌, ◌-◌, ◌<◌, ◌≤◌, inl, inr, Bool, true, false, not, ◌&&◌, ◌||◌, List, [], ◌∷◌, ◌++◌, length, take, drop, Option, Some, None, refl, sym, ◌∙◌, ap, subst, arith, length-drop}
 use Rattle.std.specs.Prelude.{slice_get, ◌==◌}
 use Rattle.std.specs.List.{AllByRecursion, filter, list_any}
 use Rattle.std.specs.Option.{option_map_or}
@@ -9,7 +9,6 @@ use Rattle.std.proofs.lemmas.List.{take-append-le, drop-append-le}
 use Rattle.std.proofs.lemmas.Bool.Decides.{eqb_tells}
 use Rattle.std.proofs.lemmas.Option.{slice_get_within}
 use Rattle.rma_types.specs.declared.calls.Call.{Call}
-use Rattle.rma_types.specs.declared.classes.Class.{Class}
 use Rattle.rma_record.specs.declared.items.Item.{Item}
 use Rattle.rma_record.specs.declared.items.Item.TheVariants.{Touch}
 use Rattle.assembled_laws.proofs.NextItems.{next_after_none, next_stays, next_within, next_touches, next_plain}
@@ -18,7 +17,7 @@ use Rattle.call_rules.specs.Pieces.{numbers_from}
 use Rattle.lawful_runs.specs.Accesses.{issued_at}
 use Rattle.lawful_runs.specs.DelayLaw.{is_unfinished, pending_at, next_untouched, leads_to, is_due_at, is_due, is_remote}
 use Rattle.lawful_runs.specs.Items.{is_touch}
-use Rattle.lawful_runs.specs.Stages.{Stage, RankOfRun, calls_at, calls_here}
+use Rattle.lawful_runs.specs.Stages.{Stage, RankOfRun, calls_here}
 use Rattle.lawful_runs.specs.TouchLaw.{issued_in, is_local, is_awaiting, issue_of, issues_touched}
 use Rattle.rank_laws.proofs.Awaiting.{rank_of}
 use Rattle.rank_laws.proofs.Lists.{each_back, each_at, each_drop, place_in, get_front, get_rest}

@@ -1,7 +1,7 @@
 -- What is delivered is owed: a call that waits for it, or the end, comes next.
-use Rattle.std.proofs.Common.{◌≡◌, ℕ, zero, suc, ◌+◌, ◌<◌, ◌≤◌, inl, inr, Bool, true, false, not, ◌||◌, List, [], ◌∷◌, ◌++◌, length, take, Option, Some, None, refl, sym, ◌∙◌, ap, subst, arith, get_or}
+use Rattle.std.proofs.Common.{◌≡◌, ℕ, zero, suc, ◌+◌, ◌<◌, ◌≤◌, Bool, true, false, not, ◌||◌, List, [], ◌∷◌, ◌++◌, length, take, Option, Some, None, refl, sym, ◌∙◌, ap, arith, get_or}
 use Rattle.std.specs.Prelude.{slice_get, ◌==◌}
-use Rattle.std.specs.List.{AllByRecursion, filter, position, remove}
+use Rattle.std.specs.List.{filter, position}
 use Rattle.std.specs.Option.{option_map_or}
 use Rattle.std.proofs.Math.Seq.{take-append-add}
 use Rattle.std.proofs.lemmas.Bool.{eq-eqb}
@@ -13,14 +13,14 @@ use Rattle.rma_types.specs.declared.schedules.Delay.{Delay}
 use Rattle.rma_types.specs.declared.schedules.Delay.TheVariants.{End as EndDelay}
 use Rattle.rma_record.specs.declared.items.Item.{Item}
 use Rattle.rma_record.specs.declared.items.Item.TheVariants.{Issue}
-use Rattle.assembled_laws.proofs.Due.{WaitsNext, ForCall, ForEnd, IsOwed, due_touches, owed_touches, remote_before}
+use Rattle.assembled_laws.proofs.Due.{ForCall, ForEnd, IsOwed, due_touches, owed_touches, remote_before}
 use Rattle.assembled_laws.proofs.DueMoves.{HasDue, begun_push, begun_touches, all_later, pushed, issue_pays}
 use Rattle.assembled_laws.proofs.Unfinished.{HasElements, pending_between}
 use Rattle.call_rules.specs.Actions.{Transfer}
 use Rattle.call_rules.specs.Pieces.{pieces}
-use Rattle.lawful_runs.specs.Accesses.{transfer_at, issued_by, issued_at, pieces_of}
+use Rattle.lawful_runs.specs.Accesses.{transfer_at, issued_by}
 use Rattle.lawful_runs.specs.DelayLaw.{pending_at, leads_to, is_unfinished, is_remote}
-use Rattle.lawful_runs.specs.Stages.{Stage, RankOfRun, calls_at}
+use Rattle.lawful_runs.specs.Stages.{Stage, calls_at}
 use Rattle.lawful_runs.specs.TouchLaw.{issued_in, is_local}
 use Rattle.rank_laws.proofs.Awaiting.{rank_of}
 use Rattle.rank_laws.proofs.AwaitMoves.{KeepsAwaited}
@@ -28,13 +28,12 @@ use Rattle.rank_laws.proofs.DirectMoves.{touches_count}
 use Rattle.rank_laws.proofs.Lists.{each_left, each_take, get_rest}
 use Rattle.rank_laws.proofs.Moves.{Issuing, Reason, IsDrawn, IsAwaited, IsAtEnd, IsDrained, IsDue, issued_whole}
 use Rattle.rank_laws.proofs.Touching.{IsTouchOf, touches_own, touches_of_own}
-use Rattle.rank_laws.proofs.TouchMoves.{made_by, made_is}
+use Rattle.rank_laws.proofs.TouchMoves.{made_is}
 use Rattle.rank_laws.specs.Deliveries.{AreTouches, AreTouchesOf, delivered}
 use Rattle.rank_laws.specs.Fronts.{Lows}
-use Rattle.rank_rules.specs.Knowledge.{Knowledge}
 use Rattle.rank_rules.specs.Pending.{must_wait, way}
 use Rattle.rank_rules.specs.declared.pending.PendingAccess.{PendingAccess}
-use Rattle.step_runs.specs.Agents.{Agent, next_call, finished, awaited_by, is_seeded}
+use Rattle.step_runs.specs.Agents.{Agent, next_call, awaited_by, is_seeded}
 use Rattle.step_runs.specs.DataSteps.{is_at_once}
 
 -- ---- what is pending between the touches of an access

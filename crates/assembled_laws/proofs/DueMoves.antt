@@ -1,51 +1,34 @@
 -- Every move of a rank that makes steps keeps that touches are made when they are due, where the delay is end.
-use Rattle.std.proofs.Common.{◌≡◌, ℕ, zero, suc, ◌+◌, ◌<◌, ◌≤◌, ◌⊎◌, inl, inr, Bool, true, false, cond, not, ◌&&◌, ◌||◌, List, [], ◌∷◌, ◌++◌, length, take, drop, Option, Some, None, refl, sym, ◌∙◌, ap, subst, arith}
-use Rattle.std.specs.Prelude.{slice_get, nat_lt, ◌==◌, IfSome}
-use Rattle.std.specs.List.{AllByRecursion, list_any, position, position_or_len, filter}
+use Rattle.std.proofs.Common.{◌≡◌, ℕ, suc, ◌+◌, ◌<◌, ◌≤◌, ◌⊎◌, inl, inr, Bool, true, false, not, ◌&&◌, ◌||◌, List, [], ◌∷◌, ◌++◌, Option, Some, None, refl, sym, ◌∙◌, ap, subst, arith}
+use Rattle.std.specs.Prelude.{slice_get, ◌==◌, IfSome}
+use Rattle.std.specs.List.{AllByRecursion, list_any}
 use Rattle.std.specs.Option.{option_map_or}
-use Rattle.std.proofs.Math.Seq.{take-append-add}
-use Rattle.std.proofs.lemmas.Bool.{ne_eqb, eq-eqb}
+use Rattle.std.proofs.lemmas.Bool.{ne_eqb}
 use Rattle.rma_types.specs.declared.accesses.Access.{Access}
 use Rattle.rma_types.specs.declared.accesses.Step.{Step}
 use Rattle.rma_types.specs.declared.accesses.Step.TheVariants.{Arrive, Leave, One}
 use Rattle.rma_types.specs.declared.calls.Call.{Call}
 use Rattle.rma_types.specs.declared.classes.Class.{Class}
-use Rattle.rma_types.specs.declared.schedules.Delay.{Delay}
-use Rattle.rma_types.specs.declared.schedules.Delay.TheVariants.{End as EndDelay}
 use Rattle.rma_types.specs.declared.scripts.Part.{Part}
 use Rattle.rma_record.specs.declared.items.Item.{Item}
 use Rattle.rma_record.specs.declared.items.Item.TheVariants.{Issue, Null, Touch, Flush, Request, Entry, Tested, Refused, Ended}
-use Rattle.assembled_laws.proofs.Due.{AreDue, WaitsNext, ForCall, ForEnd, IsOwed, AreOwed, Pays, due_push, owed_push, due_touches, owed_touches}
-use Rattle.assembled_laws.proofs.PendingElements.{made_has_elements}
-use Rattle.assembled_laws.proofs.Unfinished.{HasElements, pending_between}
-use Rattle.board_rules.specs.Entries.{Row}
-use Rattle.call_laws.proofs.CallMoves.{after_some}
-use Rattle.call_laws.proofs.KnownMoves.{KnowsLog, known_kept}
-use Rattle.call_rules.specs.Actions.{Transfer, transfer_of}
-use Rattle.call_rules.specs.Pieces.{pieces}
-use Rattle.lawful_runs.specs.Accesses.{transfer_at, issued_by, issued_at, pieces_of}
-use Rattle.lawful_runs.specs.DelayLaw.{pending_at, leads_to, is_unfinished, is_remote}
+use Rattle.assembled_laws.proofs.Due.{AreDue, ForCall, ForEnd, AreOwed, Pays, due_push, owed_push}
+use Rattle.assembled_laws.proofs.Unfinished.{HasElements}
+use Rattle.call_laws.proofs.KnownMoves.{KnowsLog}
+use Rattle.call_rules.specs.Actions.{Transfer}
 use Rattle.lawful_runs.specs.Items.{is_touch, is_ended, is_own_refusal, number_in, belongs_to}
-use Rattle.lawful_runs.specs.Stages.{Stage, RankOfRun, calls_at, calls_here, known_at, shapes_in}
-use Rattle.lawful_runs.specs.TouchLaw.{issued_in, is_local, is_awaiting, begins_awaiting}
-use Rattle.rank_laws.proofs.Awaiting.{rank_of, KnowsRequests}
-use Rattle.rank_laws.proofs.AwaitMoves.{KeepsAwaited, awaited_kept}
-use Rattle.rank_laws.proofs.DirectMoves.{touches_count}
-use Rattle.rank_laws.proofs.Inductions.{KeepsIn}
-use Rattle.rank_laws.proofs.Lists.{each_turned, each_append, each_left, each_take, get_rest}
-use Rattle.rank_laws.proofs.Moves.{Point, point, course_at, Begins, Entering, OnlyEntry, LookUp, Arriving, Leaving, IsPlainItem, Issuing, Reason, IsDrawn, IsAwaited, IsAtEnd, IsDrained, IsDue, Move, move_weaker, Learns, Rises, Ends, RefusesAlone, IsRefused, Tests, Passes, Enters, Issues, IssuesWhole, Draws, Delivers}
-use Rattle.rank_laws.proofs.Touching.{IsTouchOf, touches_own, touches_of_own}
-use Rattle.rank_laws.proofs.TouchMoves.{plain_by_course, made_by, made_is}
-use Rattle.rank_laws.specs.Deliveries.{AreTouchesOf}
-use Rattle.rank_laws.specs.Fronts.{Lows}
+use Rattle.lawful_runs.specs.Stages.{Stage, calls_at, calls_here, known_at}
+use Rattle.lawful_runs.specs.TouchLaw.{begins_awaiting}
+use Rattle.rank_laws.proofs.Awaiting.{rank_of}
+use Rattle.rank_laws.proofs.AwaitMoves.{KeepsAwaited}
+use Rattle.rank_laws.proofs.Lists.{each_turned, each_append}
+use Rattle.rank_laws.proofs.Moves.{Point, course_at, Begins, Entering, OnlyEntry, LookUp, Arriving, Leaving, IsPlainItem, Issuing}
+use Rattle.rank_laws.proofs.Touching.{IsTouchOf}
 use Rattle.rank_rules.specs.Courses.{Course, OneNull, OneIssue, LookUpAndIssue, OneFlush, OneRequest, ArriveAndLeave, EntryOrTested, OneEntry}
 use Rattle.rank_rules.specs.Knowledge.{Knowledge, own_class}
-use Rattle.rank_rules.specs.Pending.{must_wait, way}
+use Rattle.rank_rules.specs.Pending.{must_wait}
 use Rattle.rank_rules.specs.Requests.{Requests}
-use Rattle.rank_rules.specs.declared.pending.PendingAccess.{PendingAccess}
-use Rattle.step_runs.specs.Agents.{Agent, next_call, kept, finished, opened, awaited_by, is_seeded}
-use Rattle.step_runs.specs.BoardSteps.{next_row}
-use Rattle.step_runs.specs.DataSteps.{is_at_once}
+use Rattle.step_runs.specs.Agents.{Agent, next_call, kept, finished, opened}
 
 -- ---- ranks
 

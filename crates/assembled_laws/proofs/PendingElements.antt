@@ -1,7 +1,7 @@
 -- A pending access has an element: an access without bytes is never pending.
-use Rattle.std.proofs.Common.{◌≡◌, ℕ, zero, suc, ◌+◌, ◌*◌, ◌<◌, Bool, true, false, cond, List, [], ◌∷◌, ◌++◌, length, Option, Some, None, refl, sym, ◌∙◌, ap, subst, arith}
-use Rattle.std.specs.Prelude.{nat_lt, ◌/◌, ◌==◌, map}
-use Rattle.std.specs.List.{AllByRecursion, find}
+use Rattle.std.proofs.Common.{◌≡◌, ℕ, zero, suc, ◌+◌, ◌*◌, ◌<◌, Bool, true, false, cond, [], ◌∷◌, length, Option, Some, None, refl, sym, ◌∙◌, ap, subst, arith}
+use Rattle.std.specs.Prelude.{nat_lt, ◌/◌}
+use Rattle.std.specs.List.{AllByRecursion}
 use Rattle.std.specs.Option.{option_map_or}
 use Rattle.std.proofs.lemmas.Bool.{ltb-true}
 use Rattle.std.proofs.lemmas.List.{length-map}
@@ -12,17 +12,15 @@ use Rattle.rma_types.specs.declared.dtypes.Dtype.TheVariants.{Int8, Int16, Int32
 use Rattle.rma_types.specs.Datatypes.{size_of}
 use Rattle.assembled_laws.proofs.Unfinished.{HasElements}
 use Rattle.call_rules.specs.Actions.{Transfer, transfer_of}
-use Rattle.call_rules.specs.Pieces.{numbers_from, pieces, piece_at, element_address}
+use Rattle.call_rules.specs.Pieces.{numbers_from, piece_at, element_address}
 use Rattle.call_rules.specs.Ranks.{natural}
 use Rattle.call_rules.specs.Transfers.{bytes_of}
 use Rattle.lawful_runs.specs.Stages.{Stage, calls_at}
-use Rattle.rank_laws.proofs.DataPaths.{its_transfer}
 use Rattle.rank_laws.proofs.DirectMoves.{made_count}
 use Rattle.rank_laws.proofs.Moves.{Issuing}
 use Rattle.rank_laws.proofs.TouchMoves.{made_by}
 use Rattle.rank_rules.specs.Courses.{access_on, access_of}
 use Rattle.rank_rules.specs.Windows.{Window, RankWindows, window_of_name}
-use Rattle.rank_rules.specs.declared.pending.PendingAccess.{PendingAccess}
 use Rattle.step_runs.specs.Agents.{Agent}
 
 -- ---- how many elements

@@ -1,6 +1,6 @@
 -- The accesses that a log leaves to be touched are those that are pending, also between the touches of one of them.
-use Rattle.std.proofs.Common.{◌≡◌, ℕ, zero, suc, ◌+◌, ◌<◌, ◌≤◌, ◌⊎◌, inl, inr, Bool, true, false, List, [], ◌∷◌, ◌++◌, length, Option, Some, None, refl, sym, ◌∙◌, ap, subst, arith, length-append}
-use Rattle.std.specs.Prelude.{slice_get, nat_lt}
+use Rattle.std.proofs.Common.{◌≡◌, ℕ, zero, suc, ◌+◌, ◌<◌, ◌≤◌, inl, inr, Bool, true, List, [], ◌∷◌, ◌++◌, length, Option, Some, None, refl, sym, ◌∙◌, ap, subst, arith, length-append}
+use Rattle.std.specs.Prelude.{slice_get}
 use Rattle.std.specs.List.{AllByRecursion, filter}
 use Rattle.std.specs.Option.{option_map_or}
 use Rattle.std.proofs.lemmas.Bool.{lt-ltb, ltb-true}
@@ -12,12 +12,12 @@ use Rattle.assembled_laws.proofs.Ascending.{filter_is}
 use Rattle.board_rules.specs.Entries.{Row}
 use Rattle.lawful_runs.specs.Accesses.{issued_by, issued_at, issued_from, pieces_of, EachPair}
 use Rattle.lawful_runs.specs.DelayLaw.{is_unfinished}
-use Rattle.lawful_runs.specs.Stages.{Stage, RankOfRun, calls_at}
+use Rattle.lawful_runs.specs.Stages.{Stage, calls_at}
 use Rattle.lawful_runs.specs.TouchLaw.{touched_by, issued_in}
 use Rattle.rank_laws.proofs.Awaiting.{rank_of}
 use Rattle.rank_laws.proofs.DirectMoves.{touched_few, elements_count}
-use Rattle.rank_laws.proofs.Lists.{each_turned, each_append, each_at, Among, among_left, among_each}
-use Rattle.rank_laws.proofs.Pendings.{elements_of, IsSettled, IsUntouched, HasTouches}
+use Rattle.rank_laws.proofs.Lists.{each_turned, each_at, Among, among_left, among_each}
+use Rattle.rank_laws.proofs.Pendings.{IsSettled, IsUntouched, HasTouches}
 use Rattle.rank_laws.proofs.Touching.{IsTouchOf, touched_by_other, touched_joined, touch_issues_nothing, made_at, issued_inside, issued_still, issued_before_touches, each_issued}
 use Rattle.rank_rules.specs.declared.pending.PendingAccess.{PendingAccess}
 

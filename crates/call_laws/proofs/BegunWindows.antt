@@ -1,13 +1,12 @@
 -- The windows that a rank has begun to make by its entries are those that it knows, and the one that it is making.
 use Rattle.std.proofs.Common.{◌≡◌, ℕ, ◌+◌, ◌-◌, ◌≤◌, Bool, true, false, cond, List, [], ◌∷◌, ◌++◌, length, Option, Some, None, refl, sym, ◌∙◌, ap, subst, arith, length-append}
-use Rattle.std.specs.Prelude.{◌&&◌, ◌==◌, ◌≢◌, is_some, map, slice_get}
-use Rattle.std.specs.List.{count_by, sum_by, filter, AllByRecursion}
+use Rattle.std.specs.Prelude.{◌&&◌, ◌==◌, ◌≢◌, is_some, map}
+use Rattle.std.specs.List.{count_by, filter, AllByRecursion}
 use Rattle.std.specs.Option.{option_map_or}
 use Rattle.std.proofs.lemmas.Bool.{ne_eqb, eq-eqb}
 use Rattle.std.proofs.lemmas.List.{append-nil, map-append}
 use Rattle.std.proofs.lemmas.List.Elements.{filter-append}
 use Rattle.std.proofs.lemmas.List.Sums.{sum_by-append, sum_by-cons}
-use Rattle.rma_types.specs.declared.accesses.Step.{Step}
 use Rattle.rma_types.specs.declared.accesses.Step.TheVariants.{Arrive, Leave, One}
 use Rattle.rma_types.specs.declared.calls.Call.{Call}
 use Rattle.rma_types.specs.declared.scripts.Part.{Part}
@@ -15,7 +14,7 @@ use Rattle.rma_record.specs.declared.items.Item.{Item}
 use Rattle.rma_record.specs.declared.items.Item.TheVariants.{Entry}
 use Rattle.board_rules.specs.Entries.{Row, Act, acts, acts_after, window_of, round_of, is_arrive, is_creation, names_window, begins_window, creations, is_by_on, Collective, Creation as CreationRound, is_collective, arrivals}
 use Rattle.call_rules.specs.Actions.{Action, Creates, Frees, Attaches, Detaches, Synchronises, Meets, Moves, EndsRequest, Creation, action_of, creation_in, creation_of, window_in_action}
-use Rattle.call_laws.proofs.Teaching.{name_made, no_name, created_grows, learns_call, IsPlain, plain_created, arrive_is_plain, look_up_is_plain, only_is_plain, leave_ends, look_up_moves, transfer_makes_none}
+use Rattle.call_laws.proofs.Teaching.{name_made, no_name, created_grows, learns_call, IsPlain, plain_created, arrive_is_plain, look_up_is_plain, leave_ends, look_up_moves, transfer_makes_none}
 use Rattle.lawful_runs.specs.Stages.{Stage, calls_at}
 use Rattle.rank_laws.proofs.Moves.{course_at, Begins}
 use Rattle.rank_laws.proofs.Shapes.{acts_joined, creation_is_collective}

@@ -1,18 +1,17 @@
 -- In an assembled run each log has the items of the calls of its rank.
-use Rattle.std.proofs.Common.{◌≡◌, ℕ, inl, inr, Bool, true, false, List, [], ◌∷◌, ◌++◌, length, Option, Some, None, IsTrue, refl, sym, ◌∙◌, ap, subst, append-nil}
+use Rattle.std.proofs.Common.{◌≡◌, ℕ, inl, inr, true, false, List, [], ◌∷◌, Option, Some, None, IsTrue, refl, sym, ◌∙◌, ap, subst, append-nil}
 use Rattle.std.specs.Prelude.{slice_get, IsSomeAnd}
-use Rattle.rma_types.specs.declared.accesses.Step.TheVariants.{Arrive, Leave}
+use Rattle.rma_types.specs.declared.accesses.Step.TheVariants.{Arrive}
 use Rattle.rma_types.specs.declared.calls.Call.{Call}
 use Rattle.rma_record.specs.declared.items.Item.{Item}
 use Rattle.rma_record.specs.declared.items.Item.TheVariants.{Entry, Ended}
 use Rattle.board_rules.specs.Entries.{Row}
 use Rattle.call_laws.proofs.CallMoves.{HasCalls, calls_kept}
 use Rattle.call_laws.proofs.KnownMoves.{KnowsAlways}
-use Rattle.call_laws.proofs.Standing.{untouched_touches, knows_untouched, View, view_of, OpensCall, FinishedAlways, Outside, Inside, Standing, IsOutside, IsInside, IsPast, past_has_none}
+use Rattle.call_laws.proofs.Standing.{untouched_touches, knows_untouched, view_of, OpensCall, FinishedAlways, Inside, Standing, IsOutside, IsInside, IsPast, past_has_none}
 use Rattle.call_laws.proofs.Stopping.{WaitsAt, WaitsFirst, WaitsToLeave, waits_there}
 use Rattle.call_laws.proofs.Teaching.{look_up_moves}
 use Rattle.call_laws.specs.Calls.{AssembledRunsHaveItemsOfCalls}
-use Rattle.call_rules.specs.Actions.{transfer_of}
 use Rattle.lawful_runs.specs.CallItems.{untouched, AreFinished, may_stand, StandsAt, HasItemsOfCalls}
 use Rattle.lawful_runs.specs.LawfulRun.{rank_in}
 use Rattle.lawful_runs.specs.Stages.{Stage, stage_of, calls_at, known_at}

@@ -1,18 +1,18 @@
 -- Every move keeps that the items of a rank are those of its calls, in their order.
-use Rattle.std.proofs.Common.{◌≡◌, ℕ, suc, ◌⊎◌, inl, inr, Bool, true, false, List, [], ◌∷◌, ◌++◌, length, Option, Some, None, IsTrue, refl, sym, ◌∙◌, ap, subst}
-use Rattle.std.specs.Prelude.{slice_get, IsSomeAnd}
+use Rattle.std.proofs.Common.{◌≡◌, ℕ, suc, ◌⊎◌, inl, inr, true, false, List, [], ◌∷◌, ◌++◌, length, Option, Some, None, refl, sym, ◌∙◌, ap, subst}
+use Rattle.std.specs.Prelude.{IsSomeAnd}
 use Rattle.rma_types.specs.declared.accesses.Access.{Access}
 use Rattle.rma_types.specs.declared.accesses.Step.{Step}
 use Rattle.rma_types.specs.declared.accesses.Step.TheVariants.{Arrive, Leave, One}
 use Rattle.rma_types.specs.declared.calls.Call.{Call}
 use Rattle.rma_types.specs.declared.classes.Class.{Class}
 use Rattle.rma_record.specs.declared.items.Item.{Item}
-use Rattle.rma_record.specs.declared.items.Item.TheVariants.{Issue, Null, Flush, Request, Entry, Tested, Refused, Ended}
-use Rattle.board_rules.specs.Board.{Refuse, decide, shared_class}
+use Rattle.rma_record.specs.declared.items.Item.TheVariants.{Issue, Entry, Tested, Refused, Ended}
+use Rattle.board_rules.specs.Board.{Refuse, decide}
 use Rattle.board_rules.specs.Entries.{Row, window_of}
 use Rattle.call_laws.proofs.FirstEntries.{nothing_refused}
 use Rattle.call_laws.proofs.KnownMoves.{KnowsLog, KnowsAlways, knows_longer, known_kept}
-use Rattle.call_laws.proofs.Standing.{untouched_push, untouched_touches, knows_untouched, View, view_of, OpensCall, Outside, Inside, Standing, standing_longer, outside_of, inside_of, accepted, view_after, one_item, second_item, first_item, past_all}
+use Rattle.call_laws.proofs.Standing.{untouched_push, untouched_touches, knows_untouched, view_of, OpensCall, Outside, Standing, standing_longer, outside_of, inside_of, accepted, view_after, one_item, second_item, first_item, past_all}
 use Rattle.call_laws.proofs.Teaching.{nothing_learnt, arrive_accepts, look_up_accepts, look_up_moves}
 use Rattle.call_rules.specs.Actions.{Transfer, transfer_of}
 use Rattle.lawful_runs.specs.CallItems.{untouched, AreItemsBy, AreItemsOfCourse, IsBoardRefusal}

@@ -1,5 +1,5 @@
 -- The board refuses no entry before there is one; a rank that knows no window looks up none.
-use Rattle.std.proofs.Common.{◌≡◌, ℕ, suc, Bool, true, false, cond, List, [], ◌∷◌, ◌++◌, length, Option, Some, None, refl, sym, ◌∙◌, ap, subst}
+use Rattle.std.proofs.Common.{◌≡◌, ℕ, Bool, true, false, cond, List, [], ◌∷◌, ◌++◌, Option, Some, None, refl, ◌∙◌, ap}
 use Rattle.std.specs.Prelude.{slice_get, ◌==◌, ℤ}
 use Rattle.std.specs.List.{find, flat_map, list_any}
 use Rattle.std.specs.Option.{option_map_or}
@@ -17,7 +17,7 @@ use Rattle.board_rules.specs.Rounds.{arrivals_of, rounds_begun, round_arrivals, 
 use Rattle.call_rules.specs.Actions.{Action, Creates, Frees, Attaches, Detaches, Synchronises, Meets, Moves, EndsRequest, Synchronisation, Fences, Posts, Starts, Completes, Waits, Locks, Unlocks, Flushes, Syncs, Transfer, Target, Own, Null, Named, action_of}
 use Rattle.call_rules.specs.Pieces.{numbers_from}
 use Rattle.rank_laws.proofs.Moves.{step_by}
-use Rattle.rank_rules.specs.Courses.{Course, OneNull, OneIssue, LookUpAndIssue, has_entry, is_dynamic, course_of, course_of_action, course_of_synchronisation, course_of_transfer}
+use Rattle.rank_rules.specs.Courses.{OneIssue, LookUpAndIssue, has_entry, is_dynamic, course_of, course_of_action, course_of_synchronisation, course_of_transfer}
 use Rattle.rank_rules.specs.Windows.{Window, RankWindows, is_same_flavor}
 
 -- what an entry asks before there is any

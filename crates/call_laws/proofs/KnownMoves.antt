@@ -1,5 +1,5 @@
 -- Every move keeps that a rank knows what its log says, whatever entries are put later.
-use Rattle.std.proofs.Common.{◌≡◌, ℕ, Bool, true, false, List, [], ◌∷◌, ◌++◌, length, Option, Some, None, refl, sym, ◌∙◌, ap, subst, append_assoc}
+use Rattle.std.proofs.Common.{◌≡◌, ℕ, false, List, [], ◌∷◌, ◌++◌, length, Some, None, refl, sym, ◌∙◌, ap, subst, append_assoc}
 use Rattle.std.specs.List.{AllByRecursion}
 use Rattle.rma_types.specs.declared.accesses.Step.{Step}
 use Rattle.rma_types.specs.declared.accesses.Step.TheVariants.{Arrive, Leave, One}
@@ -11,15 +11,15 @@ use Rattle.board_rules.specs.Board.{Allow, decide}
 use Rattle.board_rules.specs.Entries.{Row}
 use Rattle.call_laws.proofs.BegunWindows.{IsOpen, HasBegunWindows, begun_by_others, numbers_at, begun_ending, begun_leaving, begun_looking_up, begun_arriving, later_creates_none}
 use Rattle.call_laws.proofs.LeavingCreations.{parts_stay}
-use Rattle.call_laws.proofs.Teaching.{IsPlain, TeachesNothing, TeachesCall, plain_alike, plain_unmade, call_alike, learns_call, passing_is_plain, issue_is_plain, arrive_is_plain, look_up_is_plain, only_is_plain, leave_ends, transfer_makes_none, makes_none}
+use Rattle.call_laws.proofs.Teaching.{IsPlain, TeachesNothing, plain_alike, plain_unmade, call_alike, learns_call, passing_is_plain, issue_is_plain, arrive_is_plain, look_up_is_plain, only_is_plain, leave_ends, transfer_makes_none}
 use Rattle.call_rules.specs.Actions.{creation_of}
-use Rattle.lawful_runs.specs.Stages.{Stage, RankOfRun, calls_at, calls_here, known_at, shapes_in}
+use Rattle.lawful_runs.specs.Stages.{Stage, calls_at, known_at, shapes_in}
 use Rattle.rank_laws.proofs.Awaiting.{rank_of, known_push, touches_teach_nothing}
 use Rattle.rank_laws.proofs.Inductions.{Keeps}
-use Rattle.rank_laws.proofs.Moves.{Point, point, course_at, Begins, Entering, OnlyEntry, LookUp, Arriving, Leaving, IsPlainItem, Issuing, Learns, Rises, Ends, RefusesAlone, IsRefused, Tests, Passes, Enters, Issues, IssuesWhole, Draws, Delivers}
+use Rattle.rank_laws.proofs.Moves.{Point, point, Entering, OnlyEntry, LookUp, Arriving, Leaving, Learns, Rises, Ends, RefusesAlone, IsRefused, Tests, Passes, Enters, Issues, IssuesWhole, Draws, Delivers}
 use Rattle.rank_laws.proofs.Touching.{IsTouchOf, touches_own, touches_of_own}
 use Rattle.rank_rules.specs.Knowledge.{Knowledge, learn}
-use Rattle.step_runs.specs.Agents.{Agent, next_call, kept, finished, opened}
+use Rattle.step_runs.specs.Agents.{Agent, next_call, kept, finished}
 use Rattle.step_runs.specs.BoardSteps.{next_row}
 use Rattle.step_runs.specs.DataSteps.{no_shapes}
 

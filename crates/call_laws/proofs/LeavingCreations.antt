@@ -1,6 +1,6 @@
 -- A rank leaves the creation of a window when all ranks have arrived there: from then on its parts stay as they are.
-use Rattle.std.proofs.Common.{◌≡◌, ℕ, zero, suc, ◌+◌, ◌<◌, ◌≤◌, inl, inr, Bool, true, false, cond, List, [], ◌∷◌, ◌++◌, length, Option, Some, None, refl, sym, ◌∙◌, ap, subst, arith, append_assoc}
-use Rattle.std.specs.Prelude.{◌&&◌, nat_le}
+use Rattle.std.proofs.Common.{◌≡◌, ℕ, zero, suc, ◌+◌, ◌<◌, ◌≤◌, inl, inr, Bool, true, false, cond, List, [], ◌∷◌, ◌++◌, length, Option, Some, refl, sym, ◌∙◌, ap, subst, arith, append_assoc}
+use Rattle.std.specs.Prelude.{nat_le}
 use Rattle.std.specs.List.{list_all}
 use Rattle.std.specs.Option.{option_map_or}
 use Rattle.std.proofs.lemmas.Bool.{leb-true}
@@ -8,7 +8,7 @@ use Rattle.std.proofs.lemmas.Bool.Decides.{eqb_tells}
 use Rattle.rma_types.specs.declared.accesses.Step.TheVariants.{Leave}
 use Rattle.rma_types.specs.declared.calls.Call.{Call}
 use Rattle.board_rules.specs.Board.{Allow, NotYet, decide}
-use Rattle.board_rules.specs.Entries.{Row, acts, window_of, Collective, Creation as CreationRound, collective_of, collective_in, arrivals}
+use Rattle.board_rules.specs.Entries.{Row, acts, Collective, Creation as CreationRound, collective_in, arrivals}
 use Rattle.board_rules.specs.Questions.{Question, question}
 use Rattle.board_rules.specs.Rounds.{arrivals_of, rounds_begun, all_arrived}
 use Rattle.call_laws.proofs.BegunWindows.{IsOpen, creates_it, leaving_number}

@@ -1,12 +1,11 @@
 -- Where a rank stands in its calls: its items without touches are those of the calls that it has finished, and the first of
 -- the call in which it is.
-use Rattle.std.proofs.Common.{◌≡◌, ℕ, zero, suc, ◌+◌, ◌<◌, ◌≤◌, ◌⊎◌, inl, inr, Bool, true, false, cond, List, [], ◌∷◌, ◌++◌, length, Option, Some, None, refl, sym, ◌∙◌, ap, subst, arith, add-one, append-nil, append_assoc}
+use Rattle.std.proofs.Common.{◌≡◌, ℕ, zero, suc, ◌+◌, ◌≤◌, ◌⊎◌, Bool, true, false, cond, List, [], ◌∷◌, ◌++◌, length, Option, Some, None, refl, sym, ◌∙◌, ap, subst, arith, add-one, append-nil, append_assoc}
 use Rattle.std.specs.Prelude.{slice_get, not, IsSomeAnd}
-use Rattle.std.specs.List.{filter, fold, AllByRecursion}
-use Rattle.std.specs.Option.{option_map_or}
+use Rattle.std.specs.List.{fold, AllByRecursion}
 use Rattle.std.proofs.lemmas.List.Elements.{filter-append}
 use Rattle.std.proofs.lemmas.Option.{slice_get_past, slice_get_within}
-use Rattle.rma_types.specs.declared.accesses.Step.TheVariants.{Arrive, Leave, One}
+use Rattle.rma_types.specs.declared.accesses.Step.TheVariants.{Arrive, One}
 use Rattle.rma_types.specs.declared.calls.Call.{Call}
 use Rattle.rma_types.specs.declared.classes.Class.{Class}
 use Rattle.rma_types.specs.declared.scripts.Part.{Part}
@@ -18,7 +17,6 @@ use Rattle.lawful_runs.specs.CallItems.{untouched, AreItemsOfCourse, IsBoardRefu
 use Rattle.lawful_runs.specs.Items.{is_touch}
 use Rattle.lawful_runs.specs.Stages.{Stage, RankOfRun, calls_at, calls_here, first_knowledge, known_at, shapes_in}
 use Rattle.rank_laws.proofs.Awaiting.{rank_of}
-use Rattle.rank_laws.proofs.Runs.{element_at}
 use Rattle.rank_laws.proofs.Touching.{IsTouchOf}
 use Rattle.rank_rules.specs.Courses.{Course, OneNull, OneIssue, LookUpAndIssue, OneFlush, OneRequest, ArriveAndLeave, EntryOrTested, OneEntry, course_of}
 use Rattle.rank_rules.specs.Knowledge.{Knowledge, own_class, learn}
