@@ -14,7 +14,8 @@ same_first number x y xs ys above more (inr h) (inr k) =
     let other = among_each (λ z. number x < number z) y xs above k in absurd (omega arith)
 
 -- an element that is above the first is among the rest
-among_above : {X : Type 0} (number : X → ℕ) (x z : X) (xs : List X) → number x < number z → Among z (x ∷ xs) → Among z xs
+among_above : {X : Type 0} (number : X → ℕ) (x z : X) (xs : List X) → number x < number z → Among z (x ∷ xs) →
+    Among z xs
 among_above number x z xs less (inl e) = let same = ap number e in absurd (omega arith)
 among_above number x z xs less (inr h) = h
 

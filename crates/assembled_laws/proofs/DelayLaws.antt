@@ -86,7 +86,8 @@ made_when_due stage rank rows log due index (Some (Refused number class seen)) e
 made_when_due stage rank rows log due index (Some Ended) e = tt
 
 keeps_end : (stage : Stage) (seed rank : ℕ) (puts : List Put) (agent : Agent) (rows : List Row) →
-    HasLived stage seed rank puts agent → stage.delay ≡ EndDelay → KeepsDelay EndDelay (rank_of stage rank rows) agent.log
+    HasLived stage seed rank puts agent → stage.delay ≡ EndDelay →
+    KeepsDelay EndDelay (rank_of stage rank rows) agent.log
 keeps_end stage seed rank puts agent rows lived end = numbers_each (IsDueAt (rank_of stage rank rows) agent.log)
     (λ index. made_when_due stage rank rows agent.log (lived_due stage seed rank puts agent end lived) index
     (slice_get agent.log index) refl) 0 (length agent.log)

@@ -1,5 +1,5 @@
--- Each touch of an RMA access is made when it is due, as a log grows. Touches at the log's end are owed: the next item that
--- is no touch is one that must wait for them.
+-- Each touch of an RMA access is made when it is due, as a log grows. Touches at the log's end are owed: the next item
+-- that is no touch is one that must wait for them.
 use Rattle.std.proofs.Common.{◌≡◌, ℕ, zero, suc, ◌+◌, ◌-◌, ◌<◌, ◌≤◌, inl, inr, Bool, true, false, not, ◌&&◌, ◌||◌, List, [], ◌∷◌, ◌++◌, length, take, drop, Option, Some, None, refl, sym, ◌∙◌, ap, subst, arith, length-drop}
 use Rattle.std.specs.Prelude.{slice_get, ◌==◌}
 use Rattle.std.specs.List.{AllByRecursion, filter, list_any}
@@ -32,7 +32,8 @@ use Rattle.rank_rules.specs.declared.pending.PendingAccess.{PendingAccess}
 abbrev is_owed : RankOfRun → List Item → Option Item → List PendingAccess → ℕ → Bool
 is_owed here before o pending issue = list_any (λ at. option_map_or
     (λ (one : PendingAccess). option_map_or (is_awaiting here before one) o false
-    && (one.index == issue || leads_to pending at issue)) (slice_get pending at) false) (numbers_from 0 (length pending))
+    && (one.index == issue || leads_to pending at issue)) (slice_get pending at) false)
+    (numbers_from 0 (length pending))
 
 -- each touch of an RMA access is due, whatever the entries
 abbrev pub AreDue : Stage → ℕ → List Item → Type 0

@@ -68,7 +68,8 @@ its_number number item e = subst (λ (o : Option ℕ). IfSome o (λ n. n < numbe
 
 pub begun_push : (number : ℕ) (log : List Item) (item : Item) → AllByRecursion (IsBefore (number + 1)) log →
     number_in item ≡ Some number → AllByRecursion (IsBefore (number + 1)) (log ++ item ∷ [])
-begun_push number log item all e = each_append (IsBefore (number + 1)) log (item ∷ []) all (its_number number item e, tt)
+begun_push number log item all e = each_append (IsBefore (number + 1)) log (item ∷ []) all
+    (its_number number item e, tt)
 
 touch_is_before : (number issue : ℕ) (item : Item) → IsTouchOf issue item → IsBefore number item
 touch_is_before number issue (Touch of element cell place bits) is = tt
@@ -204,7 +205,8 @@ pub refused_later : (number : ℕ) (class : Class) (entries before : ℕ) → en
     is_own_refusal (Refused number class entries) ≡ false
 refused_later number class entries before e = ap (λ n. is_own_refusal (Refused number class n)) e
 
-pub entering : (stage : Stage) (agent : Agent) (call : Call) (step : Step) (after : Agent → Agent) (shapes : ℕ → List Part)
+pub entering : (stage : Stage) (agent : Agent) (call : Call) (step : Step) (after : Agent → Agent)
+    (shapes : ℕ → List Part)
     (place : ℕ) → Entering stage agent call step after → KeepsAwaited stage agent → HasDue stage agent →
     HasDue stage (after (kept shapes stage agent (Entry agent.at place step)))
 entering stage agent call _ _ shapes place (OnlyEntry begins course) awaited h =

@@ -298,7 +298,8 @@ begun_arriving stage agent rows call shapes place begins h =
       numbers = λ win. creations_push rows row agent.rank win
           ∙ sums (creations rows agent.rank win) (count_by (is_named win) agent.known.windows.created)
           (cond {A = ℕ} (begins_by agent.rank win row) 1 0) (count_by (is_named win) (name_made call))
-          (h.outside begins.new win) (count_made call (agent.rank == agent.rank) win (eq-eqb agent.rank agent.rank refl))
+          (h.outside begins.new win) (count_made call (agent.rank == agent.rank) win
+          (eq-eqb agent.rank agent.rank refl))
           ∙ sym (count_names win agent.known.windows.created (name_made call));
       arrived = λ creation makes. arrival_new rows row CreationRound agent.rank
           (next_number agent.known.windows.created creation.win) (is_there creation makes);

@@ -162,7 +162,8 @@ drained_items stage agent lows _ _ (Drained now next low after drains made) =
 
 -- ---- the run
 
-pub new_calls : (stage : Stage) (seed rank : ℕ) (lows : Lows) → HasCalls stage (point (new_agent stage seed rank) [] lows)
+pub new_calls : (stage : Stage) (seed rank : ℕ) (lows : Lows) →
+    HasCalls stage (point (new_agent stage seed rank) [] lows)
 new_calls stage seed rank lows = record {
   known = record {
     begun = record { outside = λ new win. refl; inside = λ entered. absurd (cc entered) };
@@ -175,7 +176,8 @@ new_calls stage seed rank lows = record {
 pub lived_items : (stage : Stage) (seed rank : ℕ) (puts : List Put) (agent : Agent) →
     HasLived stage seed rank puts agent → HasItemsOfCalls (rank_of stage rank (rows_put puts)) (untouched agent.log)
 lived_items stage seed rank puts agent lived =
-    let stopped = stops_holding true stage seed rank (HasCalls stage) (calls_kept stage) (new_calls stage seed rank first_lows) puts
+    let stopped = stops_holding true stage seed rank (HasCalls stage) (calls_kept stage)
+    (new_calls stage seed rank first_lows) puts
     agent lived in
     subst (HasItemsOfCalls (rank_of stage rank (rows_put puts)))
     (sym (drained_items stage lived.stopped lived.lows agent lived.last lived.drains))

@@ -263,7 +263,8 @@ entered_calls : (stage : Stage) (p : Point) (call : Call) (step : Step) (after :
     Entering stage p.agent call step after →
     (let now = p.rows ++ next_row p.agent call step ∷ [] in
     let next = after (kept (shapes_in stage now) stage p.agent (Entry p.agent.at (length p.rows) step)) in
-    KnowsLog stage (point next now p.lows) → StandsAfter stage p call step after → HasCalls stage (point next now p.lows))
+    KnowsLog stage (point next now p.lows) → StandsAfter stage p call step after →
+    HasCalls stage (point next now p.lows))
 entered_calls stage p call _ _ (OnlyEntry begins course) known standing = record { known = known; standing = standing }
 entered_calls stage p call _ _ (LookUp begins course) known standing = record { known = known; standing = standing }
 entered_calls stage p call _ _ (Arriving begins course) known standing = record { known = known; standing = standing }

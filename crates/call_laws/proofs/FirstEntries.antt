@@ -42,7 +42,8 @@ none_in_round ranks rank call window = each (numbers_from 0 ranks)
 
     none_there : (o : List Call) → o ≡ [] →
         option_map_or (λ (c : Call). c ∷ []) (slice_get o (rounds_begun q)) [] ≡ []
-    none_there o e = ap (λ (calls : List Call). option_map_or (λ (c : Call). c ∷ []) (slice_get calls (rounds_begun q)) [])
+    none_there o e = ap (λ (calls : List Call). option_map_or (λ (c : Call). c ∷ [])
+        (slice_get calls (rounds_begun q)) [])
         e
 
     each : (numbers : List ℕ) → flat_map (λ other. option_map_or (λ (c : Call). c ∷ [])
@@ -81,7 +82,8 @@ wait_refused q win true = refl
 wait_refused q win false = refl
 
 synchronisation_refused : (ranks rank : ℕ) (call : Call) (window win : ℕ) (s : Synchronisation) →
-    refusal_by (first_question ranks rank call window) (Synchronises win s) (step_by (course_of_synchronisation s)) ≡ None
+    refusal_by (first_question ranks rank call window) (Synchronises win s) (step_by (course_of_synchronisation s)) ≡
+    None
 synchronisation_refused ranks rank call window win (Fences asserts) =
     ap (λ (calls : List Call). refuse_if (list_any (is_differing_fence asserts) calls) AssertClass)
     (none_in_round ranks rank call window)

@@ -1,5 +1,5 @@
--- Where a rank stands in its calls: its items without touches are those of the calls that it has finished, and the first of
--- the call in which it is.
+-- Where a rank stands in its calls: its items without touches are those of the calls that it has finished, and the
+-- first of the call in which it is.
 use Rattle.std.proofs.Common.{◌≡◌, ℕ, zero, suc, ◌+◌, ◌≤◌, ◌⊎◌, Bool, true, false, cond, List, [], ◌∷◌, ◌++◌, length, Option, Some, None, refl, sym, ◌∙◌, ap, subst, arith, add-one, append-nil, append_assoc}
 use Rattle.std.specs.Prelude.{slice_get, not, IsSomeAnd}
 use Rattle.std.specs.List.{fold, AllByRecursion}
@@ -181,7 +181,8 @@ standing_longer stage rank rows new view (IsPast p) = IsPast (record {
 
 -- ---- ranks at a call
 
-pub past_has_none : (stage : Stage) (rank : ℕ) (rows : List Row) (view : View) (call : Call) → Past stage rank rows view →
+pub past_has_none : (stage : Stage) (rank : ℕ) (rows : List Row) (view : View) (call : Call) →
+    Past stage rank rows view →
     slice_get (calls_at stage rank) view.at ≡ Some call → ⊥
 past_has_none stage rank rows view call p here =
     let at = p.number in

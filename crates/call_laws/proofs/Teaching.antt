@@ -54,7 +54,8 @@ transfer_makes_none call t moves = moving_makes_none (action_of call) t moves
 -- a look-up is of a call that moves data
 pub look_up_moves : (known : RankWindows) (call : Call) → course_of known call ≡ LookUpAndIssue →
     (t : Transfer) × (transfer_of call ≡ Some t)
-look_up_moves known call course = found (transfer_of call) (sym (course_tells_transfer known call) ∙ ap is_transfers course)
+look_up_moves known call course = found (transfer_of call)
+    (sym (course_tells_transfer known call) ∙ ap is_transfers course)
   where
     found : (o : Option Transfer) → is_some o ≡ true → (t : Transfer) × (o ≡ Some t)
     found None e = absurd (cc e)
@@ -220,7 +221,8 @@ look_up_accepts stage agent call place here course =
 
 pub look_up_is_plain : (stage : Stage) (agent : Agent) (call : Call) (place : ℕ) → next_call stage agent ≡ Some call →
     course_at agent call ≡ LookUpAndIssue → IsPlain (calls_at stage agent.rank) (Entry agent.at place One)
-look_up_is_plain stage agent call place here course = TeachesNothing (look_up_accepts stage agent call place here course)
+look_up_is_plain stage agent call place here course =
+    TeachesNothing (look_up_accepts stage agent call place here course)
 
 -- an entry of step One that ends its call
 pub only_is_plain : (stage : Stage) (agent : Agent) (call : Call) (place : ℕ) → next_call stage agent ≡ Some call →

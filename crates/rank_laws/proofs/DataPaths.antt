@@ -49,11 +49,13 @@ moved_path drains stage agent middle next rows lows after move h =
     (still_path drains stage middle next rows lows after h)
 
 -- a delivery
-pub delivery_path : (drains : Bool) (stage : Stage) (agent next : Agent) (rows : List Row) (lows after : Lows) (at : ℕ) →
+pub delivery_path : (drains : Bool) (stage : Stage) (agent next : Agent) (rows : List Row) (lows after : Lows)
+    (at : ℕ) →
     IsDue drains stage agent at → (o : Option PendingAccess) →
     slice_get agent.pending at ≡ o → IsDelivered stage agent at o lows next after →
     Path drains stage (point agent rows lows) (point next rows after)
-delivery_path drains stage agent next rows lows after at due None e h = still_path drains stage agent next rows lows after h
+delivery_path drains stage agent next rows lows after at due None e h =
+    still_path drains stage agent next rows lows after h
 delivery_path drains stage agent next rows lows after at due (Some one) e h =
     subst (λ (a : Agent). Path drains stage (point agent rows lows) (point a rows after)) (sym h.2)
     (one_move drains stage (point agent rows lows) _ (DeliversOne at one h.0 after e due h.1))
@@ -71,17 +73,21 @@ ends_path : (drains : Bool) (stage : Stage) (agent next : Agent) (rows : List Ro
     IsMade stage (cond b (without_delivery agent) (without_delivery
     (record (kept no_shapes stage agent Ended) { ended = true }))) lows next after →
     Path drains stage (point agent rows lows) (point next rows after)
-ends_path drains stage agent next rows lows after none empty true e made = still_path drains stage agent next rows lows after made
-ends_path drains stage agent next rows lows after none empty false e made = moved_path drains stage agent _ next rows lows after
+ends_path drains stage agent next rows lows after none empty true e made =
+    still_path drains stage agent next rows lows after made
+ends_path drains stage agent next rows lows after none empty false e made =
+    moved_path drains stage agent _ next rows lows after
     (Ends none empty e) made
 
-end_path : (drains : Bool) (stage : Stage) (agent next : Agent) (rows : List Row) (lows after : Lows) → next_call stage agent ≡ None →
+end_path : (drains : Bool) (stage : Stage) (agent next : Agent) (rows : List Row) (lows after : Lows) →
+    next_call stage agent ≡ None →
     (pending : List PendingAccess) → agent.pending ≡ pending →
     IsMade stage (cond (not (eqb (length pending) 0)) (just_delivers agent 0)
     (cond agent.ended (without_delivery agent) (without_delivery
     (record (kept no_shapes stage agent Ended) { ended = true })))) lows next after →
     Path drains stage (point agent rows lows) (point next rows after)
-end_path drains stage agent next rows lows after none [] e made = ends_path drains stage agent next rows lows after none e
+end_path drains stage agent next rows lows after none [] e made =
+    ends_path drains stage agent next rows lows after none e
     agent.ended refl made
 end_path drains stage agent next rows lows after none (one ∷ rest) e made =
     let due : IsDue drains stage agent 0 = record {
@@ -133,7 +139,8 @@ pub its_transfer : (stage : Stage) (agent : Agent) (call : Call) (t : Transfer) 
 its_transfer stage agent call t here moves = rw here moves
 
 -- an access that is made pending and then delivered
-at_once_path : (drains : Bool) (stage : Stage) (agent next : Agent) (rows : List Row) (lows after : Lows) (call : Call) (t : Transfer)
+at_once_path : (drains : Bool) (stage : Stage) (agent next : Agent) (rows : List Row) (lows after : Lows)
+    (call : Call) (t : Transfer)
     (access : Access) → Issuing stage agent call t access →
     is_at_once stage.delay access ≡ true → (b : Bool) → nat_lt 0 access.len ≡ b →
     (let one : PendingAccess = record {
@@ -184,7 +191,8 @@ at_once_path drains stage agent next rows lows after call t access issuing once 
     (one_move drains stage (point agent rows lows) _ (IssuesWhole call t access [] after issuing once touches))
 
 -- an Issue, whether its access is touched at once or not
-issue_path : (drains : Bool) (stage : Stage) (agent next : Agent) (rows : List Row) (lows after : Lows) (call : Call) (t : Transfer)
+issue_path : (drains : Bool) (stage : Stage) (agent next : Agent) (rows : List Row) (lows after : Lows) (call : Call)
+    (t : Transfer)
     (access : Access) → Issuing stage agent call t access →
     (b : Bool) → is_at_once stage.delay access ≡ b →
     IsMade stage (record {
@@ -192,16 +200,19 @@ issue_path : (drains : Bool) (stage : Stage) (agent next : Agent) (rows : List R
       delivers = cond b (Some (length agent.pending)) None;
     }) lows next after →
     Path drains stage (point agent rows lows) (point next rows after)
-issue_path drains stage agent next rows lows after call t access issuing true e made = at_once_path drains stage agent next rows
+issue_path drains stage agent next rows lows after call t access issuing true e made =
+    at_once_path drains stage agent next rows
     lows after call t access issuing e (nat_lt 0 access.len) refl made
-issue_path drains stage agent next rows lows after call t access issuing false e made = moved_path drains stage agent _ next rows
+issue_path drains stage agent next rows lows after call t access issuing false e made =
+    moved_path drains stage agent _ next rows
     lows after (Issues call t access issuing e) made
 
 -- an Issue, where the call has a transfer and an access
 issues_path : (drains : Bool) (stage : Stage) (agent next : Agent) (rows : List Row) (lows after : Lows) (call : Call) →
     next_call stage agent ≡ Some call →
     ((Begins stage agent call × (course_at agent call ≡ OneIssue)) ⊎ (agent.entered ≡ true)) →
-    IsMade stage (issue stage agent call) lows next after → Path drains stage (point agent rows lows) (point next rows after)
+    IsMade stage (issue stage agent call) lows next after →
+    Path drains stage (point agent rows lows) (point next rows after)
 issues_path drains stage agent next rows lows after call here begun made =
     elim (transfer_of call) as (λ (o : Option Transfer). transfer_of call ≡ o →
     IsMade stage (option_map_or (λ t. option_map_or (issue_of stage agent t) (access_of agent.known.windows call)
@@ -230,9 +241,11 @@ item_path : (drains : Bool) (stage : Stage) (agent next : Agent) (rows : List Ro
 item_path drains stage agent next rows lows after call begins OneNull is made =
     moved_path drains stage agent _ next rows lows after (Passes call (Null agent.at) begins
     (subst (λ (c : Course). IsPlainItem c agent.at (Null agent.at)) (sym is) refl)) made
-item_path drains stage agent next rows lows after call begins OneIssue is made = issues_path drains stage agent next rows lows after
+item_path drains stage agent next rows lows after call begins OneIssue is made =
+    issues_path drains stage agent next rows lows after
     call begins.here (inl (begins, is)) made
-item_path drains stage agent next rows lows after call begins LookUpAndIssue is made = still_path drains stage agent next rows lows
+item_path drains stage agent next rows lows after call begins LookUpAndIssue is made =
+    still_path drains stage agent next rows lows
     after made
 item_path drains stage agent next rows lows after call begins OneFlush is made =
     moved_path drains stage agent _ next rows lows after (Passes call (Flush agent.at) begins
@@ -240,11 +253,14 @@ item_path drains stage agent next rows lows after call begins OneFlush is made =
 item_path drains stage agent next rows lows after call begins OneRequest is made =
     moved_path drains stage agent _ next rows lows after (Passes call (Request agent.at) begins
     (subst (λ (c : Course). IsPlainItem c agent.at (Request agent.at)) (sym is) refl)) made
-item_path drains stage agent next rows lows after call begins ArriveAndLeave is made = still_path drains stage agent next rows lows
+item_path drains stage agent next rows lows after call begins ArriveAndLeave is made =
+    still_path drains stage agent next rows lows
     after made
-item_path drains stage agent next rows lows after call begins EntryOrTested is made = still_path drains stage agent next rows lows
+item_path drains stage agent next rows lows after call begins EntryOrTested is made =
+    still_path drains stage agent next rows lows
     after made
-item_path drains stage agent next rows lows after call begins OneEntry is made = still_path drains stage agent next rows lows after
+item_path drains stage agent next rows lows after call begins OneEntry is made =
+    still_path drains stage agent next rows lows after
     made
 
 -- what is awaited is the end of a way
@@ -265,7 +281,8 @@ wait_path : (drains : Bool) (stage : Stage) (agent next : Agent) (rows : List Ro
     IsMade stage (wait_or_go_on o stage agent call) lows next after →
     Path drains stage (point agent rows lows) (point next rows after)
 wait_path drains stage agent next rows lows after call here new passes None e made =
-    item_path drains stage agent next rows lows after call (record { here = here; new = new; passes = passes; awaits = e })
+    item_path drains stage agent next rows lows after call
+    (record { here = here; new = new; passes = passes; awaits = e })
     (course_at agent call) refl made
 wait_path drains stage agent next rows lows after call here new passes (Some at) e made =
     let due : IsDue drains stage agent at = record {
@@ -280,13 +297,16 @@ judge_path : (drains : Bool) (stage : Stage) (agent next : Agent) (rows : List R
     (o : Option Class) → own_class agent.known call ≡ o →
     IsMade stage (judge o stage agent call) lows next after →
     Path drains stage (point agent rows lows) (point next rows after)
-judge_path drains stage agent next rows lows after call here new None e made = wait_path drains stage agent next rows lows after
+judge_path drains stage agent next rows lows after call here new None e made =
+    wait_path drains stage agent next rows lows after
     call here new e (awaited_by agent call) refl made
-judge_path drains stage agent next rows lows after call here new (Some class) e made = moved_path drains stage agent _ next rows
+judge_path drains stage agent next rows lows after call here new (Some class) e made =
+    moved_path drains stage agent _ next rows
     lows after (RefusesAlone call class here new e) made
 
 -- a draw, and then perhaps a delivery
-draw_path : (drains : Bool) (stage : Stage) (agent next : Agent) (rows : List Row) (lows after : Lows) → agent.entered ≡ false →
+draw_path : (drains : Bool) (stage : Stage) (agent next : Agent) (rows : List Row) (lows after : Lows) →
+    agent.entered ≡ false →
     is_seeded stage.delay ≡ true → (b : Bool) →
     (let state = stirred agent.draws in
     IsMade stage (record {
@@ -307,7 +327,8 @@ draw_path drains stage agent next rows lows after new seeded true made =
     paths_join drains stage (point agent rows lows) (point drawn rows lows) (point next rows after)
     (one_move drains stage (point agent rows lows) (point drawn rows lows) (Draws state new))
     (delivery_path drains stage drawn next rows lows after at due (slice_get agent.pending at) refl made)
-draw_path drains stage agent next rows lows after new seeded false made = moved_path drains stage agent _ next rows lows after
+draw_path drains stage agent next rows lows after new seeded false made =
+    moved_path drains stage agent _ next rows lows after
     (Draws (stirred agent.draws) new) made
 
 begin_path : (drains : Bool) (stage : Stage) (agent next : Agent) (rows : List Row) (lows after : Lows) (call : Call) →
@@ -319,16 +340,19 @@ begin_path drains stage agent next rows lows after call here new true e made =
     let seeded = both_left (is_seeded stage.delay) (not agent.drawn)
     (both_left (is_seeded stage.delay && not agent.drawn) (has_pending agent) e) in
     draw_path drains stage agent next rows lows after new seeded (drawn_from (stirred agent.draws) % 2 == 1) made
-begin_path drains stage agent next rows lows after call here new false e made = judge_path drains stage agent next rows lows after
+begin_path drains stage agent next rows lows after call here new false e made =
+    judge_path drains stage agent next rows lows after
     call here new (own_class agent.known call) refl made
 
 call_path : (drains : Bool) (stage : Stage) (agent next : Agent) (rows : List Row) (lows after : Lows) (call : Call) →
     next_call stage agent ≡ Some call → (b : Bool) → agent.entered ≡ b →
     IsMade stage (cond b (issue stage agent call) (begin stage agent call)) lows next after →
     Path drains stage (point agent rows lows) (point next rows after)
-call_path drains stage agent next rows lows after call here true e made = issues_path drains stage agent next rows lows after call
+call_path drains stage agent next rows lows after call here true e made =
+    issues_path drains stage agent next rows lows after call
     here (inr e) made
-call_path drains stage agent next rows lows after call here false e made = begin_path drains stage agent next rows lows after call
+call_path drains stage agent next rows lows after call here false e made =
+    begin_path drains stage agent next rows lows after call
     here e (must_draw stage agent) refl made
 
 -- a step without the board is a path

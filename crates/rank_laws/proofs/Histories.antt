@@ -42,7 +42,8 @@ is_none_of (Some x) e = absurd (cc e)
 
 -- ---- a step at the board
 
-refused_path : (drains : Bool) (stage : Stage) (agent : Agent) (rows : List Row) (lows : Lows) (call : Call) (course : Course)
+refused_path : (drains : Bool) (stage : Stage) (agent : Agent) (rows : List Row) (lows : Lows) (call : Call)
+    (course : Course)
     (class : _) → Begins stage agent call → course_at agent call ≡ course →
     has_entry course ≡ true → decide stage.script.ranks rows (next_row agent call (step_by course)) ≡ Refuse class →
     (after : Agent → Agent) → Path drains stage (point agent rows lows)
@@ -52,7 +53,8 @@ refused_path drains stage agent rows lows call course class begins is has answer
     (ap (λ (c : Course). decide stage.script.ranks rows (next_row agent call (step_by c))) is ∙ answer))
 
 -- the first entry of a call, by the board's answer
-first_path : (drains : Bool) (stage : Stage) (agent : Agent) (rows : List Row) (lows : Lows) (call : Call) (course : Course)
+first_path : (drains : Bool) (stage : Stage) (agent : Agent) (rows : List Row) (lows : Lows) (call : Call)
+    (course : Course)
     (after : Agent → Agent) → Begins stage agent call →
     course_at agent call ≡ course → has_entry course ≡ true → Entering stage agent call (step_by course) after →
     (d : Decision) → decide stage.script.ranks rows (next_row agent call (step_by course)) ≡ d →
@@ -80,7 +82,8 @@ arrive_path : (drains : Bool) (stage : Stage) (agent : Agent) (rows : List Row) 
     (d : Decision) → decide stage.script.ranks rows (next_row agent call Arrive) ≡ d →
     Path drains stage (point agent rows lows) (point_at (leave_if_entered stage call
     (enter_by d stage agent rows call Arrive opened)) lows)
-arrive_path drains stage agent rows lows call begins is (Refuse class) e = refused_path drains stage agent rows lows call
+arrive_path drains stage agent rows lows call begins is (Refuse class) e =
+    refused_path drains stage agent rows lows call
     ArriveAndLeave class begins is refl e opened
 arrive_path drains stage agent rows lows call begins is Allow e =
     let arrived = entered stage agent rows call Arrive opened in
@@ -93,7 +96,8 @@ arrive_path drains stage agent rows lows call begins is NotYet e =
     subst (λ b. Path drains stage (point agent rows lows) (point_at
     (cond b (leave stage agent rows call) (waiting agent rows)) lows)) (sym begins.new) Stays
 
-test_path : (drains : Bool) (stage : Stage) (agent : Agent) (rows : List Row) (lows : Lows) (call : Call) → Begins stage agent call →
+test_path : (drains : Bool) (stage : Stage) (agent : Agent) (rows : List Row) (lows : Lows) (call : Call) →
+    Begins stage agent call →
     course_at agent call ≡ EntryOrTested →
     (d : Decision) → decide stage.script.ranks rows (next_row agent call One) ≡ d →
     Path drains stage (point agent rows lows) (point_at (test_by d stage agent rows call) lows)
@@ -105,7 +109,8 @@ test_path drains stage agent rows lows call begins is NotYet e = one_move drains
     (Tests call begins is e)
 
 -- the first entry, by the items of its call
-entry_path : (drains : Bool) (stage : Stage) (agent : Agent) (rows : List Row) (lows : Lows) (call : Call) → Begins stage agent call →
+entry_path : (drains : Bool) (stage : Stage) (agent : Agent) (rows : List Row) (lows : Lows) (call : Call) →
+    Begins stage agent call →
     (course : Course) → course_at agent call ≡ course →
     Path drains stage (point agent rows lows) (point_at (first_entry course stage agent rows call) lows)
 entry_path drains stage agent rows lows call begins OneNull is = Stays
@@ -119,7 +124,8 @@ entry_path drains stage agent rows lows call begins ArriveAndLeave is =
     arrive_path drains stage agent rows lows call begins is (decide stage.script.ranks rows
     (next_row agent call Arrive)) refl
 entry_path drains stage agent rows lows call begins EntryOrTested is =
-    test_path drains stage agent rows lows call begins is (decide stage.script.ranks rows (next_row agent call One)) refl
+    test_path drains stage agent rows lows call begins is (decide stage.script.ranks rows (next_row agent call One))
+    refl
 entry_path drains stage agent rows lows call begins OneEntry is =
     first_path drains stage agent rows lows call OneEntry finished begins is refl (OnlyEntry begins (inl is))
     (decide stage.script.ranks rows (next_row agent call One)) refl
@@ -152,7 +158,8 @@ call_path drains stage agent rows lows call here false e tries = entry_path drai
     (begins_if stage agent call here e tries) (course_at agent call) refl
 
 -- a step at the board is a path
-pub look_path : (drains : Bool) (stage : Stage) (agent : Agent) (rows : List Row) (lows : Lows) → tries_entry stage agent ≡ true →
+pub look_path : (drains : Bool) (stage : Stage) (agent : Agent) (rows : List Row) (lows : Lows) →
+    tries_entry stage agent ≡ true →
     Path drains stage (point agent rows lows) (point_at (board_step stage agent rows) lows)
 look_path drains stage agent rows lows tries =
     elim (next_call stage agent) as (λ (o : Option Call). next_call stage agent ≡ o →

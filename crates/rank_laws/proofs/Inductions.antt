@@ -51,7 +51,8 @@ rank_kept drains stage rank p _ h (RefusesAlone call class here new refuses) = h
 rank_kept drains stage rank p _ h (IsRefused call class begins has answer) = h
 rank_kept drains stage rank p _ h (Tests call begins course answer) = h
 rank_kept drains stage rank p _ h (Passes call item begins plain) = h
-rank_kept drains stage rank p _ h (Enters call step after entering answer) = enters_same stage p call step after _ entering
+rank_kept drains stage rank p _ h (Enters call step after entering answer) =
+    enters_same stage p call step after _ entering
     ∙ h
 rank_kept drains stage rank p _ h (Issues call t access issuing later) = h
 rank_kept drains stage rank p _ h (IssuesWhole call t access items after issuing once touches) = h
@@ -90,13 +91,15 @@ life_holds drains stage seed rank P keeps h _ _ _ BeginsLife = (h, refl)
 life_holds drains stage seed rank P keeps h _ _ _ (Looks agent known others puts lows after life apart looks) =
     let old = life_holds drains stage seed rank P keeps h agent known lows life in (
       look_holds drains stage rank P keeps agent known others puts lows after old.1 old.0 apart looks,
-      look_holds drains stage rank (IsOf rank) (rank_kept drains stage rank) agent known others puts lows after old.1 old.1 apart
+      look_holds drains stage rank (IsOf rank) (rank_kept drains stage rank) agent known others puts lows after old.1
+          old.1 apart
           looks,
     )
 life_holds drains stage seed rank P keeps h _ _ _ (Steps agent next known lows after life tries made) =
     let old = life_holds drains stage seed rank P keeps h agent known lows life in
     let path = step_path drains stage agent next (rows_put known) lows after made in (
-      path_keeps drains stage P keeps (point agent (rows_put known) lows) (point next (rows_put known) after) old.0 path,
+      path_keeps drains stage P keeps (point agent (rows_put known) lows) (point next (rows_put known) after) old.0
+          path,
       path_keeps drains stage (IsOf rank) (rank_kept drains stage rank) (point agent (rows_put known) lows)
           (point next (rows_put known) after) old.1 path,
     )

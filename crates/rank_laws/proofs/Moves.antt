@@ -87,8 +87,8 @@ pub record Issuing (stage : Stage) (agent : Agent) (call : Call) (t : Transfer) 
   pub reaches : access_of agent.known.windows call ≡ Some access
   pub begun : (Begins stage agent call × (course_at agent call ≡ OneIssue)) ⊎ (agent.entered ≡ true)
 
--- Why a pending access is delivered. A rank that drains makes no other step any more, and delivers what is left; whether it
--- may be one is what drains says.
+-- Why a pending access is delivered. Only a rank that drains, and makes no other step any more, delivers what is left
+-- without another reason.
 pub data Reason (drains : Bool) (stage : Stage) (agent : Agent) (at : ℕ) : Type 0 where
   IsDrawn : is_seeded stage.delay ≡ true → Reason drains stage agent at
   IsAwaited : (call : Call) → next_call stage agent ≡ Some call → agent.entered ≡ false →
@@ -137,7 +137,10 @@ pub data Move (drains : Bool) (stage : Stage) (p : Point) : Point → Type 0 whe
   -- a testwin is false
   Tests : (call : Call) → Begins stage p.agent call → course_at p.agent call ≡ EntryOrTested →
       decide stage.script.ranks p.rows (next_row p.agent call One) ≡ NotYet →
-      Move drains stage p (record p { agent = (turned_away stage p.agent p.rows (Tested p.agent.at (length p.rows))).agent })
+      Move drains stage p (record p {
+        agent = (turned_away stage p.agent p.rows
+            (Tested p.agent.at (length p.rows))).agent;
+      })
   -- a null target, a flush or a request
   Passes : (call : Call) (item : Item) → Begins stage p.agent call →
       IsPlainItem (course_at p.agent call) p.agent.at item →
@@ -148,7 +151,8 @@ pub data Move (drains : Bool) (stage : Stage) (p : Point) : Point → Type 0 whe
       Move drains stage p (point_at (entered stage p.agent p.rows call step after) p.lows)
   -- an Issue whose access is pending from then on
   Issues : (call : Call) (t : Transfer) (access : Access) → Issuing stage p.agent call t access →
-      is_at_once stage.delay access ≡ false → Move drains stage p (record p { agent = with_issue stage p.agent access t })
+      is_at_once stage.delay access ≡ false → Move drains stage p
+      (record p { agent = with_issue stage p.agent access t })
   -- an Issue and its touches
   IssuesWhole : (call : Call) (t : Transfer) (access : Access) (items : List Item) (after : Lows) →
       Issuing stage p.agent call t access → is_at_once stage.delay access ≡ true →
@@ -199,6 +203,7 @@ move_weaker drains stage p _ (Delivers at one items after there due touches) =
     due_weaker (IsAtEnd none first) = record { closed = due.closed; free = due.free; reason = IsAtEnd none first }
     due_weaker (IsDrained may first) = record { closed = due.closed; free = due.free; reason = IsDrained refl first }
 
-pub paths_join : (drains : Bool) (stage : Stage) (p q r : Point) → Path drains stage p q → Path drains stage q r → Path drains stage p r
+pub paths_join : (drains : Bool) (stage : Stage) (p q r : Point) → Path drains stage p q → Path drains stage q r →
+    Path drains stage p r
 paths_join drains stage p q _ first Stays = first
 paths_join drains stage p q _ first (Goes s r second move) = Goes s r (paths_join drains stage p q s first second) move
