@@ -23,7 +23,8 @@ use Rattle.step_histories.proofs.CellGrowth.{kept_is_history}
 use Rattle.step_histories.proofs.Draining.{AreStopped, all_drain, run_stops}
 use Rattle.step_histories.proofs.LogGrowth.{touches_at}
 use Rattle.step_histories.proofs.Turns.{run_is_lived}
-use Rattle.step_histories.specs.Assembled.{StepRunIsAssembled, StepRunIsLawful, AssembledRunsOfScriptsAreLawful}
+use Rattle.step_histories.specs.Assembled.{StepRunIsAssembled, StepRunIsLawful}
+use Rattle.rank_laws.specs.Lawful.{AssembledRunsAreLawful}
 use Rattle.step_laws.proofs.Bound as bound
 use Rattle.step_laws.proofs.Draining.{run_is_drained}
 use Rattle.step_laws.specs.Ends.{last_world}
@@ -112,7 +113,7 @@ step_run_is_assembled script order delay seed formed =
     (all_drain script delay seed full.lived.puts world stopped) (run_is_drained script order delay seed formed)
 
 -- where assembled runs are lawful, the run on one thread is
-pub step_run_is_lawful : AssembledRunsOfScriptsAreLawful → StepRunIsLawful
+pub step_run_is_lawful : AssembledRunsAreLawful → StepRunIsLawful
 step_run_is_lawful law script order delay seed formed =
-    law script delay seed (step_run script order delay seed) formed
+    law script delay seed (step_run script order delay seed)
     (step_run_is_assembled script order delay seed formed)

@@ -4,7 +4,6 @@ use Rattle.std.specs.Prelude.{ℕ}
 use Rattle.rma_types.specs.declared.schedules.Delay.{Delay}
 use Rattle.rma_types.specs.declared.schedules.Order.{Order}
 use Rattle.rma_types.specs.declared.scripts.Script.{Script}
-use Rattle.rma_record.specs.declared.runs.Run.{Run}
 use Rattle.call_rules.specs.WellFormed.{IsWellFormed}
 use Rattle.lawful_runs.specs.LawfulRun.{IsLawful}
 use Rattle.rank_laws.specs.Assembled.{IsAssembled}
@@ -19,8 +18,3 @@ StepRunIsAssembled = (script : Script) (order : Order) (delay : Delay) (seed : �
 abbrev pub StepRunIsLawful : Type 0
 StepRunIsLawful = (script : Script) (order : Order) (delay : Delay) (seed : ℕ) → IsWellFormed script →
     IsLawful script delay (step_run script order delay seed)
-
--- an assembled run of a well-formed script is lawful for its delay
-abbrev pub AssembledRunsOfScriptsAreLawful : Type 0
-AssembledRunsOfScriptsAreLawful = (script : Script) (delay : Delay) (seed : ℕ) (run : Run) → IsWellFormed script →
-    IsAssembled script delay seed run → IsLawful script delay run
