@@ -18,7 +18,7 @@ use Rattle.board_rules.specs.Edges.{events_after}
 use Rattle.board_rules.specs.Entries.{Row}
 use Rattle.board_rules.specs.Questions.{question}
 use Rattle.lawful_runs.specs.Accesses.{EachPair}
-use Rattle.lawful_runs.specs.BoardLaw.{AreAllowed, HasEntries, NamesItsCall, NamesCallOf, EntryAt, IsBefore, moment_by, moments_in}
+use Rattle.lawful_runs.specs.BoardLaw.{AreAllowed, HasEntries, HasLawfulBoard, NamesItsCall, NamesCallOf, EntryAt, IsBefore, moment_by, moments_in}
 use Rattle.lawful_runs.specs.LawfulRun.{IsLawful}
 use Rattle.lawful_runs.specs.Logs.{Named, log_of, calls_of, named_from, named_in, named_logs, named_items, is_entry_at, is_named_entry_at, is_some_entry, entry_at, entries_of, row_by, row_of, rows_of}
 use Rattle.order_rules.specs.Before.{NamedEvent, named_event, events_in}
@@ -209,11 +209,15 @@ events_zipped script run rows before place (x ∷ es) long split all allowed =
     (λ longer long split allowed. events_zipped script run rows longer (place + 1) es long split all.1 allowed))
     split allowed
 
+-- the events of a run whose board is lawful
+pub events_on_board : (script : Script) (run : Run) → length run.logs ≡ script.ranks → HasLawfulBoard script run →
+    AllFrom (IsEventAt script run (rows_of script run)) 0 (events_in script run)
+events_on_board script run ranks board =
+    events_zipped script run (rows_of script run) [] 0 (entries_of run) refl refl (entries_placed script run ranks board.entries) board.allowed
+
 -- the events of a lawful run
 pub events_placed : (script : Script) (delay : Delay) (run : Run) → IsLawful script delay run → AllFrom (IsEventAt script run (rows_of script run)) 0 (events_in script run)
-events_placed script delay run lawful =
-    events_zipped script run (rows_of script run) [] 0 (entries_of run) refl refl
-    (entries_placed script run lawful.ranks lawful.board.entries) lawful.board.allowed
+events_placed script delay run lawful = events_on_board script run lawful.ranks lawful.board
 
 -- ---- the places of one log ascend
 

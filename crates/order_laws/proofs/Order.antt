@@ -11,12 +11,13 @@ use Rattle.rma_record.specs.declared.runs.Run.{Run}
 use Rattle.board_rules.specs.Edges.{Event, is_edge}
 use Rattle.board_rules.specs.Entries.{Row, Act, acts, acts_after, window_of}
 use Rattle.board_rules.specs.Questions.{question}
+use Rattle.lawful_runs.specs.BoardLaw.{HasLawfulBoard}
 use Rattle.lawful_runs.specs.LawfulRun.{IsLawful}
 use Rattle.lawful_runs.specs.Logs.{log_of, rows_of}
 use Rattle.order_rules.specs.Before.{NamedEvent, events_in, is_same_id, events_named, is_edge_between, leads_to, Before, Same, InLog, Across}
 use Rattle.order_laws.specs.OrderLaws.{IsTransitive, AgreesWithLogs, EdgesAscend}
 use Rattle.order_laws.proofs.Edges.{no_edge_back}
-use Rattle.order_laws.proofs.Events.{AllFrom, from_in, IsEventAt, events_placed, places_ascend}
+use Rattle.order_laws.proofs.Events.{AllFrom, from_in, IsEventAt, events_on_board, places_ascend}
 use Rattle.order_laws.proofs.Members.{In, any_in, in_any, in_filter, filter_in, contains_in}
 
 -- ---- transitive
@@ -71,20 +72,20 @@ acts_more before (x ∷ xs) ys =
     let rest = acts_more (before ++ x ∷ []) xs ys in
     (rest.0, ap (λ l. record { row = x; window = window_of before x } ∷ l) rest.1)
 
-module _ (script : Script) (delay : Delay) (run : Run) (lawful : IsLawful script delay run) where
+module _ (script : Script) (run : Run) (ranks : length run.logs ≡ script.ranks) (board : HasLawfulBoard script run) where
   placed : AllFrom (IsEventAt script run (rows_of script run)) 0 (events_in script run)
-  placed = events_placed script delay run lawful
+  placed = events_on_board script run ranks board
 
   -- an entry with its place
-  pub event_at : (x : NamedEvent) → In x (events_in script run) → IsEventAt script run (rows_of script run) x.event.place x
-  event_at x m =
+  pub event_on_board : (x : NamedEvent) → In x (events_in script run) → IsEventAt script run (rows_of script run) x.event.place x
+  event_on_board x m =
       let one = from_in (IsEventAt script run (rows_of script run)) 0 (events_in script run) placed m in
       let same : 0 + one.0 ≡ x.event.place = sym (ap (λ (e : Event). e.place) one.1.event) in
       subst (λ p. IsEventAt script run (rows_of script run) p x) same one.1
 
   -- two entries of one place are one
-  pub same_event : (x y : NamedEvent) → In x (events_in script run) → In y (events_in script run) → x.event.place ≡ y.event.place → x ≡ y
-  same_event x y of_x of_y same =
+  pub same_on_board : (x y : NamedEvent) → In x (events_in script run) → In y (events_in script run) → x.event.place ≡ y.event.place → x ≡ y
+  same_on_board x y of_x of_y same =
       let one = from_in (IsEventAt script run (rows_of script run)) 0 (events_in script run) placed of_x in
       let two = from_in (IsEventAt script run (rows_of script run)) 0 (events_in script run) placed of_y in
       let first : x.event.place ≡ 0 + one.0 = ap (λ (e : Event). e.place) one.1.event in
@@ -93,10 +94,10 @@ module _ (script : Script) (delay : Delay) (run : Run) (lawful : IsLawful script
       let got : Some x ≡ Some y = sym one.2 ∙ ap (slice_get (events_in script run)) at ∙ two.2 in
       cc got
 
-  pub edge_ascends : (a b : NamedEvent) → In a (events_in script run) → In b (events_in script run) → is_edge_between a b ≡ true → a.event.place < b.event.place
-  edge_ascends a b of_a of_b h =
-      let x = event_at a of_a in
-      let y = event_at b of_b in
+  pub edge_ascends_on_board : (a b : NamedEvent) → In a (events_in script run) → In b (events_in script run) → is_edge_between a b ≡ true → a.event.place < b.event.place
+  edge_ascends_on_board a b of_a of_b h =
+      let x = event_on_board a of_a in
+      let y = event_on_board b of_b in
       elim (cases_lt a.event.place b.event.place) [
         | inl below ↦ below
         | inr late ↦
@@ -108,6 +109,18 @@ module _ (script : Script) (delay : Delay) (run : Run) (lawful : IsLawful script
             absurd (no_edge_back (question script.ranks x.before x.row) (question script.ranks y.before y.row) grown.0 a.event.place b.event.place x.row.step y.row.step
             entries (omega (arith, x.rank, x.within)) late y.allowed edge)
       ]
+
+module _ (script : Script) (delay : Delay) (run : Run) (lawful : IsLawful script delay run) where
+  -- an entry with its place
+  pub event_at : (x : NamedEvent) → In x (events_in script run) → IsEventAt script run (rows_of script run) x.event.place x
+  event_at x m = event_on_board script run lawful.ranks lawful.board x m
+
+  -- two entries of one place are one
+  pub same_event : (x y : NamedEvent) → In x (events_in script run) → In y (events_in script run) → x.event.place ≡ y.event.place → x ≡ y
+  same_event x y of_x of_y same = same_on_board script run lawful.ranks lawful.board x y of_x of_y same
+
+  pub edge_ascends : (a b : NamedEvent) → In a (events_in script run) → In b (events_in script run) → is_edge_between a b ≡ true → a.event.place < b.event.place
+  edge_ascends a b of_a of_b h = edge_ascends_on_board script run lawful.ranks lawful.board a b of_a of_b h
 
   -- in one log places ascend
   pub log_ascends : (a b : NamedEvent) → In a (events_in script run) → In b (events_in script run) → a.id.rank ≡ b.id.rank → a.id.index < b.id.index → a.event.place < b.event.place

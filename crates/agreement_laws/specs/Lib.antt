@@ -1,0 +1,2 @@
+-- That touches keep the order of a run.
+pub mod AgreementLaws

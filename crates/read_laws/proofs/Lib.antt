@@ -1,0 +1,23 @@
+-- What gets and loads read.
+pub mod Bytes
+pub mod Begun
+pub mod Changes
+pub mod Folds
+pub mod Counts
+pub mod Elements
+pub mod Firsts
+pub mod Lists
+pub mod InMemory
+pub mod Known
+pub mod Leaves
+pub mod Meetings
+pub mod Names
+pub mod Ordered
+pub mod Orderly
+pub mod Parts
+pub mod Places
+pub mod Points
+pub mod Touches
+pub mod Transfers
+pub mod Values
+pub mod Waits

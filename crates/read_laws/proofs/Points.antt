@@ -1,0 +1,405 @@
+-- The touches of an access are before its done points.
+use Rattle.std.proofs.Common.{◌≡◌, ℕ, zero, suc, ◌+◌, ◌%◌, ◌<◌, ◌≤◌, ◌⊎◌, inl, inr, Bool, true, false, not, List, [], ◌∷◌, take, Option, Some, None, refl, ap, sym, ◌∙◌, subst, arith}
+use Rattle.std.specs.Prelude.{◌&&◌, ◌||◌, ◌==◌, slice_get, nat_lt}
+use Rattle.std.specs.List.{find, flat_map, AllByRecursion}
+use Rattle.std.specs.Option.{option_map_or}
+use Rattle.std.proofs.lemmas.Bool.{and_parts, and_from, or_cases, not-true, eqb-true, eq-eqb, ltb-true}
+use Rattle.rma_types.specs.declared.accesses.Id.{Id}
+use Rattle.rma_types.specs.declared.accesses.Step.{Step}
+use Rattle.rma_types.specs.declared.accesses.Step.TheVariants.{Arrive, Leave, One}
+use Rattle.rma_types.specs.declared.calls.Call.{Call}
+use Rattle.rma_types.specs.declared.schedules.Delay.{Delay}
+use Rattle.rma_types.specs.declared.schedules.Delay.TheVariants.{Seeded}
+use Rattle.rma_types.specs.declared.scripts.Script.{Script}
+use Rattle.rma_record.specs.declared.items.Item.{Item}
+use Rattle.rma_record.specs.declared.items.Item.TheVariants.{Touch}
+use Rattle.rma_record.specs.declared.runs.Run.{Run}
+use Rattle.board_rules.specs.Entries.{Fence, Collective, is_arrive, is_collective, collective_in, fence_or_none, is_same_collective}
+use Rattle.board_rules.specs.Posts.{is_complete}
+use Rattle.call_rules.specs.Actions.{Action, Creates, Frees, Attaches, Detaches, Synchronises, Meets, Moves, EndsRequest, Synchronisation, Fences, Posts, Starts, Completes, Waits, Locks, Unlocks, Flushes, Syncs, action_of, synchronisation_in, synchronisation_of, window_in_action, window_named}
+use Rattle.call_rules.specs.Pieces.{numbers_from}
+use Rattle.call_rules.specs.WellFormed.{IsWellFormed}
+use Rattle.lawful_runs.specs.Accesses.{Touching, issued_by, issued_from}
+use Rattle.lawful_runs.specs.LawfulRun.{IsLawful, IsLawfulLog, rank_in}
+use Rattle.lawful_runs.specs.Logs.{Named, log_of, calls_of, named_items}
+use Rattle.lawful_runs.specs.Stages.{known_at}
+use Rattle.rank_rules.specs.Courses.{ArriveAndLeave, EntryOrTested, OneEntry, OneRequest, Course, course_of, course_of_action, course_of_synchronisation}
+use Rattle.rank_rules.specs.declared.pending.PendingAccess.{PendingAccess}
+use Rattle.rank_rules.specs.Epochs.{AccessEpoch, Idle, FenceUnused, FenceUsed, StartTo, LocksAt, LockAll}
+use Rattle.rank_rules.specs.Pending.{is_on, is_towards, completes_access, is_requested_by, waits_for, must_wait}
+use Rattle.rank_rules.specs.Requests.{Requests}
+use Rattle.rank_rules.specs.Windows.{RankWindows, Window, window_of_name}
+use Rattle.order_rules.specs.Before.{Before, Same, InLog, Across, events_in, leads_to}
+use Rattle.order_rules.specs.CallSteps.{CallStep, IssuedAccess, known_before, step_by, call_step, steps_of_item, steps_in, is_numbered, is_step_on, issued_access, accesses_of, accesses_in, is_later_at_origin, is_later_on_window}
+use Rattle.order_rules.specs.DonePoints.{Timeline, timeline_of, arrives_at_fence, completes_start, next_step, follows_next, completes_at_target, is_completed_at_target, is_done_by_epoch, completes_at_origin, is_completed_at_origin, request_ended, ends_its_request, is_done_at}
+use Rattle.order_rules.specs.Roles.{is_rma_read, role_of}
+use Rattle.order_laws.proofs.Events.{named_item_in}
+use Rattle.order_laws.proofs.Members.{In, here, there, flat_map_in, map_in, some_of}
+use Rattle.read_laws.proofs.Firsts.{begins_with_step}
+use Rattle.read_laws.proofs.Folds.{find_in}
+use Rattle.read_laws.proofs.Leaves.{LeavesCollective, leaves_are, step_begins, step_initial}
+use Rattle.read_laws.proofs.Lists.{each_get}
+use Rattle.read_laws.proofs.Names.{name_of_window}
+use Rattle.read_laws.proofs.Touches.{IsTouch, issued_is, issued_at_some, numbers_in}
+use Rattle.read_laws.proofs.Waits.{IsIssuedAt, WaitsFor, touched_before}
+
+-- ---- accesses, touches and steps, with their items
+
+-- an access of a run, with its Issue
+pub record IsAccess (script : Script) (run : Run) (a : IssuedAccess) : Type 0 where
+  pub within : a.id.rank < script.ranks
+  pub index : a.issued.index ≡ a.id.index
+  pub item : Item
+  pub logged : slice_get (log_of run a.id.rank) a.issued.index ≡ Some item
+  pub issued : issued_by (calls_of script a.id.rank) a.issued.index item ≡ Some a.issued
+
+one_access : (script : Script) (run : Run) (rank : ℕ) (one : PendingAccess) → rank < script.ranks →
+    In one (issued_from (calls_of script rank) 0 (log_of run rank)) → IsAccess script run (issued_access script run rank one)
+one_access script run rank one within m =
+    let at = issued_at_some (calls_of script rank) 0 (log_of run rank) one m in
+    let is = issued_is (calls_of script rank) (0 + at.0) at.1 one at.3 in
+    let same : at.0 ≡ one.index = omega (arith, is.at) in
+    record {
+      within = within;
+      index = refl;
+      item = at.1;
+      logged = subst (λ k. slice_get (log_of run rank) k ≡ Some at.1) same at.2;
+      issued = subst (λ k. issued_by (calls_of script rank) k at.1 ≡ Some one) (sym is.at) at.3;
+    }
+
+pub access_is : (script : Script) (run : Run) {a : IssuedAccess} → In a (accesses_in script run) → IsAccess script run a
+access_is script run m =
+    let rank = flat_map_in (accesses_of script run) (numbers_from 0 script.ranks) m in
+    let below = numbers_in 0 script.ranks rank.0 rank.1 in
+    let one = map_in (issued_access script run rank.0) (issued_from (calls_of script rank.0) 0 (log_of run rank.0)) rank.2 in
+    subst (IsAccess script run) one.2 (one_access script run rank.0 one.0 (omega (arith, below.1)) one.1)
+
+-- a touch of an access
+pub record IsTouchBy (script : Script) (run : Run) (a : IssuedAccess) (u : Touching) : Type 0 where
+  pub touch : IsTouch script run u
+  pub rank : u.id.rank ≡ a.id.rank
+  pub issue : u.issue ≡ a.issued.index
+
+-- the item of the touch in the log of its access
+pub touch_logged : (script : Script) (run : Run) (a : IssuedAccess) (u : Touching) → IsTouchBy script run a u →
+    slice_get (log_of run a.id.rank) u.id.index ≡ Some (Touch a.issued.index u.element u.cell u.place u.bits)
+touch_logged script run a u by =
+    subst (λ r. slice_get (log_of run r) u.id.index ≡ Some (Touch a.issued.index u.element u.cell u.place u.bits)) by.rank
+    (by.touch.item.logged ∙ ap (λ i. Some (Touch i u.element u.cell u.place u.bits)) by.issue)
+
+-- a step of a run, with its item
+pub record IsStep (script : Script) (run : Run) (x : CallStep) : Type 0 where
+  pub item : Item
+  pub number : ℕ
+  pub logged : slice_get (log_of run x.id.rank) x.id.index ≡ Some item
+  pub step_is : step_by item ≡ Some (number, x.step)
+  pub call_is : slice_get (calls_of script x.id.rank) number ≡ Some x.call
+  pub known_is : x.known ≡ known_before script run x.id
+
+listed_step : (script : Script) (run : Run) (one : Named) {x : CallStep} → In x (steps_of_item script run one) →
+    slice_get (log_of run one.id.rank) one.id.index ≡ Some one.item → IsStep script run x
+listed_step script run one {x} m logged = by_step (step_by one.item) refl m
+  where
+    by_call : (number : ℕ) (step : Step) (o : Option Call) → step_by one.item ≡ Some (number, step) →
+        slice_get (calls_of script one.id.rank) number ≡ o →
+        In x (option_map_or (λ call. record { id = one.id; call = call; step = step; known = known_before script run one.id } ∷ []) o []) →
+        IsStep script run x
+    by_call number step None e of m = elim m [ ]
+    by_call number step (Some call) e of m = subst (IsStep script run) (only m) (record {
+      item = one.item;
+      number = number;
+      logged = logged;
+      step_is = e;
+      call_is = of;
+      known_is = refl;
+    })
+      where
+        only : {y : CallStep} → In x (y ∷ []) → y ≡ x
+        only here = refl
+        only (there k) = elim k [ ]
+
+    by_step : (o : Option (ℕ × Step)) → step_by one.item ≡ o → In x (option_map_or (call_step script run one.id) o []) → IsStep script run x
+    by_step None e m = elim m [ ]
+    by_step (Some (number, step)) e m = by_call number step (slice_get (calls_of script one.id.rank) number) e refl m
+
+pub step_is : (script : Script) (run : Run) {x : CallStep} → In x (steps_in script run) → IsStep script run x
+step_is script run m =
+    let one = flat_map_in (steps_of_item script run) (named_items run) m in
+    listed_step script run one.0 one.2 (named_item_in run one.1).1
+
+-- ---- what a call is
+
+synchronises : (a : Action) (s : Synchronisation) → synchronisation_in a ≡ Some s → (win : ℕ) × (a ≡ Synchronises win s)
+synchronises (Creates creation) s e = absurd (cc e)
+synchronises (Frees win) s e = absurd (cc e)
+synchronises (Attaches win base bytes) s e = absurd (cc e)
+synchronises (Detaches win base) s e = absurd (cc e)
+synchronises (Synchronises win other) s e = let is : other ≡ s = cc e in (win, ap (Synchronises win) is)
+synchronises Meets s e = absurd (cc e)
+synchronises (Moves t) s e = absurd (cc e)
+synchronises (EndsRequest req) s e = absurd (cc e)
+
+ends_request : (a : Action) (req : ℕ) → request_ended a ≡ Some req → a ≡ EndsRequest req
+ends_request (Creates creation) req e = absurd (cc e)
+ends_request (Frees win) req e = absurd (cc e)
+ends_request (Attaches win base bytes) req e = absurd (cc e)
+ends_request (Detaches win base) req e = absurd (cc e)
+ends_request (Synchronises win s) req e = absurd (cc e)
+ends_request Meets req e = absurd (cc e)
+ends_request (Moves t) req e = absurd (cc e)
+ends_request (EndsRequest other) req e = let is : other ≡ req = cc e in ap EndsRequest is
+
+abbrev is_fence : Synchronisation → Bool
+is_fence (Fences asserts) = true
+is_fence (Posts group asserts) = false
+is_fence (Starts group asserts) = false
+is_fence Completes = false
+is_fence (Waits tests) = false
+is_fence (Locks kind target asserts) = false
+is_fence (Unlocks target) = false
+is_fence (Flushes target local) = false
+is_fence Syncs = false
+
+fence_alone : (s : Synchronisation) → is_fence s ≡ false → course_of_synchronisation s ≡ ArriveAndLeave → ⊥
+fence_alone (Fences asserts) other e = cc other
+fence_alone (Posts group asserts) other e = cc e
+fence_alone (Starts group asserts) other e = cc e
+fence_alone Completes other e = cc e
+fence_alone (Waits true) other e = cc e
+fence_alone (Waits false) other e = cc e
+fence_alone (Locks kind target asserts) other e = cc e
+fence_alone (Unlocks target) other e = cc e
+fence_alone (Flushes target local) other e = cc e
+fence_alone Syncs other e = cc e
+
+-- such a call is no collective one
+apart_from_all : (call : Call) (s : Synchronisation) → synchronisation_of call ≡ Some s → is_fence s ≡ false →
+    (known : RankWindows) → course_of known call ≡ ArriveAndLeave → ⊥
+apart_from_all call s e other known course =
+    let is = synchronises (action_of call) s e in
+    fence_alone s other (sym (ap (course_of_action known) is.1) ∙ course)
+
+request_apart : (call : Call) (req : ℕ) → request_ended (action_of call) ≡ Some req →
+    (known : RankWindows) → course_of known call ≡ ArriveAndLeave → ⊥
+request_apart call req e known course =
+    let is : OneRequest ≡ ArriveAndLeave = sym (ap (course_of_action known) (ends_request (action_of call) req e)) ∙ course in cc is
+
+-- ---- the touches of an access before a step
+
+module _ (script : Script) (delay : Delay) (run : Run) (formed : IsWellFormed script) (lawful : IsLawful script delay run) where
+  before_step : (a : IssuedAccess) (u : Touching) (y : CallStep) → IsAccess script run a → IsTouchBy script run a u → IsStep script run y →
+      is_later_at_origin a y ≡ true → begins_with_step y.step ≡ true → must_wait y.known.requests y.call a.issued ≡ true → Before script run u.id y.id
+  before_step a u y access by step later begins waits =
+      let parts = and_parts (y.id.rank == a.id.rank) (nat_lt a.id.index y.id.index) later in
+      let rank : y.id.rank ≡ a.id.rank = eqb-true y.id.rank a.id.rank parts.0 in
+      let above : a.id.index < y.id.index = ltb-true a.id.index y.id.index parts.1 in
+      let first = step_initial step.item step.number y.step step.step_is begins in
+      let known = ap (λ k. must_wait k.requests y.call a.issued) step.known_is in
+      let below = touched_before (rank_in script delay run a.id.rank) (log_of run a.id.rank) a.issued y.id.index
+      (lawful.logs a.id.rank access.within)
+      (record { item = access.item; logged = access.logged; issued = access.issued })
+      (omega (arith, above, access.index))
+      (record {
+        item = step.item;
+        number = step.number;
+        call = y.call;
+        logged = subst (λ r. slice_get (log_of run r) y.id.index ≡ Some step.item) rank step.logged;
+        initial = first.0;
+        of_call = first.1;
+        call_is = subst (λ r. slice_get (calls_of script r) step.number ≡ Some y.call) rank step.call_is;
+        waits = subst (λ r. must_wait (known_at (rank_in script Seeded run r) (take y.id.index (log_of run r))).requests y.call a.issued ≡ true)
+            rank (sym known ∙ waits);
+      })
+      u.id.index u.element u.cell u.place u.bits (touch_logged script run a u by) in
+      InLog Same (by.rank ∙ sym rank, below)
+
+  -- the step is on the window of the access by its name
+  on_window : (a : IssuedAccess) (y : CallStep) (win : ℕ) → IsStep script run y → is_step_on a.issued.access.window y ≡ true →
+      window_named y.call ≡ Some win → is_on win a.issued ≡ true
+  on_window a y win step on named =
+      let numbered : is_numbered y.known a.issued.access.window win ≡ true =
+      sym (ap (λ o. option_map_or (is_numbered y.known a.issued.access.window) o false) named) ∙ on in
+      let window = some_of (λ (w : Window). w.number == a.issued.access.window) (window_of_name y.known.windows win) numbered in
+      let name = name_of_window (rank_in script Seeded run y.id.rank) (take y.id.index (log_of run y.id.rank)) win window.0 formed
+      (sym (ap (λ k. window_of_name k.windows win) step.known_is) ∙ window.1) in
+      let number : window.0.number ≡ a.issued.access.window = eqb-true window.0.number a.issued.access.window window.2 in
+      eq-eqb (a.issued.access.window % 32) win (sym (ap (λ n. n % 32) number) ∙ name)
+
+  waits_by : (a : IssuedAccess) (y : CallStep) (s : Synchronisation) → IsStep script run y → is_step_on a.issued.access.window y ≡ true →
+      synchronisation_of y.call ≡ Some s → completes_access s a.issued ≡ true → must_wait y.known.requests y.call a.issued ≡ true
+  waits_by a y s step on e completes =
+      let is = synchronises (action_of y.call) s e in
+      let named : window_named y.call ≡ Some is.0 = ap window_in_action is.1 in
+      ap (λ x. waits_for y.known.requests x a.issued) is.1
+      ∙ and_from (is_on is.0 a.issued) (completes_access s a.issued) (on_window a y is.0 step on named) completes
+
+  -- a synchronisation that completes the access, and is no fence, comes after its touches
+  before_completing : (a : IssuedAccess) (u : Touching) (y : CallStep) (s : Synchronisation) → IsAccess script run a → IsTouchBy script run a u →
+      IsStep script run y → is_later_on_window a y ≡ true → synchronisation_of y.call ≡ Some s → is_fence s ≡ false →
+      completes_access s a.issued ≡ true → Before script run u.id y.id
+  before_completing a u y s access by step later e other completes =
+      let parts = and_parts (is_later_at_origin a y) (is_step_on a.issued.access.window y) later in
+      let same = and_parts (y.id.rank == a.id.rank) (nat_lt a.id.index y.id.index) parts.0 in
+      let rank : y.id.rank ≡ a.id.rank = eqb-true y.id.rank a.id.rank same.0 in
+      let leaves = each_get (LeavesCollective (calls_of script a.id.rank)) (log_of run a.id.rank) y.id.index step.item
+      (leaves_are (rank_in script delay run a.id.rank) (log_of run a.id.rank) (lawful.logs a.id.rank access.within).calls)
+      (subst (λ r. slice_get (log_of run r) y.id.index ≡ Some step.item) rank step.logged) in
+      let begins = step_begins (calls_of script a.id.rank) step.item step.number y.step y.call step.step_is leaves
+      (subst (λ r. slice_get (calls_of script r) step.number ≡ Some y.call) rank step.call_is) (apart_from_all y.call s e other) in
+      before_step a u y access by step parts.0 begins (waits_by a y s step parts.1 e completes)
+
+  before_request : (a : IssuedAccess) (u : Touching) (y : CallStep) (req : ℕ) → IsAccess script run a → IsTouchBy script run a u →
+      IsStep script run y → is_later_at_origin a y ≡ true → request_ended (action_of y.call) ≡ Some req → a.issued.fetches ≡ true →
+      is_requested_by y.known.requests req a.issued ≡ true → Before script run u.id y.id
+  before_request a u y req access by step later e fetches requested =
+      let same = and_parts (y.id.rank == a.id.rank) (nat_lt a.id.index y.id.index) later in
+      let rank : y.id.rank ≡ a.id.rank = eqb-true y.id.rank a.id.rank same.0 in
+      let leaves = each_get (LeavesCollective (calls_of script a.id.rank)) (log_of run a.id.rank) y.id.index step.item
+      (leaves_are (rank_in script delay run a.id.rank) (log_of run a.id.rank) (lawful.logs a.id.rank access.within).calls)
+      (subst (λ r. slice_get (log_of run r) y.id.index ≡ Some step.item) rank step.logged) in
+      let begins = step_begins (calls_of script a.id.rank) step.item step.number y.step y.call step.step_is leaves
+      (subst (λ r. slice_get (calls_of script r) step.number ≡ Some y.call) rank step.call_is) (request_apart y.call req e) in
+      before_step a u y access by step later begins
+      (ap (λ x. waits_for y.known.requests x a.issued) (ends_request (action_of y.call) req e)
+      ∙ and_from a.issued.fetches (is_requested_by y.known.requests req a.issued) fetches requested)
+
+  -- ---- the done points
+
+  -- the next step of the origin that passes a test, from which an edge leads to a step
+  follows : (a : IssuedAccess) (x : CallStep) (test : CallStep → Bool) → follows_next (timeline_of script run) test a x ≡ true →
+      (y : CallStep) × In y (steps_in script run) × (is_later_on_window a y ≡ true) × (test y ≡ true)
+      × (leads_to (events_in script run) y.id x.id ≡ true)
+  follows a x test h =
+      let next = some_of (λ (y : CallStep). leads_to (events_in script run) y.id x.id) (next_step (timeline_of script run) test a) h in
+      let is = find_in (λ y. is_later_on_window a y && test y) (steps_in script run) next.0 next.1 in
+      let parts = and_parts (is_later_on_window a next.0) (test next.0) is.1 in
+      (next.0, is.0, parts.0, parts.1, next.2)
+
+  after_fence : (a : IssuedAccess) (u : Touching) (x : CallStep) → IsAccess script run a → IsTouchBy script run a u →
+      follows_next (timeline_of script run) arrives_at_fence a x ≡ true → Before script run u.id x.id
+  after_fence a u x access by h =
+      let y = follows a x arrives_at_fence h in
+      let step = step_is script run y.1 in
+      let later = and_parts (is_later_at_origin a y.0) (is_step_on a.issued.access.window y.0) y.2 in
+      let arrives = and_parts (is_arrive y.0.step) (is_collective Fence y.0.call) y.3 in
+      let s = fence_of (action_of y.0.call) arrives.1 in
+      Across (before_step a u y.0 access by step later.0 (arrive_begins y.0.step arrives.0)
+      (waits_by a y.0 (Fences s.0) step later.1 s.1 refl)) y.4
+    where
+      arrive_begins : (step : Step) → is_arrive step ≡ true → begins_with_step step ≡ true
+      arrive_begins Arrive h = refl
+      arrive_begins Leave h = absurd (cc h)
+      arrive_begins One h = refl
+
+      fence_in : (s : Synchronisation) → option_map_or (is_same_collective Fence) (fence_or_none s) false ≡ true →
+          (asserts : _) × (s ≡ Fences asserts)
+      fence_in (Fences asserts) h = (asserts, refl)
+      fence_in (Posts group asserts) h = absurd (cc h)
+      fence_in (Starts group asserts) h = absurd (cc h)
+      fence_in Completes h = absurd (cc h)
+      fence_in (Waits tests) h = absurd (cc h)
+      fence_in (Locks kind target asserts) h = absurd (cc h)
+      fence_in (Unlocks target) h = absurd (cc h)
+      fence_in (Flushes target local) h = absurd (cc h)
+      fence_in Syncs h = absurd (cc h)
+
+      fence_of : (action : Action) → option_map_or (is_same_collective Fence) (collective_in action) false ≡ true →
+          (asserts : _) × (synchronisation_in action ≡ Some (Fences asserts))
+      fence_of (Creates creation) h = absurd (cc h)
+      fence_of (Frees win) h = absurd (cc h)
+      fence_of (Attaches win base bytes) h = absurd (cc h)
+      fence_of (Detaches win base) h = absurd (cc h)
+      fence_of (Synchronises win s) h = let is = fence_in s h in (is.0, ap Some is.1)
+      fence_of Meets h = absurd (cc h)
+      fence_of (Moves t) h = absurd (cc h)
+      fence_of (EndsRequest req) h = absurd (cc h)
+
+  after_complete : (a : IssuedAccess) (u : Touching) (x : CallStep) → IsAccess script run a → IsTouchBy script run a u →
+      follows_next (timeline_of script run) completes_start a x ≡ true → Before script run u.id x.id
+  after_complete a u x access by h =
+      let y = follows a x completes_start h in
+      let s = some_of is_complete (synchronisation_of y.0.call) y.3 in
+      let is = complete_is s.0 s.2 in
+      Across (before_completing a u y.0 s.0 access by (step_is script run y.1) y.2 s.1 (ap is_fence is)
+      (ap (λ c. completes_access c a.issued) is)) y.4
+    where
+      complete_is : (s : Synchronisation) → is_complete s ≡ true → s ≡ Completes
+      complete_is (Fences asserts) h = absurd (cc h)
+      complete_is (Posts group asserts) h = absurd (cc h)
+      complete_is (Starts group asserts) h = absurd (cc h)
+      complete_is Completes h = refl
+      complete_is (Waits tests) h = absurd (cc h)
+      complete_is (Locks kind target asserts) h = absurd (cc h)
+      complete_is (Unlocks target) h = absurd (cc h)
+      complete_is (Flushes target local) h = absurd (cc h)
+      complete_is Syncs h = absurd (cc h)
+
+  at_target : (a : IssuedAccess) (u : Touching) (x : CallStep) → IsAccess script run a → IsTouchBy script run a u → IsStep script run x →
+      is_completed_at_target a x ≡ true → Before script run u.id x.id
+  at_target a u x access by step h =
+      let parts = and_parts (is_later_on_window a x) (option_map_or (completes_at_target a.issued) (synchronisation_of x.call) false) h in
+      let s = some_of (completes_at_target a.issued) (synchronisation_of x.call) parts.1 in
+      let is = completes s.0 s.2 in
+      before_completing a u x s.0 access by step parts.0 s.1 is.0 is.1
+    where
+      completes : (s : Synchronisation) → completes_at_target a.issued s ≡ true → (is_fence s ≡ false) × (completes_access s a.issued ≡ true)
+      completes (Fences asserts) h = absurd (cc h)
+      completes (Posts group asserts) h = absurd (cc h)
+      completes (Starts group asserts) h = absurd (cc h)
+      completes Completes h = absurd (cc h)
+      completes (Waits tests) h = absurd (cc h)
+      completes (Locks kind target asserts) h = absurd (cc h)
+      completes (Unlocks target) h = (refl, h)
+      completes (Flushes target true) h = absurd (cc h)
+      completes (Flushes target false) h = (refl, h)
+      completes Syncs h = absurd (cc h)
+
+  at_origin : (a : IssuedAccess) (u : Touching) (x : CallStep) → IsAccess script run a → IsTouchBy script run a u → IsStep script run x →
+      a.issued.fetches ≡ true → is_completed_at_origin a x ≡ true → Before script run u.id x.id
+  at_origin a u x access by step fetches h =
+      let parts = and_parts (is_later_on_window a x) (option_map_or (completes_at_origin a.issued) (synchronisation_of x.call) false) h in
+      let s = some_of (completes_at_origin a.issued) (synchronisation_of x.call) parts.1 in
+      let is = completes s.0 s.2 in
+      before_completing a u x s.0 access by step parts.0 s.1 is.0 is.1
+    where
+      completes : (s : Synchronisation) → completes_at_origin a.issued s ≡ true → (is_fence s ≡ false) × (completes_access s a.issued ≡ true)
+      completes (Fences asserts) h = absurd (cc h)
+      completes (Posts group asserts) h = absurd (cc h)
+      completes (Starts group asserts) h = absurd (cc h)
+      completes Completes h = (refl, refl)
+      completes (Waits tests) h = absurd (cc h)
+      completes (Locks kind target asserts) h = absurd (cc h)
+      completes (Unlocks target) h = absurd (cc h)
+      completes (Flushes target true) h = (refl, and_from (is_towards target a.issued) a.issued.fetches h fetches)
+      completes (Flushes target false) h = absurd (cc h)
+      completes Syncs h = absurd (cc h)
+
+  by_epoch : (a : IssuedAccess) (u : Touching) (x : CallStep) (epoch : AccessEpoch) → IsAccess script run a → IsTouchBy script run a u →
+      IsStep script run x → is_done_by_epoch (timeline_of script run) a epoch x ≡ true → Before script run u.id x.id
+  by_epoch a u x Idle access by step h = absurd (cc h)
+  by_epoch a u x FenceUnused access by step h = after_fence a u x access by h
+  by_epoch a u x FenceUsed access by step h = after_fence a u x access by h
+  by_epoch a u x (StartTo group) access by step h =
+      after_complete a u x access by (and_parts (follows_next (timeline_of script run) completes_start a x) (x.id.rank == a.issued.access.target) h).0
+  by_epoch a u x (LocksAt targets) access by step h = at_target a u x access by step h
+  by_epoch a u x LockAll access by step h = at_target a u x access by step h
+
+  -- each touch of an access is before its done points; a read that is asked for fetches
+  pub before_done : (a : IssuedAccess) (u : Touching) (x : CallStep) → IsAccess script run a → IsTouchBy script run a u → IsStep script run x →
+      (is_rma_read (role_of a.issued.access.kind) ≡ true → a.issued.fetches ≡ true) →
+      is_done_at (timeline_of script run) a x ≡ true → Before script run u.id x.id
+  before_done a u x access by step fetches h =
+      elim (or_cases (is_done_by_epoch (timeline_of script run) a a.epoch x)
+      (is_rma_read (role_of a.issued.access.kind) && (is_completed_at_origin a x || ends_its_request a x)) h) [
+        | inl epoch ↦ by_epoch a u x a.epoch access by step epoch
+        | inr read ↦
+            let parts = and_parts (is_rma_read (role_of a.issued.access.kind)) (is_completed_at_origin a x || ends_its_request a x) read in
+            elim (or_cases (is_completed_at_origin a x) (ends_its_request a x) parts.1) [
+              | inl origin ↦ at_origin a u x access by step (fetches parts.0) origin
+              | inr request ↦
+                  let later = and_parts (is_later_at_origin a x)
+                  (option_map_or (λ req. is_requested_by x.known.requests req a.issued) (request_ended (action_of x.call)) false) request in
+                  let req = some_of (λ req. is_requested_by x.known.requests req a.issued) (request_ended (action_of x.call)) later.1 in
+                  before_request a u x req.0 access by step later.0 req.1 (fetches parts.0) req.2
+            ]
+      ]

@@ -1,0 +1,2 @@
+-- What gets and loads read.
+pub mod ReadLaws
