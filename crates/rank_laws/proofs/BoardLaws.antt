@@ -41,7 +41,7 @@ fit_there script delay seed run is rank inside =
 
 -- ---- the logs of the run
 
-logs_of_ranks : (script : Script) (delay : Delay) (seed : ℕ) (run : Run) → IsAssembled script delay seed run →
+pub logs_of_ranks : (script : Script) (delay : Delay) (seed : ℕ) (run : Run) → IsAssembled script delay seed run →
     length run.logs ≡ script.ranks
 logs_of_ranks script delay seed run is = ap length is.logs ∙ length-map is.agents (λ (agent : Agent). agent.log)
     ∙ is.ranks

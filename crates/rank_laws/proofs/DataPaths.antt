@@ -32,31 +32,33 @@ use Rattle.step_runs.specs.DataSteps.{no_shapes, just_delivers, without_delivery
 use Rattle.step_runs.specs.Generator.{stirred, drawn_from}
 
 -- nothing else is done, and lows may rise
-still_path : (stage : Stage) (agent next : Agent) (rows : List Row) (lows after : Lows) →
+still_path : (drains : Bool) (stage : Stage) (agent next : Agent) (rows : List Row) (lows after : Lows) →
     (next ≡ agent) × AreAtMost lows after →
-    Path stage (point agent rows lows) (point next rows after)
-still_path stage agent next rows lows after h =
-    subst (λ (a : Agent). Path stage (point agent rows lows) (point a rows after)) (sym h.0)
-    (one_move stage (point agent rows lows) _ (Rises after h.1))
+    Path drains stage (point agent rows lows) (point next rows after)
+still_path drains stage agent next rows lows after h =
+    subst (λ (a : Agent). Path drains stage (point agent rows lows) (point a rows after)) (sym h.0)
+    (one_move drains stage (point agent rows lows) _ (Rises after h.1))
 
 -- a move, and then nothing but that lows may rise
-moved_path : (stage : Stage) (agent middle next : Agent) (rows : List Row) (lows after : Lows) →
-    Move stage (point agent rows lows) (point middle rows lows) →
-    (next ≡ middle) × AreAtMost lows after → Path stage (point agent rows lows) (point next rows after)
-moved_path stage agent middle next rows lows after move h =
-    paths_join stage (point agent rows lows) (point middle rows lows) (point next rows after)
-    (one_move stage (point agent rows lows) (point middle rows lows) move)
-    (still_path stage middle next rows lows after h)
+moved_path : (drains : Bool) (stage : Stage) (agent middle next : Agent) (rows : List Row) (lows after : Lows) →
+    Move drains stage (point agent rows lows) (point middle rows lows) →
+    (next ≡ middle) × AreAtMost lows after → Path drains stage (point agent rows lows) (point next rows after)
+moved_path drains stage agent middle next rows lows after move h =
+    paths_join drains stage (point agent rows lows) (point middle rows lows) (point next rows after)
+    (one_move drains stage (point agent rows lows) (point middle rows lows) move)
+    (still_path drains stage middle next rows lows after h)
 
 -- a delivery
-pub delivery_path : (stage : Stage) (agent next : Agent) (rows : List Row) (lows after : Lows) (at : ℕ) →
-    IsDue stage agent at → (o : Option PendingAccess) →
+pub delivery_path : (drains : Bool) (stage : Stage) (agent next : Agent) (rows : List Row) (lows after : Lows)
+    (at : ℕ) →
+    IsDue drains stage agent at → (o : Option PendingAccess) →
     slice_get agent.pending at ≡ o → IsDelivered stage agent at o lows next after →
-    Path stage (point agent rows lows) (point next rows after)
-delivery_path stage agent next rows lows after at due None e h = still_path stage agent next rows lows after h
-delivery_path stage agent next rows lows after at due (Some one) e h =
-    subst (λ (a : Agent). Path stage (point agent rows lows) (point a rows after)) (sym h.2)
-    (one_move stage (point agent rows lows) _ (DeliversOne at one h.0 after e due h.1))
+    Path drains stage (point agent rows lows) (point next rows after)
+delivery_path drains stage agent next rows lows after at due None e h =
+    still_path drains stage agent next rows lows after h
+delivery_path drains stage agent next rows lows after at due (Some one) e h =
+    subst (λ (a : Agent). Path drains stage (point agent rows lows) (point a rows after)) (sym h.2)
+    (one_move drains stage (point agent rows lows) _ (DeliversOne at one h.0 after e due h.1))
 
 -- ---- the end of the calls
 
@@ -66,30 +68,34 @@ closed_past stage agent none call here e = absurd (cc (sym none ∙ here))
 closed_new : (stage : Stage) (agent : Agent) → agent.entered ≡ false → IsClosed stage agent
 closed_new stage agent new call here e = absurd (cc (sym new ∙ e))
 
-ends_path : (stage : Stage) (agent next : Agent) (rows : List Row) (lows after : Lows) →
+ends_path : (drains : Bool) (stage : Stage) (agent next : Agent) (rows : List Row) (lows after : Lows) →
     next_call stage agent ≡ None → agent.pending ≡ [] → (b : Bool) → agent.ended ≡ b →
     IsMade stage (cond b (without_delivery agent) (without_delivery
     (record (kept no_shapes stage agent Ended) { ended = true }))) lows next after →
-    Path stage (point agent rows lows) (point next rows after)
-ends_path stage agent next rows lows after none empty true e made = still_path stage agent next rows lows after made
-ends_path stage agent next rows lows after none empty false e made = moved_path stage agent _ next rows lows after
+    Path drains stage (point agent rows lows) (point next rows after)
+ends_path drains stage agent next rows lows after none empty true e made =
+    still_path drains stage agent next rows lows after made
+ends_path drains stage agent next rows lows after none empty false e made =
+    moved_path drains stage agent _ next rows lows after
     (Ends none empty e) made
 
-end_path : (stage : Stage) (agent next : Agent) (rows : List Row) (lows after : Lows) → next_call stage agent ≡ None →
+end_path : (drains : Bool) (stage : Stage) (agent next : Agent) (rows : List Row) (lows after : Lows) →
+    next_call stage agent ≡ None →
     (pending : List PendingAccess) → agent.pending ≡ pending →
     IsMade stage (cond (not (eqb (length pending) 0)) (just_delivers agent 0)
     (cond agent.ended (without_delivery agent) (without_delivery
     (record (kept no_shapes stage agent Ended) { ended = true })))) lows next after →
-    Path stage (point agent rows lows) (point next rows after)
-end_path stage agent next rows lows after none [] e made = ends_path stage agent next rows lows after none e
+    Path drains stage (point agent rows lows) (point next rows after)
+end_path drains stage agent next rows lows after none [] e made =
+    ends_path drains stage agent next rows lows after none e
     agent.ended refl made
-end_path stage agent next rows lows after none (one ∷ rest) e made =
-    let due : IsDue stage agent 0 = record {
+end_path drains stage agent next rows lows after none (one ∷ rest) e made =
+    let due : IsDue drains stage agent 0 = record {
       closed = closed_past stage agent none;
       free = first_is_free agent.pending;
       reason = IsAtEnd none refl;
     } in
-    delivery_path stage agent next rows lows after 0 due (slice_get agent.pending 0) refl
+    delivery_path drains stage agent next rows lows after 0 due (slice_get agent.pending 0) refl
     (delivers_if (eqb (suc (length rest)) 0) (ne_eqb (suc (length rest)) 0 (λ e. absurd (omega arith))) made)
   where
     delivers_if : (b : Bool) → b ≡ false → IsMade stage (cond (not b) (just_delivers agent 0)
@@ -133,7 +139,8 @@ pub its_transfer : (stage : Stage) (agent : Agent) (call : Call) (t : Transfer) 
 its_transfer stage agent call t here moves = rw here moves
 
 -- an access that is made pending and then delivered
-at_once_path : (stage : Stage) (agent next : Agent) (rows : List Row) (lows after : Lows) (call : Call) (t : Transfer)
+at_once_path : (drains : Bool) (stage : Stage) (agent next : Agent) (rows : List Row) (lows after : Lows)
+    (call : Call) (t : Transfer)
     (access : Access) → Issuing stage agent call t access →
     is_at_once stage.delay access ≡ true → (b : Bool) → nat_lt 0 access.len ≡ b →
     (let one : PendingAccess = record {
@@ -146,8 +153,8 @@ at_once_path : (stage : Stage) (agent next : Agent) (rows : List Row) (lows afte
     let now = record issued { pending = issued.pending ++ cond b (one ∷ []) [] } in
     IsDelivered stage now (length agent.pending) (slice_get (agent.pending ++ cond b (one ∷ []) [])
     (length agent.pending)) lows next after) →
-    Path stage (point agent rows lows) (point next rows after)
-at_once_path stage agent next rows lows after call t access issuing once true e made =
+    Path drains stage (point agent rows lows) (point next rows after)
+at_once_path drains stage agent next rows lows after call t access issuing once true e made =
     let one : PendingAccess = record {
       index = length agent.log;
       number = agent.at;
@@ -165,9 +172,9 @@ at_once_path stage agent next rows lows after call t access issuing once true e 
     let same : next ≡ issued_whole stage agent access is.0 = is.2
     ∙ ap (λ (p : List PendingAccess). record (issued_whole stage agent access is.0) { pending = p })
     (remove_last agent.pending one) in
-    subst (λ (a : Agent). Path stage (point agent rows lows) (point a rows after)) (sym same)
-    (one_move stage (point agent rows lows) _ (IssuesWhole call t access is.0 after issuing once touches))
-at_once_path stage agent next rows lows after call t access issuing once false e made =
+    subst (λ (a : Agent). Path drains stage (point agent rows lows) (point a rows after)) (sym same)
+    (one_move drains stage (point agent rows lows) _ (IssuesWhole call t access is.0 after issuing once touches))
+at_once_path drains stage agent next rows lows after call t access issuing once false e made =
     let issued = with_item stage agent (Issue agent.at access) in
     let now = record issued { pending = issued.pending ++ [] } in
     let is : IsDelivered stage now (length agent.pending) None lows next after = subst
@@ -180,42 +187,46 @@ at_once_path stage agent next rows lows after call t access issuing once false e
     let same : next ≡ issued_whole stage agent access [] = is.0
     ∙ ap (λ (p : List PendingAccess). record issued { pending = p }) (append-nil agent.pending)
     ∙ ap (λ (l : List Item). record issued { log = l }) (sym (append-nil issued.log)) in
-    subst (λ (a : Agent). Path stage (point agent rows lows) (point a rows after)) (sym same)
-    (one_move stage (point agent rows lows) _ (IssuesWhole call t access [] after issuing once touches))
+    subst (λ (a : Agent). Path drains stage (point agent rows lows) (point a rows after)) (sym same)
+    (one_move drains stage (point agent rows lows) _ (IssuesWhole call t access [] after issuing once touches))
 
 -- an Issue, whether its access is touched at once or not
-issue_path : (stage : Stage) (agent next : Agent) (rows : List Row) (lows after : Lows) (call : Call) (t : Transfer)
+issue_path : (drains : Bool) (stage : Stage) (agent next : Agent) (rows : List Row) (lows after : Lows) (call : Call)
+    (t : Transfer)
     (access : Access) → Issuing stage agent call t access →
     (b : Bool) → is_at_once stage.delay access ≡ b →
     IsMade stage (record {
       agent = with_issue stage agent access t;
       delivers = cond b (Some (length agent.pending)) None;
     }) lows next after →
-    Path stage (point agent rows lows) (point next rows after)
-issue_path stage agent next rows lows after call t access issuing true e made = at_once_path stage agent next rows
+    Path drains stage (point agent rows lows) (point next rows after)
+issue_path drains stage agent next rows lows after call t access issuing true e made =
+    at_once_path drains stage agent next rows
     lows after call t access issuing e (nat_lt 0 access.len) refl made
-issue_path stage agent next rows lows after call t access issuing false e made = moved_path stage agent _ next rows
+issue_path drains stage agent next rows lows after call t access issuing false e made =
+    moved_path drains stage agent _ next rows
     lows after (Issues call t access issuing e) made
 
 -- an Issue, where the call has a transfer and an access
-issues_path : (stage : Stage) (agent next : Agent) (rows : List Row) (lows after : Lows) (call : Call) →
+issues_path : (drains : Bool) (stage : Stage) (agent next : Agent) (rows : List Row) (lows after : Lows) (call : Call) →
     next_call stage agent ≡ Some call →
     ((Begins stage agent call × (course_at agent call ≡ OneIssue)) ⊎ (agent.entered ≡ true)) →
-    IsMade stage (issue stage agent call) lows next after → Path stage (point agent rows lows) (point next rows after)
-issues_path stage agent next rows lows after call here begun made =
+    IsMade stage (issue stage agent call) lows next after →
+    Path drains stage (point agent rows lows) (point next rows after)
+issues_path drains stage agent next rows lows after call here begun made =
     elim (transfer_of call) as (λ (o : Option Transfer). transfer_of call ≡ o →
     IsMade stage (option_map_or (λ t. option_map_or (issue_of stage agent t) (access_of agent.known.windows call)
     (without_delivery agent)) o (without_delivery agent)) lows next after →
-    Path stage (point agent rows lows) (point next rows after)) [
-      | None ↦ λ moves is. still_path stage agent next rows lows after is
+    Path drains stage (point agent rows lows) (point next rows after)) [
+      | None ↦ λ moves is. still_path drains stage agent next rows lows after is
       | Some t ↦ λ moves is.
           elim (access_of agent.known.windows call) as (λ (o : Option Access). access_of agent.known.windows call
           ≡ o →
           IsMade stage (option_map_or (issue_of stage agent t) o (without_delivery agent)) lows next after →
-          Path stage (point agent rows lows) (point next rows after)) [
-            | None ↦ λ none it. still_path stage agent next rows lows after it
+          Path drains stage (point agent rows lows) (point next rows after)) [
+            | None ↦ λ none it. still_path drains stage agent next rows lows after it
             | Some access ↦ λ some it.
-                issue_path stage agent next rows lows after call t access
+                issue_path drains stage agent next rows lows after call t access
                 (record { here = here; moves = moves; reaches = some; begun = begun })
                 (is_at_once stage.delay access) refl it
           ] refl is
@@ -223,28 +234,33 @@ issues_path stage agent next rows lows after call here begun made =
 
 -- ---- calls
 
-item_path : (stage : Stage) (agent next : Agent) (rows : List Row) (lows after : Lows) (call : Call) →
+item_path : (drains : Bool) (stage : Stage) (agent next : Agent) (rows : List Row) (lows after : Lows) (call : Call) →
     Begins stage agent call → (course : Course) → course_at agent call ≡ course →
     IsMade stage (first_item course stage agent call) lows next after →
-    Path stage (point agent rows lows) (point next rows after)
-item_path stage agent next rows lows after call begins OneNull is made =
-    moved_path stage agent _ next rows lows after (Passes call (Null agent.at) begins
+    Path drains stage (point agent rows lows) (point next rows after)
+item_path drains stage agent next rows lows after call begins OneNull is made =
+    moved_path drains stage agent _ next rows lows after (Passes call (Null agent.at) begins
     (subst (λ (c : Course). IsPlainItem c agent.at (Null agent.at)) (sym is) refl)) made
-item_path stage agent next rows lows after call begins OneIssue is made = issues_path stage agent next rows lows after
+item_path drains stage agent next rows lows after call begins OneIssue is made =
+    issues_path drains stage agent next rows lows after
     call begins.here (inl (begins, is)) made
-item_path stage agent next rows lows after call begins LookUpAndIssue is made = still_path stage agent next rows lows
+item_path drains stage agent next rows lows after call begins LookUpAndIssue is made =
+    still_path drains stage agent next rows lows
     after made
-item_path stage agent next rows lows after call begins OneFlush is made =
-    moved_path stage agent _ next rows lows after (Passes call (Flush agent.at) begins
+item_path drains stage agent next rows lows after call begins OneFlush is made =
+    moved_path drains stage agent _ next rows lows after (Passes call (Flush agent.at) begins
     (subst (λ (c : Course). IsPlainItem c agent.at (Flush agent.at)) (sym is) refl)) made
-item_path stage agent next rows lows after call begins OneRequest is made =
-    moved_path stage agent _ next rows lows after (Passes call (Request agent.at) begins
+item_path drains stage agent next rows lows after call begins OneRequest is made =
+    moved_path drains stage agent _ next rows lows after (Passes call (Request agent.at) begins
     (subst (λ (c : Course). IsPlainItem c agent.at (Request agent.at)) (sym is) refl)) made
-item_path stage agent next rows lows after call begins ArriveAndLeave is made = still_path stage agent next rows lows
+item_path drains stage agent next rows lows after call begins ArriveAndLeave is made =
+    still_path drains stage agent next rows lows
     after made
-item_path stage agent next rows lows after call begins EntryOrTested is made = still_path stage agent next rows lows
+item_path drains stage agent next rows lows after call begins EntryOrTested is made =
+    still_path drains stage agent next rows lows
     after made
-item_path stage agent next rows lows after call begins OneEntry is made = still_path stage agent next rows lows after
+item_path drains stage agent next rows lows after call begins OneEntry is made =
+    still_path drains stage agent next rows lows after
     made
 
 -- what is awaited is the end of a way
@@ -259,34 +275,38 @@ awaited_free agent call at e =
           (λ m. first_in_way agent.pending m ≡ None) same (way_is_free agent.pending n)
     ] e
 
-wait_path : (stage : Stage) (agent next : Agent) (rows : List Row) (lows after : Lows) (call : Call) →
+wait_path : (drains : Bool) (stage : Stage) (agent next : Agent) (rows : List Row) (lows after : Lows) (call : Call) →
     next_call stage agent ≡ Some call → agent.entered ≡ false →
     own_class agent.known call ≡ None → (o : Option ℕ) → awaited_by agent call ≡ o →
     IsMade stage (wait_or_go_on o stage agent call) lows next after →
-    Path stage (point agent rows lows) (point next rows after)
-wait_path stage agent next rows lows after call here new passes None e made =
-    item_path stage agent next rows lows after call (record { here = here; new = new; passes = passes; awaits = e })
+    Path drains stage (point agent rows lows) (point next rows after)
+wait_path drains stage agent next rows lows after call here new passes None e made =
+    item_path drains stage agent next rows lows after call
+    (record { here = here; new = new; passes = passes; awaits = e })
     (course_at agent call) refl made
-wait_path stage agent next rows lows after call here new passes (Some at) e made =
-    let due : IsDue stage agent at = record {
+wait_path drains stage agent next rows lows after call here new passes (Some at) e made =
+    let due : IsDue drains stage agent at = record {
       closed = closed_new stage agent new;
       free = awaited_free agent call at e;
       reason = IsAwaited call here new passes e;
     } in
-    delivery_path stage agent next rows lows after at due (slice_get agent.pending at) refl made
+    delivery_path drains stage agent next rows lows after at due (slice_get agent.pending at) refl made
 
-judge_path : (stage : Stage) (agent next : Agent) (rows : List Row) (lows after : Lows) (call : Call) →
+judge_path : (drains : Bool) (stage : Stage) (agent next : Agent) (rows : List Row) (lows after : Lows) (call : Call) →
     next_call stage agent ≡ Some call → agent.entered ≡ false →
     (o : Option Class) → own_class agent.known call ≡ o →
     IsMade stage (judge o stage agent call) lows next after →
-    Path stage (point agent rows lows) (point next rows after)
-judge_path stage agent next rows lows after call here new None e made = wait_path stage agent next rows lows after
+    Path drains stage (point agent rows lows) (point next rows after)
+judge_path drains stage agent next rows lows after call here new None e made =
+    wait_path drains stage agent next rows lows after
     call here new e (awaited_by agent call) refl made
-judge_path stage agent next rows lows after call here new (Some class) e made = moved_path stage agent _ next rows
+judge_path drains stage agent next rows lows after call here new (Some class) e made =
+    moved_path drains stage agent _ next rows
     lows after (RefusesAlone call class here new e) made
 
 -- a draw, and then perhaps a delivery
-draw_path : (stage : Stage) (agent next : Agent) (rows : List Row) (lows after : Lows) → agent.entered ≡ false →
+draw_path : (drains : Bool) (stage : Stage) (agent next : Agent) (rows : List Row) (lows after : Lows) →
+    agent.entered ≡ false →
     is_seeded stage.delay ≡ true → (b : Bool) →
     (let state = stirred agent.draws in
     IsMade stage (record {
@@ -294,51 +314,55 @@ draw_path : (stage : Stage) (agent next : Agent) (rows : List Row) (lows after :
       delivers = cond b (Some (way agent.pending (drawn_from state / 2 % length agent.pending))) None;
     }) lows next
     after) →
-    Path stage (point agent rows lows) (point next rows after)
-draw_path stage agent next rows lows after new seeded true made =
+    Path drains stage (point agent rows lows) (point next rows after)
+draw_path drains stage agent next rows lows after new seeded true made =
     let state = stirred agent.draws in
     let drawn : Agent = record agent { drawn = true; draws = state } in
     let at = way agent.pending (drawn_from state / 2 % length agent.pending) in
-    let due : IsDue stage drawn at = record {
+    let due : IsDue drains stage drawn at = record {
       closed = closed_new stage drawn new;
       free = way_is_free agent.pending (drawn_from state / 2 % length agent.pending);
       reason = IsDrawn seeded;
     } in
-    paths_join stage (point agent rows lows) (point drawn rows lows) (point next rows after)
-    (one_move stage (point agent rows lows) (point drawn rows lows) (Draws state new))
-    (delivery_path stage drawn next rows lows after at due (slice_get agent.pending at) refl made)
-draw_path stage agent next rows lows after new seeded false made = moved_path stage agent _ next rows lows after
+    paths_join drains stage (point agent rows lows) (point drawn rows lows) (point next rows after)
+    (one_move drains stage (point agent rows lows) (point drawn rows lows) (Draws state new))
+    (delivery_path drains stage drawn next rows lows after at due (slice_get agent.pending at) refl made)
+draw_path drains stage agent next rows lows after new seeded false made =
+    moved_path drains stage agent _ next rows lows after
     (Draws (stirred agent.draws) new) made
 
-begin_path : (stage : Stage) (agent next : Agent) (rows : List Row) (lows after : Lows) (call : Call) →
+begin_path : (drains : Bool) (stage : Stage) (agent next : Agent) (rows : List Row) (lows after : Lows) (call : Call) →
     next_call stage agent ≡ Some call → agent.entered ≡ false →
     (b : Bool) → must_draw stage agent ≡ b →
     IsMade stage (cond b (draw agent) (judge (own_class agent.known call) stage agent call)) lows next after →
-    Path stage (point agent rows lows) (point next rows after)
-begin_path stage agent next rows lows after call here new true e made =
+    Path drains stage (point agent rows lows) (point next rows after)
+begin_path drains stage agent next rows lows after call here new true e made =
     let seeded = both_left (is_seeded stage.delay) (not agent.drawn)
     (both_left (is_seeded stage.delay && not agent.drawn) (has_pending agent) e) in
-    draw_path stage agent next rows lows after new seeded (drawn_from (stirred agent.draws) % 2 == 1) made
-begin_path stage agent next rows lows after call here new false e made = judge_path stage agent next rows lows after
+    draw_path drains stage agent next rows lows after new seeded (drawn_from (stirred agent.draws) % 2 == 1) made
+begin_path drains stage agent next rows lows after call here new false e made =
+    judge_path drains stage agent next rows lows after
     call here new (own_class agent.known call) refl made
 
-call_path : (stage : Stage) (agent next : Agent) (rows : List Row) (lows after : Lows) (call : Call) →
+call_path : (drains : Bool) (stage : Stage) (agent next : Agent) (rows : List Row) (lows after : Lows) (call : Call) →
     next_call stage agent ≡ Some call → (b : Bool) → agent.entered ≡ b →
     IsMade stage (cond b (issue stage agent call) (begin stage agent call)) lows next after →
-    Path stage (point agent rows lows) (point next rows after)
-call_path stage agent next rows lows after call here true e made = issues_path stage agent next rows lows after call
+    Path drains stage (point agent rows lows) (point next rows after)
+call_path drains stage agent next rows lows after call here true e made =
+    issues_path drains stage agent next rows lows after call
     here (inr e) made
-call_path stage agent next rows lows after call here false e made = begin_path stage agent next rows lows after call
+call_path drains stage agent next rows lows after call here false e made =
+    begin_path drains stage agent next rows lows after call
     here e (must_draw stage agent) refl made
 
 -- a step without the board is a path
-pub step_path : (stage : Stage) (agent next : Agent) (rows : List Row) (lows after : Lows) →
+pub step_path : (drains : Bool) (stage : Stage) (agent next : Agent) (rows : List Row) (lows after : Lows) →
     IsMade stage (move_of stage agent) lows next after →
-    Path stage (point agent rows lows) (point next rows after)
-step_path stage agent next rows lows after made =
+    Path drains stage (point agent rows lows) (point next rows after)
+step_path drains stage agent next rows lows after made =
     elim (next_call stage agent) as (λ (o : Option Call). next_call stage agent ≡ o →
     IsMade stage (option_map_or (go_on stage agent) o (end stage agent)) lows next after →
-    Path stage (point agent rows lows) (point next rows after)) [
-      | None ↦ λ none is. end_path stage agent next rows lows after none agent.pending refl is
-      | Some call ↦ λ here is. call_path stage agent next rows lows after call here agent.entered refl is
+    Path drains stage (point agent rows lows) (point next rows after)) [
+      | None ↦ λ none is. end_path drains stage agent next rows lows after none agent.pending refl is
+      | Some call ↦ λ here is. call_path drains stage agent next rows lows after call here agent.entered refl is
     ] refl made

@@ -101,7 +101,7 @@ few_of index (Tested number seen) = omega arith
 few_of index (Refused number class seen) = omega arith
 few_of index Ended = omega arith
 
-touched_few : (index : ℕ) (items : List Item) → length (touched_by index items) ≤ length items
+pub touched_few : (index : ℕ) (items : List Item) → length (touched_by index items) ≤ length items
 touched_few index [] = omega arith
 touched_few index (item ∷ items) =
     let one = few_of index item in let rest = touched_few index items in omega
@@ -124,11 +124,11 @@ direct_still memory calls log more one less h =
     ap (take count) (drop-append-le (one.index + 1) log more (omega arith)) ∙ take-append-le count rest more enough in
     ap (λ items. length (touched_by one.index items)) same ∙ h
 
-elements_count : (element : ℕ) (places : List Piece) → length (elements_from element places) ≡ length places
+pub elements_count : (element : ℕ) (places : List Piece) → length (elements_from element places) ≡ length places
 elements_count element [] = refl
 elements_count element (piece ∷ places) = ap suc (elements_count (element + 1) places)
 
-touches_count : (t : Transfer) (issue element : ℕ) (places : List Piece) (lows : Lows) (items : List Item)
+pub touches_count : (t : Transfer) (issue element : ℕ) (places : List Piece) (lows : Lows) (items : List Item)
     (after : Lows) → AreTouches t issue element places lows items after → length items ≡ length places
 touches_count t issue element [] lows items after h = ap length h.0
 touches_count t issue element (piece ∷ rest) lows items after h = ap length h.4
@@ -209,7 +209,7 @@ its_access : (stage : Stage) (agent : Agent) (call : Call) (t : Transfer) (acces
 its_access stage agent call t access one issuing e = let both = sym (made_is stage agent call t access issuing)
     ∙ e in cc both
 
-made_count : (stage : Stage) (agent : Agent) (call : Call) (t : Transfer) (access : Access) →
+pub made_count : (stage : Stage) (agent : Agent) (call : Call) (t : Transfer) (access : Access) →
     Issuing stage agent call t access →
     length (pieces_of stage.layout (calls_at stage agent.rank) (made_by agent access t)) ≡ length
     (pieces stage.layout access t.dtype)

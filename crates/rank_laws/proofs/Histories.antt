@@ -42,86 +42,92 @@ is_none_of (Some x) e = absurd (cc e)
 
 -- ---- a step at the board
 
-refused_path : (stage : Stage) (agent : Agent) (rows : List Row) (lows : Lows) (call : Call) (course : Course)
+refused_path : (drains : Bool) (stage : Stage) (agent : Agent) (rows : List Row) (lows : Lows) (call : Call)
+    (course : Course)
     (class : _) → Begins stage agent call → course_at agent call ≡ course →
     has_entry course ≡ true → decide stage.script.ranks rows (next_row agent call (step_by course)) ≡ Refuse class →
-    (after : Agent → Agent) → Path stage (point agent rows lows)
+    (after : Agent → Agent) → Path drains stage (point agent rows lows)
     (point_at (enter_by (Refuse class) stage agent rows call (step_by course) after) lows)
-refused_path stage agent rows lows call course class begins is has answer after =
-    one_move stage (point agent rows lows) _ (IsRefused call class begins (ap has_entry is ∙ has)
+refused_path drains stage agent rows lows call course class begins is has answer after =
+    one_move drains stage (point agent rows lows) _ (IsRefused call class begins (ap has_entry is ∙ has)
     (ap (λ (c : Course). decide stage.script.ranks rows (next_row agent call (step_by c))) is ∙ answer))
 
 -- the first entry of a call, by the board's answer
-first_path : (stage : Stage) (agent : Agent) (rows : List Row) (lows : Lows) (call : Call) (course : Course)
+first_path : (drains : Bool) (stage : Stage) (agent : Agent) (rows : List Row) (lows : Lows) (call : Call)
+    (course : Course)
     (after : Agent → Agent) → Begins stage agent call →
     course_at agent call ≡ course → has_entry course ≡ true → Entering stage agent call (step_by course) after →
     (d : Decision) → decide stage.script.ranks rows (next_row agent call (step_by course)) ≡ d →
-    Path stage (point agent rows lows) (point_at (enter_by d stage agent rows call (step_by course) after) lows)
-first_path stage agent rows lows call course after begins is has entering
-    (Refuse class) e = refused_path stage agent rows lows call course class begins is has e after
-first_path stage agent rows lows call course after begins is has entering Allow e =
-    one_move stage (point agent rows lows) _ (Enters call (step_by course) after entering e)
-first_path stage agent rows lows call course after begins is has entering NotYet e = Stays
+    Path drains stage (point agent rows lows) (point_at (enter_by d stage agent rows call (step_by course) after) lows)
+first_path drains stage agent rows lows call course after begins is has entering
+    (Refuse class) e = refused_path drains stage agent rows lows call course class begins is has e after
+first_path drains stage agent rows lows call course after begins is has entering Allow e =
+    one_move drains stage (point agent rows lows) _ (Enters call (step_by course) after entering e)
+first_path drains stage agent rows lows call course after begins is has entering NotYet e = Stays
 
 -- a Leave, by the board's answer
-leave_path : (stage : Stage) (agent : Agent) (rows : List Row) (lows : Lows) (call : Call) →
+leave_path : (drains : Bool) (stage : Stage) (agent : Agent) (rows : List Row) (lows : Lows) (call : Call) →
     Entering stage agent call Leave finished →
     (d : Decision) → decide stage.script.ranks rows (next_row agent call Leave) ≡ d →
-    Path stage (point agent rows lows) (point_at (enter_by d stage agent rows call Leave finished) lows)
-leave_path stage agent rows lows call entering (Refuse class) e =
+    Path drains stage (point agent rows lows) (point_at (enter_by d stage agent rows call Leave finished) lows)
+leave_path drains stage agent rows lows call entering (Refuse class) e =
     absurd (leave_or_wait (all_arrived (question stage.script.ranks rows (next_row agent call Leave))) class e)
-leave_path stage agent rows lows call entering Allow e = one_move stage (point agent rows lows) _
+leave_path drains stage agent rows lows call entering Allow e = one_move drains stage (point agent rows lows) _
     (Enters call Leave finished entering e)
-leave_path stage agent rows lows call entering NotYet e = Stays
+leave_path drains stage agent rows lows call entering NotYet e = Stays
 
 -- an Arrive, and then perhaps the Leave
-arrive_path : (stage : Stage) (agent : Agent) (rows : List Row) (lows : Lows) (call : Call) →
+arrive_path : (drains : Bool) (stage : Stage) (agent : Agent) (rows : List Row) (lows : Lows) (call : Call) →
     Begins stage agent call → course_at agent call ≡ ArriveAndLeave →
     (d : Decision) → decide stage.script.ranks rows (next_row agent call Arrive) ≡ d →
-    Path stage (point agent rows lows) (point_at (leave_if_entered stage call
+    Path drains stage (point agent rows lows) (point_at (leave_if_entered stage call
     (enter_by d stage agent rows call Arrive opened)) lows)
-arrive_path stage agent rows lows call begins is (Refuse class) e = refused_path stage agent rows lows call
+arrive_path drains stage agent rows lows call begins is (Refuse class) e =
+    refused_path drains stage agent rows lows call
     ArriveAndLeave class begins is refl e opened
-arrive_path stage agent rows lows call begins is Allow e =
+arrive_path drains stage agent rows lows call begins is Allow e =
     let arrived = entered stage agent rows call Arrive opened in
     let none = moves_nothing agent.known.windows call ArriveAndLeave is refl in
-    paths_join stage (point agent rows lows) (point_at arrived lows) _
-    (one_move stage (point agent rows lows) _ (Enters call Arrive opened (Arriving begins is) e))
-    (leave_path stage arrived.agent arrived.rows lows call (Leaving begins.here refl none)
+    paths_join drains stage (point agent rows lows) (point_at arrived lows) _
+    (one_move drains stage (point agent rows lows) _ (Enters call Arrive opened (Arriving begins is) e))
+    (leave_path drains stage arrived.agent arrived.rows lows call (Leaving begins.here refl none)
     (decide stage.script.ranks arrived.rows (next_row arrived.agent call Leave)) refl)
-arrive_path stage agent rows lows call begins is NotYet e =
-    subst (λ b. Path stage (point agent rows lows) (point_at
+arrive_path drains stage agent rows lows call begins is NotYet e =
+    subst (λ b. Path drains stage (point agent rows lows) (point_at
     (cond b (leave stage agent rows call) (waiting agent rows)) lows)) (sym begins.new) Stays
 
-test_path : (stage : Stage) (agent : Agent) (rows : List Row) (lows : Lows) (call : Call) → Begins stage agent call →
+test_path : (drains : Bool) (stage : Stage) (agent : Agent) (rows : List Row) (lows : Lows) (call : Call) →
+    Begins stage agent call →
     course_at agent call ≡ EntryOrTested →
     (d : Decision) → decide stage.script.ranks rows (next_row agent call One) ≡ d →
-    Path stage (point agent rows lows) (point_at (test_by d stage agent rows call) lows)
-test_path stage agent rows lows call begins is (Refuse class) e = refused_path stage agent rows lows call
+    Path drains stage (point agent rows lows) (point_at (test_by d stage agent rows call) lows)
+test_path drains stage agent rows lows call begins is (Refuse class) e = refused_path drains stage agent rows lows call
     EntryOrTested class begins is refl e finished
-test_path stage agent rows lows call begins is Allow e =
-    one_move stage (point agent rows lows) _ (Enters call One finished (OnlyEntry begins (inr is)) e)
-test_path stage agent rows lows call begins is NotYet e = one_move stage (point agent rows lows) _
+test_path drains stage agent rows lows call begins is Allow e =
+    one_move drains stage (point agent rows lows) _ (Enters call One finished (OnlyEntry begins (inr is)) e)
+test_path drains stage agent rows lows call begins is NotYet e = one_move drains stage (point agent rows lows) _
     (Tests call begins is e)
 
 -- the first entry, by the items of its call
-entry_path : (stage : Stage) (agent : Agent) (rows : List Row) (lows : Lows) (call : Call) → Begins stage agent call →
+entry_path : (drains : Bool) (stage : Stage) (agent : Agent) (rows : List Row) (lows : Lows) (call : Call) →
+    Begins stage agent call →
     (course : Course) → course_at agent call ≡ course →
-    Path stage (point agent rows lows) (point_at (first_entry course stage agent rows call) lows)
-entry_path stage agent rows lows call begins OneNull is = Stays
-entry_path stage agent rows lows call begins OneIssue is = Stays
-entry_path stage agent rows lows call begins LookUpAndIssue is =
-    first_path stage agent rows lows call LookUpAndIssue opened begins is refl (LookUp begins is)
+    Path drains stage (point agent rows lows) (point_at (first_entry course stage agent rows call) lows)
+entry_path drains stage agent rows lows call begins OneNull is = Stays
+entry_path drains stage agent rows lows call begins OneIssue is = Stays
+entry_path drains stage agent rows lows call begins LookUpAndIssue is =
+    first_path drains stage agent rows lows call LookUpAndIssue opened begins is refl (LookUp begins is)
     (decide stage.script.ranks rows (next_row agent call One)) refl
-entry_path stage agent rows lows call begins OneFlush is = Stays
-entry_path stage agent rows lows call begins OneRequest is = Stays
-entry_path stage agent rows lows call begins ArriveAndLeave is =
-    arrive_path stage agent rows lows call begins is (decide stage.script.ranks rows
+entry_path drains stage agent rows lows call begins OneFlush is = Stays
+entry_path drains stage agent rows lows call begins OneRequest is = Stays
+entry_path drains stage agent rows lows call begins ArriveAndLeave is =
+    arrive_path drains stage agent rows lows call begins is (decide stage.script.ranks rows
     (next_row agent call Arrive)) refl
-entry_path stage agent rows lows call begins EntryOrTested is =
-    test_path stage agent rows lows call begins is (decide stage.script.ranks rows (next_row agent call One)) refl
-entry_path stage agent rows lows call begins OneEntry is =
-    first_path stage agent rows lows call OneEntry finished begins is refl (OnlyEntry begins (inl is))
+entry_path drains stage agent rows lows call begins EntryOrTested is =
+    test_path drains stage agent rows lows call begins is (decide stage.script.ranks rows (next_row agent call One))
+    refl
+entry_path drains stage agent rows lows call begins OneEntry is =
+    first_path drains stage agent rows lows call OneEntry finished begins is refl (OnlyEntry begins (inl is))
     (decide stage.script.ranks rows (next_row agent call One)) refl
 
 -- what it says that a call begins with an entry
@@ -140,28 +146,29 @@ begins_if stage agent call here new e =
       awaits = is_none_of (awaited_by agent call) (both_right (still && passes) awaits first);
     }
 
-call_path : (stage : Stage) (agent : Agent) (rows : List Row) (lows : Lows) (call : Call) →
+call_path : (drains : Bool) (stage : Stage) (agent : Agent) (rows : List Row) (lows : Lows) (call : Call) →
     next_call stage agent ≡ Some call → (b : Bool) → agent.entered ≡ b →
     cond b (is_none (transfer_of call)) (begins_with_entry stage agent call) ≡ true →
-    Path stage (point agent rows lows) (point_at (cond b (leave stage agent rows call)
+    Path drains stage (point agent rows lows) (point_at (cond b (leave stage agent rows call)
     (first_entry (course_at agent call) stage agent rows call)) lows)
-call_path stage agent rows lows call here true e tries =
-    leave_path stage agent rows lows call (Leaving here e (is_none_of (transfer_of call) tries))
+call_path drains stage agent rows lows call here true e tries =
+    leave_path drains stage agent rows lows call (Leaving here e (is_none_of (transfer_of call) tries))
     (decide stage.script.ranks rows (next_row agent call Leave)) refl
-call_path stage agent rows lows call here false e tries = entry_path stage agent rows lows call
+call_path drains stage agent rows lows call here false e tries = entry_path drains stage agent rows lows call
     (begins_if stage agent call here e tries) (course_at agent call) refl
 
 -- a step at the board is a path
-pub look_path : (stage : Stage) (agent : Agent) (rows : List Row) (lows : Lows) → tries_entry stage agent ≡ true →
-    Path stage (point agent rows lows) (point_at (board_step stage agent rows) lows)
-look_path stage agent rows lows tries =
+pub look_path : (drains : Bool) (stage : Stage) (agent : Agent) (rows : List Row) (lows : Lows) →
+    tries_entry stage agent ≡ true →
+    Path drains stage (point agent rows lows) (point_at (board_step stage agent rows) lows)
+look_path drains stage agent rows lows tries =
     elim (next_call stage agent) as (λ (o : Option Call). next_call stage agent ≡ o →
     option_map_or (λ call. cond agent.entered (is_none (transfer_of call))
     (begins_with_entry stage agent call)) o false ≡ true →
-    Path stage (point agent rows lows) (point_at (option_map_or (entry_of stage agent rows) o
+    Path drains stage (point agent rows lows) (point_at (option_map_or (entry_of stage agent rows) o
     (waiting agent rows)) lows)) [
       | None ↦ λ e t. Stays
-      | Some call ↦ λ e t. call_path stage agent rows lows call e agent.entered refl t
+      | Some call ↦ λ e t. call_path drains stage agent rows lows call e agent.entered refl t
     ] refl tries
 
 -- ---- lows

@@ -18,13 +18,18 @@ use Rattle.rank_rules.specs.declared.pending.PendingAccess.{PendingAccess}
 use Rattle.step_runs.specs.Agents.{Agent, new_agent, next_call, begins_with_entry}
 use Rattle.step_runs.specs.BoardSteps.{board_step}
 
+-- each move keeps it, of a rank that makes steps, or also of one that drains
+abbrev pub KeepsIn : Bool → Stage → (Point → Type 0) → Type 0
+KeepsIn drains stage P = (p q : Point) → P p → Move drains stage p q → P q
+
 -- each move keeps it
 abbrev pub Keeps : Stage → (Point → Type 0) → Type 0
-Keeps stage P = (p q : Point) → P p → Move stage p q → P q
+Keeps stage P = KeepsIn true stage P
 
-pub path_keeps : (stage : Stage) (P : Point → Type 0) → Keeps stage P → (p q : Point) → P p → Path stage p q → P q
-path_keeps stage P keeps p _ h Stays = h
-path_keeps stage P keeps p _ h (Goes q r path move) = keeps q r (path_keeps stage P keeps p q h path) move
+pub path_keeps : (drains : Bool) (stage : Stage) (P : Point → Type 0) → KeepsIn drains stage P → (p q : Point) →
+    P p → Path drains stage p q → P q
+path_keeps drains stage P keeps p _ h Stays = h
+path_keeps drains stage P keeps p _ h (Goes q r path move) = keeps q r (path_keeps drains stage P keeps p q h path) move
 
 -- ---- the rank
 
@@ -38,30 +43,31 @@ enters_same stage p call _ _ next (LookUp begins course) = refl
 enters_same stage p call _ _ next (Arriving begins course) = refl
 enters_same stage p call _ _ next (Leaving here inside none) = refl
 
-rank_kept : (stage : Stage) (rank : ℕ) → Keeps stage (IsOf rank)
-rank_kept stage rank p _ h (Learns more others) = h
-rank_kept stage rank p _ h (Rises after rise) = h
-rank_kept stage rank p _ h (Ends past empty going) = h
-rank_kept stage rank p _ h (RefusesAlone call class here new refuses) = h
-rank_kept stage rank p _ h (IsRefused call class begins has answer) = h
-rank_kept stage rank p _ h (Tests call begins course answer) = h
-rank_kept stage rank p _ h (Passes call item begins plain) = h
-rank_kept stage rank p _ h (Enters call step after entering answer) = enters_same stage p call step after _ entering
+rank_kept : (drains : Bool) (stage : Stage) (rank : ℕ) → KeepsIn drains stage (IsOf rank)
+rank_kept drains stage rank p _ h (Learns more others) = h
+rank_kept drains stage rank p _ h (Rises after rise) = h
+rank_kept drains stage rank p _ h (Ends past empty going) = h
+rank_kept drains stage rank p _ h (RefusesAlone call class here new refuses) = h
+rank_kept drains stage rank p _ h (IsRefused call class begins has answer) = h
+rank_kept drains stage rank p _ h (Tests call begins course answer) = h
+rank_kept drains stage rank p _ h (Passes call item begins plain) = h
+rank_kept drains stage rank p _ h (Enters call step after entering answer) =
+    enters_same stage p call step after _ entering
     ∙ h
-rank_kept stage rank p _ h (Issues call t access issuing later) = h
-rank_kept stage rank p _ h (IssuesWhole call t access items after issuing once touches) = h
-rank_kept stage rank p _ h (Draws state new) = h
-rank_kept stage rank p _ h (DeliversOne at one items after there due touches) = h
+rank_kept drains stage rank p _ h (Issues call t access issuing later) = h
+rank_kept drains stage rank p _ h (IssuesWhole call t access items after issuing once touches) = h
+rank_kept drains stage rank p _ h (Draws state new) = h
+rank_kept drains stage rank p _ h (DeliversOne at one items after there due touches) = h
 
 -- ---- lives
 
 -- a step at the board from what is known, with others' entries in between
-look_holds : (stage : Stage) (rank : ℕ) (P : Point → Type 0) → Keeps stage P →
+look_holds : (drains : Bool) (stage : Stage) (rank : ℕ) (P : Point → Type 0) → KeepsIn drains stage P →
     (agent : Agent) (known others puts : List Put) (lows after : Lows) → agent.rank ≡ rank →
     P (point agent (rows_put known) lows) → AreOthers rank others →
     LooksAfter stage agent (known ++ others) lows puts after →
     P (point (board_step stage agent (rows_put (known ++ others))).agent (rows_put ((known ++ others) ++ puts)) after)
-look_holds stage rank P keeps agent known others puts lows after mine h apart looks =
+look_holds drains stage rank P keeps agent known others puts lows after mine h apart looks =
     let before = rows_put (known ++ others) in
     let step = board_step stage agent before in
     let theirs : AllByRecursion (λ (row : Row). row.rank ≢ agent.rank) (rows_put others) =
@@ -70,29 +76,31 @@ look_holds stage rank P keeps agent known others puts lows after mine h apart lo
     let learnt : P (point agent before lows) =
     subst (λ (rows : List Row). P (point agent rows lows)) (sym (rows_joined known others))
     (keeps (point agent (rows_put known) lows) _ h (Learns (rows_put others) theirs)) in
-    let looked : P (point_at step lows) = path_keeps stage P keeps (point agent before lows)
-    (point_at step lows) learnt (look_path stage agent before lows looks.tries) in
+    let looked : P (point_at step lows) = path_keeps drains stage P keeps (point agent before lows)
+    (point_at step lows) learnt (look_path drains stage agent before lows looks.tries) in
     let moved : P (point step.agent (rows_put ((known ++ others) ++ puts)) lows) = subst
     (λ (rows : List Row). P (point step.agent rows lows)) looks.rows looked in
     keeps (point step.agent (rows_put ((known ++ others) ++ puts)) lows) _ moved
     (Rises after (put_rises stage.script.ranks (known ++ others) lows puts after looks.fronts))
 
-pub life_holds : (stage : Stage) (seed rank : ℕ) (P : Point → Type 0) → Keeps stage P →
+pub life_holds : (drains : Bool) (stage : Stage) (seed rank : ℕ) (P : Point → Type 0) → KeepsIn drains stage P →
     P (point (new_agent stage seed rank) [] first_lows) →
     (agent : Agent) (known : List Put) (lows : Lows) → Lives stage seed rank agent known lows →
     P (point agent (rows_put known) lows) × (agent.rank ≡ rank)
-life_holds stage seed rank P keeps h _ _ _ BeginsLife = (h, refl)
-life_holds stage seed rank P keeps h _ _ _ (Looks agent known others puts lows after life apart looks) =
-    let old = life_holds stage seed rank P keeps h agent known lows life in (
-      look_holds stage rank P keeps agent known others puts lows after old.1 old.0 apart looks,
-      look_holds stage rank (IsOf rank) (rank_kept stage rank) agent known others puts lows after old.1 old.1 apart
+life_holds drains stage seed rank P keeps h _ _ _ BeginsLife = (h, refl)
+life_holds drains stage seed rank P keeps h _ _ _ (Looks agent known others puts lows after life apart looks) =
+    let old = life_holds drains stage seed rank P keeps h agent known lows life in (
+      look_holds drains stage rank P keeps agent known others puts lows after old.1 old.0 apart looks,
+      look_holds drains stage rank (IsOf rank) (rank_kept drains stage rank) agent known others puts lows after old.1
+          old.1 apart
           looks,
     )
-life_holds stage seed rank P keeps h _ _ _ (Steps agent next known lows after life tries made) =
-    let old = life_holds stage seed rank P keeps h agent known lows life in
-    let path = step_path stage agent next (rows_put known) lows after made in (
-      path_keeps stage P keeps (point agent (rows_put known) lows) (point next (rows_put known) after) old.0 path,
-      path_keeps stage (IsOf rank) (rank_kept stage rank) (point agent (rows_put known) lows)
+life_holds drains stage seed rank P keeps h _ _ _ (Steps agent next known lows after life tries made) =
+    let old = life_holds drains stage seed rank P keeps h agent known lows life in
+    let path = step_path drains stage agent next (rows_put known) lows after made in (
+      path_keeps drains stage P keeps (point agent (rows_put known) lows) (point next (rows_put known) after) old.0
+          path,
+      path_keeps drains stage (IsOf rank) (rank_kept drains stage rank) (point agent (rows_put known) lows)
           (point next (rows_put known) after) old.1 path,
     )
 
@@ -164,13 +172,13 @@ drains_hold : (stage : Stage) (P : Point → Type 0) → Keeps stage P → (rows
 drains_hold stage P keeps rows agent lows closed h _ _ StaysDry = (h, closed)
 drains_hold stage P keeps rows agent lows closed h _ _ (Drained now next low after drains made) =
     let old = drains_hold stage P keeps rows agent lows closed h now low drains in
-    let due : IsDue stage now 0 = record {
+    let due : IsDue true stage now 0 = record {
       closed = old.1;
       free = first_is_free now.pending;
-      reason = IsDrained refl;
+      reason = IsDrained refl refl;
     } in (
-      path_keeps stage P keeps (point now rows low) (point next rows after) old.0
-          (delivery_path stage now next rows low after 0 due (slice_get now.pending 0) refl made),
+      path_keeps true stage P keeps (point now rows low) (point next rows after) old.0
+          (delivery_path true stage now next rows low after 0 due (slice_get now.pending 0) refl made),
       closed_delivered stage now next low after (slice_get now.pending 0) old.1 made,
     )
 
@@ -184,12 +192,12 @@ abbrev pub last_point : (stage : Stage) (seed rank : ℕ) (puts : List Put) (age
     HasLived stage seed rank puts agent → Point
 last_point stage seed rank puts agent lived = point agent (rows_put puts) lived.last
 
-pub stops_holding : (stage : Stage) (seed rank : ℕ) (P : Point → Type 0) → Keeps stage P →
+pub stops_holding : (drains : Bool) (stage : Stage) (seed rank : ℕ) (P : Point → Type 0) → KeepsIn drains stage P →
     P (point (new_agent stage seed rank) [] first_lows) →
     (puts : List Put) (agent : Agent) (lived : HasLived stage seed rank puts agent) →
     P (stopped_point stage seed rank puts agent lived) × (lived.stopped.rank ≡ rank)
-stops_holding stage seed rank P keeps h puts agent lived =
-    let old = life_holds stage seed rank P keeps h lived.stopped lived.known lived.lows lived.life in
+stops_holding drains stage seed rank P keeps h puts agent lived =
+    let old = life_holds drains stage seed rank P keeps h lived.stopped lived.known lived.lows lived.life in
     let theirs : AllByRecursion (λ (row : Row). row.rank ≢ lived.stopped.rank) (rows_put lived.later) =
     subst (λ r. AllByRecursion (λ (row : Row). row.rank ≢ r) (rows_put lived.later)) (sym old.1)
     (others_rows rank lived.later lived.apart) in (
@@ -206,8 +214,8 @@ pub lived_holds : (stage : Stage) (seed rank : ℕ) (P : Point → Type 0) → K
     (puts : List Put) (agent : Agent) (lived : HasLived stage seed rank puts agent) →
     P (last_point stage seed rank puts agent lived) × IsClosed stage agent
 lived_holds stage seed rank P keeps h puts agent lived =
-    let stopped = stops_holding stage seed rank P keeps h puts agent lived in
-    let over = stops_holding stage seed rank (EndsOver stage) (over_kept stage)
+    let stopped = stops_holding true stage seed rank P keeps h puts agent lived in
+    let over = stops_holding true stage seed rank (EndsOver stage) (over_kept stage)
     (λ e. absurd (cc e)) puts agent lived in
     let closed = stops_closed stage lived.stopped (rows_put puts) lived.lows over.0 lived.stops in
     drains_hold stage P keeps (rows_put puts) lived.stopped lived.lows closed stopped.0 agent lived.last lived.drains
@@ -216,7 +224,7 @@ lived_holds stage seed rank P keeps h puts agent lived =
 pub lived_rank : (stage : Stage) (seed rank : ℕ) (puts : List Put) (agent : Agent) →
     HasLived stage seed rank puts agent → agent.rank ≡ rank
 lived_rank stage seed rank puts agent lived = (lived_holds stage seed rank (IsOf rank)
-    (rank_kept stage rank) refl puts agent lived).0
+    (rank_kept true stage rank) refl puts agent lived).0
 
 -- a rank that has ended is over
 pub lived_over : (stage : Stage) (seed rank : ℕ) (puts : List Put) (agent : Agent) →

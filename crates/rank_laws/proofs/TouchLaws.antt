@@ -40,7 +40,7 @@ none_awaited : (here : RankOfRun) (index : ℕ) → IsAwaitedWhole here [] index
 none_awaited here zero = tt
 none_awaited here (suc index) = tt
 
-new_awaited : (stage : Stage) (seed rank : ℕ) → KeepsAwaited stage (new_agent stage seed rank)
+pub new_awaited : (stage : Stage) (seed rank : ℕ) → KeepsAwaited stage (new_agent stage seed rank)
 new_awaited stage seed rank = record {
   touches = new_touches stage seed rank;
   requests = λ rows. refl;

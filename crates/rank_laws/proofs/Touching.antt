@@ -175,7 +175,7 @@ touched_past index bound (Ended ∷ items) past all = touched_past index bound i
 -- ---- accesses
 
 -- touches issue nothing
-touch_issues_nothing : (calls : List Call) (index issue : ℕ) (item : Item) → IsTouchOf issue item →
+pub touch_issues_nothing : (calls : List Call) (index issue : ℕ) (item : Item) → IsTouchOf issue item →
     issued_by calls index item ≡ None
 touch_issues_nothing calls index issue (Touch of element cell place bits) is = refl
 touch_issues_nothing calls index issue (Issue number access) is = absurd is

@@ -1,14 +1,16 @@
-//! That a run which is put together from a history of each rank and one of each cell is lawful (MPI 3.1, sections 11.5 and
+//! Laws of a run that is put together from a history of each rank and one of each cell (MPI 3.1, sections 11.5 and
 //! 11.7, in this project's profile), whoever ran the ranks: one thread or many.
 #![tactic(auto)]
 
 ghost use Rattle.rank_laws.specs.Lawful.{AssembledRunsEndAlike, AssembledRunsFollowLookUps, AssembledRunsHaveLawfulBoards, AssembledRunsHaveLawfulCells, AssembledRunsTouchLawfully, UndelayedRunsTouchDirectly};
 
-/// An assembled run is lawful, for each script and delay: its entries are allowed in their order and its looks saw what they
-/// say, each cell has one history, and in each log accesses are touched whole, in issue order, and before what waits for them (MPI 3.1, sections 11.5 and 11.7, in this project's profile).
+/// An assembled run keeps these parts of the law, for each script and delay: its entries are allowed in their order and
+/// its looks saw what they say, each cell has one history, and in each log accesses are touched whole, in issue order,
+/// and before what waits for them (MPI 3.1, sections 11.5 and 11.7, in this project's profile). The crate `call_laws`
+/// has the items of the calls, and `assembled_laws` the whole law.
 ///
 /// It is a theorem, and does nothing when it is called.
-pub fn assembled_runs_are_lawful()
+pub fn assembled_runs_are_lawful_by_parts()
     ensures boards { AssembledRunsHaveLawfulBoards }
     ensures cells { AssembledRunsHaveLawfulCells }
     ensures ends { AssembledRunsEndAlike }

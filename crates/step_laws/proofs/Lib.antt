@@ -1,23 +1,23 @@
 -- The proofs.
-mod Lists
-mod Picks
+pub mod Lists
+pub mod Picks
 pub mod OwnTests
 pub mod EntryMoves
-mod Weights
-mod BoardWeights
-mod DataWeights
-mod DataBegun
-mod Turns
-mod Ending
-mod Bound
-mod Draining
+pub mod Weights
+pub mod BoardWeights
+pub mod DataWeights
+pub mod DataBegun
+pub mod Turns
+pub mod Ending
+pub mod Bound
+pub mod Draining
 pub mod Memory
 pub mod OwnRoom
 pub mod Creations
 pub mod Flavors
 pub mod Sound
 pub mod CallCourses
-mod LookUps
-mod SoundEntries
-mod SoundSteps
-mod SoundRuns
+pub mod LookUps
+pub mod SoundEntries
+pub mod SoundSteps
+pub mod SoundRuns

@@ -32,14 +32,14 @@ pub record IsSoundWorld (script : Script) (delay : Delay) (world : World) : Type
   pub each : (rank : ℕ) → rank < script.ranks → IsSoundRank script delay rank
       (agent_at (stage_of script delay) world rank) world.rows
 
-sound_picks : (script : Script) (delay : Delay) → KeptByPicks (IsSoundWorld script delay)
+pub sound_picks : (script : Script) (delay : Delay) → KeptByPicks (IsSoundWorld script delay)
 sound_picks script delay world schedule same sound = record {
   ranks = regular_picks (stage_of script delay) world schedule same sound.ranks;
   rows = sound.rows;
   each = sound.each;
 }
 
-sound_at_board : (script : Script) (delay : Delay) → IsWellFormed script →
+pub sound_at_board : (script : Script) (delay : Delay) → IsWellFormed script →
     KeptAtBoard (stage_of script delay) (IsSoundWorld script delay)
 sound_at_board script delay formed world rank may tries sound = record {
   ranks = regular_at_board stage world rank may tries sound.ranks;
@@ -72,7 +72,7 @@ sound_at_board script delay formed world rank may tries sound = record {
         })
         (board_step_moves stage agent world.rows (sound.ranks.begun rank) tries)
 
-sound_on_memory : (script : Script) (delay : Delay) → KeptOnMemory (stage_of script delay) (IsSoundWorld script delay)
+pub sound_on_memory : (script : Script) (delay : Delay) → KeptOnMemory (stage_of script delay) (IsSoundWorld script delay)
 sound_on_memory script delay world rank may tries sound =
     let stage = stage_of script delay in
     let agent = agent_at stage world rank in
@@ -102,7 +102,7 @@ new_sound script delay formed rank some below = record {
   pending = tt;
 }
 
-first_is_sound : (script : Script) (order : Order) (delay : Delay) (seed : ℕ) → IsWellFormed script →
+pub first_is_sound : (script : Script) (order : Order) (delay : Delay) (seed : ℕ) → IsWellFormed script →
     IsSoundWorld script delay (first_world (stage_of script delay) order seed)
 first_is_sound script order delay seed formed = record {
   ranks = first_is_regular (stage_of script delay) order seed;

@@ -1,9 +1,6 @@
 -- What an entry of each kind adds to what its rank has done on its window.
-use Rattle.std.proofs.Common.{◌≡◌, ℕ, ◌+◌, Bool, true, false, ◌&&◌, List, [], ◌∷◌, ◌++◌, refl, ap, sym, ◌∙◌, append-nil, arith, ℤ}
-use Rattle.rma_types.specs.declared.accesses.Step.{Step}
-use Rattle.rma_types.specs.declared.accesses.Step.TheVariants.{Arrive, Leave, One}
+use Rattle.std.proofs.Common.{◌≡◌, ℕ, ◌+◌, Bool, true, false, ◌&&◌, List, [], ◌∷◌, ◌++◌, refl, ap, ◌∙◌, append-nil, arith, ℤ}
 use Rattle.rma_types.specs.declared.calls.Asserts.{Asserts}
-use Rattle.rma_types.specs.declared.calls.Call.{Call}
 use Rattle.call_rules.specs.Actions.{Action, Synchronises, Posts, Starts, Completes, Waits, action_of}
 use Rattle.call_rules.specs.Ranks.{members_of}
 use Rattle.board_rules.specs.Entries.{Act, is_arrive}

@@ -3,7 +3,7 @@ use Rattle.std.proofs.Common.{◌≡◌, ℕ, List, [], refl, ap, sym, ◌∙◌
 use Rattle.std.specs.List.{list_all}
 use Rattle.board_rules.specs.Posts.{start_has_posts, wait_has_completes, last_posted}
 use Rattle.board_rules.specs.Questions.{Question}
-use Rattle.sync_board.specs.Sides.{own, done, done_at, has_post_of, has_complete_of}
+use Rattle.sync_board.specs.Sides.{done, done_at, has_post_of, has_complete_of}
 
 start_at : (q : Question) (group : List ℕ) → list_all (has_post_of (done_at q) q.rank) group ≡ start_has_posts q group
 unfolding done

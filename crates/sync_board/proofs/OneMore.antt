@@ -1,6 +1,6 @@
 -- What one entry more of a rank on a window adds to what the rank has done there.
-use Rattle.std.proofs.Common.{◌≡◌, ℕ, ◌+◌, Bool, true, false, ◌&&◌, cond, List, [], ◌∷◌, ◌++◌, length, map, refl, ap, sym, ◌∙◌, append_assoc, append-nil, arith}
-use Rattle.std.specs.List.{count_by, filter, flat_map, fold}
+use Rattle.std.proofs.Common.{◌≡◌, ◌+◌, Bool, true, false, ◌&&◌, cond, List, [], ◌∷◌, ◌++◌, map, refl, ap, ◌∙◌, append-nil}
+use Rattle.std.specs.List.{count_by, filter, flat_map}
 use Rattle.std.specs.Option.{option_map_or}
 use Rattle.std.proofs.lemmas.Grind.{flat_map-append, fold-append}
 use Rattle.std.proofs.lemmas.List.{map-append}
@@ -8,12 +8,11 @@ use Rattle.std.proofs.lemmas.List.Elements.{filter-append}
 use Rattle.std.proofs.lemmas.List.Sums.{sum_by-append}
 use Rattle.rma_types.specs.declared.accesses.Step.{Step}
 use Rattle.rma_types.specs.declared.calls.Call.{Call}
-use Rattle.call_rules.specs.Actions.{Action, Creates, Frees, Attaches, Detaches, Synchronises, Meets, Moves, EndsRequest, Synchronisation, Fences, Posts, Starts, Completes, Waits, Locks, Unlocks, Flushes, Syncs, synchronisation_in, synchronisation_of, action_of}
-use Rattle.call_rules.specs.Ranks.{is_member, members_of}
+use Rattle.call_rules.specs.Actions.{Action, Synchronisation, synchronisation_in, synchronisation_of, action_of}
 use Rattle.board_rules.specs.AttachedRanges.{ranges_after}
-use Rattle.board_rules.specs.Entries.{Act, Row, Collective, Creation, Freeing, Fence, Barrier, is_arrive, is_collective, is_same_collective, collective_in, is_by_on}
-use Rattle.board_rules.specs.Posts.{group_of_post, group_of_start, is_complete, is_wait, naming}
-use Rattle.sync_board.specs.Sides.{own, synchronised, arrived, Done, done}
+use Rattle.board_rules.specs.Entries.{Act, Collective, Creation, Freeing, Fence, is_arrive, is_collective, is_same_collective, collective_in}
+use Rattle.board_rules.specs.Posts.{group_of_post, group_of_start, is_complete, is_wait}
+use Rattle.sync_board.specs.Sides.{synchronised, arrived, Done, done}
 
 -- the synchronisation that an action is, as a list
 abbrev pub synchronisation_by : Action → List Synchronisation

@@ -1,7 +1,5 @@
 -- What one call more does to the counts and tables of a side.
-use Rattle.std.proofs.Common.{◌≡◌, ℕ, zero, suc, ◌+◌, ◌<◌, ◌≤◌, Bool, true, false, cond, List, [], ◌∷◌, ◌++◌, length, get_or, take, reverse, map, refl, ap, sym, ◌∙◌, zero-add, arith, Option, Some, None, IfSome}
-use Rattle.std.specs.List.{count_by}
-use Rattle.std.proofs.lemmas.Bool.{cases_lt}
+use Rattle.std.proofs.Common.{◌≡◌, ℕ, zero, suc, ◌+◌, ◌<◌, ◌≤◌, Bool, cond, List, [], ◌∷◌, ◌++◌, length, get_or, take, reverse, refl, ap, sym, ◌∙◌, zero-add, arith, Option, Some, None, IfSome}
 use Rattle.std.proofs.lemmas.List.{take_all, take_more, reverse-append, take-append-le, length-append}
 use Rattle.call_rules.specs.Ranks.{is_member}
 use Rattle.board_rules.specs.Posts.{naming}

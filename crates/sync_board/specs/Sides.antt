@@ -3,7 +3,6 @@
 use Rattle.std.specs.Prelude.{◌≡◌, ℕ, ◌+◌, ◌<◌, Bool, true, false, ◌&&◌, ◌==◌, nat_lt, if◌then◌else◌, List, [], ◌∷◌, ◌++◌, length, map, take, reverse, slice_index, slice_index_or}
 use Rattle.std.specs.List.{count_by, filter, flat_map, fold}
 use Rattle.std.specs.Option.{option_map_or}
-use Rattle.rma_types.specs.declared.calls.Asserts.{Asserts}
 use Rattle.rma_types.specs.declared.calls.Call.{Call}
 use Rattle.call_rules.specs.Actions.{Synchronisation, synchronisation_of, action_of}
 use Rattle.call_rules.specs.Ranks.{is_member}

@@ -1,4 +1,4 @@
-use Rattle.std.proofs.Common.{◌≡◌, ◌∙◌, ap, sym, get_or, reverse, ℕ, [], List, subst, arith}
+use Rattle.std.proofs.Common.{◌∙◌, sym, get_or, arith}
 use Rattle.board_rules.specs.Posts.{last_posted}
 use Rattle.sync_board.specs.Sides.{done_at, has_complete_of, IsGroup}
 use Rattle.sync_board.proofs.Groups.{all_told, one_told}

@@ -5,7 +5,7 @@ use Rattle.board_rules.specs.Rounds.{is_differing_fence}
 use Rattle.sync_board.specs.declared.rounds.Kind.TheVariants.{Fence}
 use Rattle.sync_board.specs.declared.rounds.Rounds.{Rounds}
 use Rattle.sync_board.specs.Rounds.{HasRounds, arrival_in}
-use Rattle.sync_board.specs.Sides.{Done, done_at}
+use Rattle.sync_board.specs.Sides.{done_at}
 use Rattle.sync_board.proofs.RoundSteps.{no_number, round_is, some_number}
 use Rattle.sync_board.proofs.rounds.has_other_fence.Goals as goal
 

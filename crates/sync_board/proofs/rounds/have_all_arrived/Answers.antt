@@ -1,8 +1,8 @@
-use Rattle.std.proofs.Common.{◌≡◌, ℕ, ◌∙◌, ap, sym, subst, true, false, leb, length, arith, ⊎_elim}
+use Rattle.std.proofs.Common.{◌≡◌, ℕ, ◌∙◌, ap, sym, subst, true, leb, length, arith, ⊎_elim}
 use Rattle.std.proofs.lemmas.Bool.{cases_lt, le-leb, lt-leb}
 use Rattle.sync_board.specs.declared.rounds.Rounds.{Rounds}
 use Rattle.sync_board.specs.Rounds.{HasRounds, arrivals_by}
-use Rattle.sync_board.specs.Sides.{Done, done_at}
+use Rattle.sync_board.specs.Sides.{done_at}
 use Rattle.sync_board.proofs.RoundSteps.{all_numbers, arrived_is, not_all_numbers}
 use Rattle.sync_board.proofs.rounds.have_all_arrived.Goals as goal
 

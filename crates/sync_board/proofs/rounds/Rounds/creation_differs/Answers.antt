@@ -1,4 +1,4 @@
-use Rattle.std.proofs.Common.{◌≡◌, ◌∙◌, ap, sym, false, not, Some, None, List}
+use Rattle.std.proofs.Common.{◌≡◌, ◌∙◌, ap, sym, false, not, Some, None}
 use Rattle.std.specs.Prelude.{slice_get}
 use Rattle.std.specs.Option.{option_map_or}
 use Rattle.rank_rules.specs.Windows.{is_same_flavor}

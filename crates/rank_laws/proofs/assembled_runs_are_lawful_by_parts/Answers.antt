@@ -3,7 +3,7 @@ use Rattle.rank_laws.proofs.BoardLaws.{board_is_lawful}
 use Rattle.rank_laws.proofs.CellLaws.{cells_are_lawful}
 use Rattle.rank_laws.proofs.EndMoves.{runs_end_alike}
 use Rattle.rank_laws.proofs.Lawful as theorems
-use Rattle.rank_laws.proofs.assembled_runs_are_lawful.Goals as goal
+use Rattle.rank_laws.proofs.assembled_runs_are_lawful_by_parts.Goals as goal
 
 pub returns : goal.returns
 returns c = record {

@@ -1,0 +1,1 @@
+-- The theorem's statement is that of rank_laws.

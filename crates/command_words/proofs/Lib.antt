@@ -1,0 +1,3 @@
+-- Proofs of the words of the command line.
+mod Matches
+mod WorkedWords

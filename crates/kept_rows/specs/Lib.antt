@@ -1,0 +1,3 @@
+-- What the board keeps of its entries.
+pub mod Gifts
+pub mod KeptCalls
