@@ -40,10 +40,12 @@ use Rattle.agreement_laws.specs.AgreementLaws.{AssembledRunsAgree}
 
 -- ---- lists
 
-each_got : {X : Type 0} (P : X → Type 0) (xs : List X) (k : ℕ) (x : X) → AllByRecursion P xs → slice_get xs k ≡ Some x → P x
+each_got : {X : Type 0} (P : X → Type 0) (xs : List X) (k : ℕ) (x : X) → AllByRecursion P xs →
+    slice_get xs k ≡ Some x → P x
 each_got P xs k x all e = each_in P xs all (get_in xs k x e)
 
-pair_got : {X : Type 0} (R : X → X → Type 0) (xs : List X) (i j : ℕ) (x y : X) → EachPair R xs → slice_get xs i ≡ Some x →
+pair_got : {X : Type 0} (R : X → X → Type 0) (xs : List X) (i j : ℕ) (x y : X) → EachPair R xs →
+    slice_get xs i ≡ Some x →
     slice_get xs j ≡ Some y → i < j → R x y
 pair_got R [] i j x y all e f below = absurd (cc e)
 pair_got R (z ∷ zs) zero zero x y all e f below = absurd (omega arith)
@@ -59,7 +61,8 @@ mapped_got f (x ∷ xs) zero y e = (x, refl, cc e)
 mapped_got f (x ∷ xs) (suc k) y e = mapped_got f xs k y e
 
 -- two splits of one list at one place are one
-one_split : {X : Type 0} (xs zs : List X) (x z : X) (ys ws : List X) → xs ++ x ∷ ys ≡ zs ++ z ∷ ws → length xs ≡ length zs →
+one_split : {X : Type 0} (xs zs : List X) (x z : X) (ys ws : List X) → xs ++ x ∷ ys ≡ zs ++ z ∷ ws →
+    length xs ≡ length zs →
     (xs ≡ zs) × (x ≡ z)
 one_split [] [] x z ys ws e long = (refl, cc e)
 one_split [] (w ∷ zs) x z ys ws e long = absurd (omega (arith, long))
@@ -69,27 +72,32 @@ one_split (v ∷ xs) (w ∷ zs) x z ys ws e long =
     let rest = one_split xs zs x z ys ws (cc e) (omega (arith, long)) in (λ i. same i ∷ rest.0 i, rest.1)
 
 -- of two splits of one list, the earlier is a split of the front of the later
-later_split : {X : Type 0} (xs zs : List X) (x z : X) (ys ws : List X) → xs ++ x ∷ ys ≡ zs ++ z ∷ ws → length xs < length zs →
+later_split : {X : Type 0} (xs zs : List X) (x z : X) (ys ws : List X) → xs ++ x ∷ ys ≡ zs ++ z ∷ ws →
+    length xs < length zs →
     (middle : List X) × (zs ≡ xs ++ x ∷ middle)
 later_split xs [] x z ys ws e long = absurd (omega (arith, long))
 later_split [] (w ∷ zs) x z ys ws e long = let same : x ≡ w = cc e in (zs, ap (λ v. v ∷ zs) (sym same))
 later_split (v ∷ xs) (w ∷ zs) x z ys ws e long =
     let same : v ≡ w = cc e in
-    let rest = later_split xs zs x z ys ws (cc e) (omega (arith, long)) in (rest.0, (let back : w ≡ v = sym same in λ i. back i ∷ rest.1 i))
+    let rest = later_split xs zs x z ys ws (cc e) (omega (arith, long)) in
+    (rest.0, (let back : w ≡ v = sym same in λ i. back i ∷ rest.1 i))
 
 -- the lows are at or above the front of an entry with an edge
-met_at : (ranks : ℕ) (before xs : List Put) (put : Put) (ys : List Put) (event : Event) (lows : Lows) → AreMetFrom ranks before (xs ++ put ∷ ys) event lows →
+met_at : (ranks : ℕ) (before xs : List Put) (put : Put) (ys : List Put) (event : Event) (lows : Lows) →
+    AreMetFrom ranks before (xs ++ put ∷ ys) event lows →
     is_edge (event_after ranks (rows_put (before ++ xs)) put.row) event ≡ true → AreAtMost put.front lows
 met_at ranks before [] put ys event lows met edge =
     met.0 (subst (λ l. is_edge (event_after ranks (rows_put l) put.row) event ≡ true) (append-nil before) edge)
 met_at ranks before (x ∷ xs) put ys event lows met edge =
     met_at ranks (before ++ x ∷ []) xs put ys event lows met.1
-    (subst (λ l. is_edge (event_after ranks (rows_put l) put.row) event ≡ true) (sym (append_assoc before (x ∷ []) xs)) edge)
+    (subst (λ l. is_edge (event_after ranks (rows_put l) put.row) event ≡ true)
+    (sym (append_assoc before (x ∷ []) xs)) edge)
 
 keeps_by : (x y : Touching) (o : Option Change) → x.change ≡ o → place_after x.place o ≤ y.place → KeepsOrder x y
 keeps_by x y None e low = subst (λ o. KeepsOrder (record x { change = o }) y) (sym e) low
 keeps_by x y (Some change) e low =
-    let less : x.place < y.place = omega (arith, low) in subst (λ o. KeepsOrder (record x { change = o }) y) (sym e) less
+    let less : x.place < y.place = omega (arith, low) in
+    subst (λ o. KeepsOrder (record x { change = o }) y) (sym e) less
 
 module _ (script : Script) (delay : Delay) (seed : ℕ) (run : Run) (is : IsAssembled script delay seed run) where
   board : HasLawfulBoard script run
@@ -115,7 +123,8 @@ module _ (script : Script) (delay : Delay) (seed : ℕ) (run : Run) (is : IsAsse
       let there = rank_there script delay seed run is rank within in
       let mine = lived_rank stage seed rank is.puts there.agent there.lived in
       let marks = lived_marked stage seed rank is.puts there.agent there.lived in
-      let of_rank = subst (λ (r : ℕ). AreMarked (record (marking_of stage there.agent is.puts) { calls = calls_at stage r }) there.lived.last) mine marks in (
+      let of_rank = subst (λ (r : ℕ). AreMarked
+      (record (marking_of stage there.agent is.puts) { calls = calls_at stage r }) there.lived.last) mine marks in (
         there.lived.last,
         subst (λ l. AreMarked (record (marking rank) { log = l }) there.lived.last) (sym there.log) of_rank,
       )
@@ -129,17 +138,20 @@ module _ (script : Script) (delay : Delay) (seed : ℕ) (run : Run) (is : IsAsse
     at : slice_get (marks_of rank within) k ≡ Some mark
     right : IsRightItem (marking rank) item mark.low mark.out
 
-  mark_at : (rank : ℕ) (within : rank < script.ranks) (k : ℕ) (item : Item) → slice_get (log_of run rank) k ≡ Some item → HasMark rank within k item
+  mark_at : (rank : ℕ) (within : rank < script.ranks) (k : ℕ) (item : Item) →
+      slice_get (log_of run rank) k ≡ Some item → HasMark rank within k item
   mark_at rank within k item e =
       let m = (marked rank within).1 in
       let one = mapped_got (λ (mark : Mark). mark.item) m.marks k item (ap (λ l. slice_get l k) (sym m.items) ∙ e) in
       record {
         mark = one.0;
         at = one.1;
-        right = subst (λ i. IsRightItem (marking rank) i one.0.low one.0.out) one.2 (each_got (IsRight (marking rank)) m.marks k one.0 m.right one.1);
+        right = subst (λ i. IsRightItem (marking rank) i one.0.low one.0.out) one.2
+            (each_got (IsRight (marking rank)) m.marks k one.0 m.right one.1);
       }
 
-  rising : (rank : ℕ) (within : rank < script.ranks) (i j : ℕ) (a b : Item) (x : HasMark rank within i a) (y : HasMark rank within j b) → i < j →
+  rising : (rank : ℕ) (within : rank < script.ranks) (i j : ℕ) (a b : Item) (x : HasMark rank within i a)
+      (y : HasMark rank within j b) → i < j →
       AreAtMost x.mark.out y.mark.low
   rising rank within i j a b x y below =
       pair_got AreRising (marks_of rank within) i j x.mark y.mark (marked rank within).1.rising x.at y.at below
@@ -153,18 +165,21 @@ module _ (script : Script) (delay : Delay) (seed : ℕ) (run : Run) (is : IsAsse
     mark : HasMark rank within f.id.index (Entry number f.event.place f.event.step)
     event_is : f.event ≡ event_after script.ranks (rows_put mark.right.before) mark.right.put.row
 
-  put_of : (f : NamedEvent) (rank : ℕ) (within : rank < script.ranks) → In f (events_in script run) → f.id.rank ≡ rank → HasPut f rank within
+  put_of : (f : NamedEvent) (rank : ℕ) (within : rank < script.ranks) → In f (events_in script run) →
+      f.id.rank ≡ rank → HasPut f rank within
   put_of f rank within m of_rank =
       let e = event_on_board script run ranks board f m in
       let logged : slice_get (log_of run rank) f.id.index ≡ Some (Entry e.number f.event.place f.event.step) =
-      subst (λ r. slice_get (log_of run r) f.id.index ≡ Some (Entry e.number f.event.place f.event.step)) of_rank e.logged in
+      subst (λ r. slice_get (log_of run r) f.id.index ≡ Some (Entry e.number f.event.place f.event.step)) of_rank
+      e.logged in
       let mark = mark_at rank within f.id.index (Entry e.number f.event.place f.event.step) logged in
       let entry = mark.right in
       let rows : rows_of script run ≡ rows_put entry.before ++ entry.put.row ∷ rows_put entry.rest =
       rows_are script delay seed run is ∙ ap rows_put entry.split ∙ rows_joined entry.before (entry.put ∷ entry.rest) in
       let long : length e.before ≡ length (rows_put entry.before) =
       e.long ∙ sym entry.long ∙ sym (length-map entry.before (λ (put : Put). put.row)) in
-      let same = one_split e.before (rows_put entry.before) e.row entry.put.row e.rest (rows_put entry.rest) (sym e.split ∙ rows) long in
+      let same = one_split e.before (rows_put entry.before) e.row entry.put.row e.rest (rows_put entry.rest)
+      (sym e.split ∙ rows) long in
       let place : f.event.place ≡ length (rows_put entry.before) = sym e.long ∙ long in
       record {
         number = e.number;
@@ -182,24 +197,30 @@ module _ (script : Script) (delay : Delay) (seed : ℕ) (run : Run) (is : IsAsse
   front_of f rank within put = put.mark.right.put.front
 
   -- an entry has one put
-  one_put : (f : NamedEvent) (r s : ℕ) (within : r < script.ranks) (inside : s < script.ranks) (p : HasPut f r within) (q : HasPut f s inside) →
+  one_put : (f : NamedEvent) (r s : ℕ) (within : r < script.ranks) (inside : s < script.ranks) (p : HasPut f r within)
+      (q : HasPut f s inside) →
       p.mark.right.put ≡ q.mark.right.put
   one_put f r s within inside p q =
-      (one_split p.mark.right.before q.mark.right.before p.mark.right.put q.mark.right.put p.mark.right.rest q.mark.right.rest
+      (one_split p.mark.right.before q.mark.right.before p.mark.right.put q.mark.right.put p.mark.right.rest
+      q.mark.right.rest
       (sym p.mark.right.split ∙ q.mark.right.split) (p.mark.right.long ∙ sym q.mark.right.long)).1
 
   -- the front of an entry with an edge is met
-  met : (f e : NamedEvent) (r s : ℕ) (within : r < script.ranks) (inside : s < script.ranks) → In f (events_in script run) → In e (events_in script run) →
-      is_edge_between f e ≡ true → (pf : HasPut f r within) (pe : HasPut e s inside) → AreAtMost (front_of f r within pf) pe.mark.mark.out
+  met : (f e : NamedEvent) (r s : ℕ) (within : r < script.ranks) (inside : s < script.ranks) →
+      In f (events_in script run) → In e (events_in script run) →
+      is_edge_between f e ≡ true → (pf : HasPut f r within) (pe : HasPut e s inside) →
+      AreAtMost (front_of f r within pf) pe.mark.mark.out
   met f e r s within inside of_f of_e edge pf pe =
       let up = edge_ascends_on_board script run ranks board f e of_f of_e edge in
       let before_f = pf.mark.right.long in
       let before_e = pe.mark.right.long in
-      let split = later_split pf.mark.right.before pe.mark.right.before pf.mark.right.put pe.mark.right.put pf.mark.right.rest pe.mark.right.rest
+      let split = later_split pf.mark.right.before pe.mark.right.before pf.mark.right.put pe.mark.right.put
+      pf.mark.right.rest pe.mark.right.rest
       (sym pf.mark.right.split ∙ pe.mark.right.split) (omega (arith, up, before_f, before_e)) in
       let meets : AreMetFrom script.ranks [] (pf.mark.right.before ++ pf.mark.right.put ∷ split.0)
       (event_after script.ranks (rows_put pe.mark.right.before) pe.mark.right.put.row) pe.mark.mark.out =
-      subst (λ l. AreMetFrom script.ranks [] l (event_after script.ranks (rows_put pe.mark.right.before) pe.mark.right.put.row) pe.mark.mark.out)
+      subst (λ l. AreMetFrom script.ranks [] l
+      (event_after script.ranks (rows_put pe.mark.right.before) pe.mark.right.put.row) pe.mark.mark.out)
       split.1 pe.mark.right.meets in
       met_at script.ranks [] pf.mark.right.before pf.mark.right.put split.0
       (event_after script.ranks (rows_put pe.mark.right.before) pe.mark.right.put.row) pe.mark.mark.out meets
@@ -231,8 +252,10 @@ module _ (script : Script) (delay : Delay) (seed : ℕ) (run : Run) (is : IsAsse
     Reaches b = (x.id ≡ b) ⊎ (((x.id.rank ≡ b.rank) × (x.id.index < b.index)) ⊎ IsFar b)
 
     -- from an entry that is reached, across an edge
-    across : (b c : Id) (f e : NamedEvent) → In f (events_in script run) → In e (events_in script run) → f.id ≡ b → e.id ≡ c → is_edge_between f e ≡ true →
-        ((within : f.id.rank < script.ranks) (put : HasPut f f.id.rank within) → AreAtMost own.mark.out (front_of f f.id.rank within put)) → Reaches c
+    across : (b c : Id) (f e : NamedEvent) → In f (events_in script run) → In e (events_in script run) → f.id ≡ b →
+        e.id ≡ c → is_edge_between f e ≡ true →
+        ((within : f.id.rank < script.ranks) (put : HasPut f f.id.rank within) →
+        AreAtMost own.mark.out (front_of f f.id.rank within put)) → Reaches c
     unfolding Reaches
     across b c f e of_f of_e is_b is_c edge passed =
         let within = (event_on_board script run ranks board f of_f).within in
@@ -255,12 +278,14 @@ module _ (script : Script) (delay : Delay) (seed : ℕ) (run : Run) (is : IsAsse
     not_entry : (f : NamedEvent) → In f (events_in script run) → x.id ≡ f.id → ⊥
     not_entry f of_f same =
         let e = event_on_board script run ranks board f of_f in
-        let both : Some (Touch x.issue x.element x.cell x.place x.bits) ≡ Some (Entry e.number f.event.place f.event.step) =
+        let both : Some (Touch x.issue x.element x.cell x.place x.bits) ≡ Some
+        (Entry e.number f.event.place f.event.step) =
         sym touch.item.logged ∙ ap (λ (i : Id). slice_get (log_of run i.rank) i.index) same ∙ e.logged in
         cc both
 
     -- an entry after the touch in its log
-    near_front : (f : NamedEvent) (within : f.id.rank < script.ranks) (put : HasPut f f.id.rank within) → In f (events_in script run) →
+    near_front : (f : NamedEvent) (within : f.id.rank < script.ranks) (put : HasPut f f.id.rank within) →
+        In f (events_in script run) →
         x.id.rank ≡ f.id.rank → x.id.index < f.id.index → AreAtMost own.mark.out (front_of f f.id.rank within put)
     near_front f within put of_f rank below =
         let here = put_of f x.id.rank touch.within of_f (sym rank) in
@@ -270,24 +295,31 @@ module _ (script : Script) (delay : Delay) (seed : ℕ) (run : Run) (is : IsAsse
         (most_join own.mark.out here.mark.mark.low here.mark.right.put.front up here.mark.right.above)
 
     -- an entry after one to which an edge leads from a front that passed the touch
-    far_front : (b : Id) (f e : NamedEvent) (within : f.id.rank < script.ranks) (put : HasPut f f.id.rank within) → In f (events_in script run) →
+    far_front : (b : Id) (f e : NamedEvent) (within : f.id.rank < script.ranks) (put : HasPut f f.id.rank within) →
+        In f (events_in script run) →
         f.id ≡ b → is_edge_between f e ≡ true → IsFar b → AreAtMost own.mark.out (front_of f f.id.rank within put)
     far_front b f e within put of_f is_b edge far =
         let rank : far.e.id.rank ≡ f.id.rank = far.rank ∙ sym (ap (λ (i : Id). i.rank) is_b) in
         let index : f.id.index ≡ b.index = ap (λ (i : Id). i.index) is_b in
         let there = put_of far.e f.id.rank within far.of_e rank in
-        let meets = met far.f far.e far.f.id.rank f.id.rank far.within within far.of_f far.of_e far.edge far.put there in
+        let meets = met far.f far.e far.f.id.rank f.id.rank far.within within far.of_f far.of_e far.edge far.put there
+        in
         elim (cases_lt far.e.id.index f.id.index) [
           | inl below ↦
-              let up = rising f.id.rank within far.e.id.index f.id.index (Entry there.number far.e.event.place far.e.event.step)
+              let up = rising f.id.rank within far.e.id.index f.id.index
+              (Entry there.number far.e.event.place far.e.event.step)
               (Entry put.number f.event.place f.event.step) there.mark put.mark below in
-              most_join own.mark.out (front_of far.f far.f.id.rank far.within far.put) (front_of f f.id.rank within put) far.passed
-              (most_join (front_of far.f far.f.id.rank far.within far.put) there.mark.mark.out (front_of f f.id.rank within put) meets
-              (most_join there.mark.mark.out put.mark.mark.low (front_of f f.id.rank within put) up put.mark.right.above))
+              most_join own.mark.out (front_of far.f far.f.id.rank far.within far.put)
+              (front_of f f.id.rank within put) far.passed
+              (most_join (front_of far.f far.f.id.rank far.within far.put) there.mark.mark.out
+              (front_of f f.id.rank within put) meets
+              (most_join there.mark.mark.out put.mark.mark.low
+              (front_of f f.id.rank within put) up put.mark.right.above))
           | inr late ↦
               let last = far.index in
               let at : far.e.id.index ≡ f.id.index = omega (arith, late, last, index) in
-              let both : Some (Entry there.number far.e.event.place far.e.event.step) ≡ Some (Entry put.number f.event.place f.event.step) =
+              let both : Some (Entry there.number far.e.event.place far.e.event.step) ≡ Some
+              (Entry put.number f.event.place f.event.step) =
               sym there.logged ∙ ap (slice_get (log_of run f.id.rank)) at ∙ put.logged in
               let place : far.e.event.place ≡ f.event.place = cc both in
               let same = same_on_board script run ranks board far.e f far.of_e of_f place in
@@ -326,16 +358,20 @@ module _ (script : Script) (delay : Delay) (seed : ℕ) (run : Run) (is : IsAsse
           | inl same ↦ absurd (not_entry ends.0 ends.2 (same ∙ sym ends.4))
           | inr (inl near) ↦
               let index = ap (λ (i : Id). i.index) ends.4 in
-              near_front ends.0 within put ends.2 (near.0 ∙ sym (ap (λ (i : Id). i.rank) ends.4)) (omega (arith, near.1, index))
+              near_front ends.0 within put ends.2 (near.0 ∙ sym (ap (λ (i : Id). i.rank) ends.4))
+              (omega (arith, near.1, index))
           | inr (inr far) ↦ far_front b ends.0 ends.1 within put ends.2 ends.4 ends.6 far
         ])
 
     -- ---- the touches
 
-    low_above : (y : Touching) (other : IsTouch script run y) (rank : ℕ) (within : rank < script.ranks) → y.id.rank ≡ rank →
+    low_above : (y : Touching) (other : IsTouch script run y) (rank : ℕ) (within : rank < script.ranks) →
+        y.id.rank ≡ rank →
         HasMark rank within y.id.index (Touch y.issue y.element y.cell y.place y.bits)
-    low_above y other rank within of_rank = mark_at rank within y.id.index (Touch y.issue y.element y.cell y.place y.bits)
-        (subst (λ r. slice_get (log_of run r) y.id.index ≡ Some (Touch y.issue y.element y.cell y.place y.bits)) of_rank other.item.logged)
+    low_above y other rank within of_rank = mark_at rank within y.id.index
+        (Touch y.issue y.element y.cell y.place y.bits)
+        (subst (λ r. slice_get (log_of run r) y.id.index ≡ Some (Touch y.issue y.element y.cell y.place y.bits))
+        of_rank other.item.logged)
 
     -- the touch is passed where another is made that it is before
     passes : (y : Touching) (other : IsTouch script run y) → x.id ≢ y.id → Reaches y.id → own.mark.out y.cell ≤ y.place
@@ -349,29 +385,35 @@ module _ (script : Script) (delay : Delay) (seed : ℕ) (run : Run) (is : IsAsse
     passes y other apart (inr (inr far)) =
         let mark = low_above y other y.id.rank other.within refl in
         let there = put_of far.e y.id.rank other.within far.of_e far.rank in
-        let meets = met far.f far.e far.f.id.rank y.id.rank far.within other.within far.of_f far.of_e far.edge far.put there y.cell in
+        let meets = met far.f far.e far.f.id.rank y.id.rank far.within other.within far.of_f far.of_e far.edge far.put
+        there y.cell in
         let past = far.passed y.cell in
         let last = far.index in
         let above = mark.right.above in
         elim (cases_lt far.e.id.index y.id.index) [
           | inl below ↦
-              let up = rising y.id.rank other.within far.e.id.index y.id.index (Entry there.number far.e.event.place far.e.event.step)
+              let up = rising y.id.rank other.within far.e.id.index y.id.index
+              (Entry there.number far.e.event.place far.e.event.step)
               (Touch y.issue y.element y.cell y.place y.bits) there.mark mark below y.cell in
               omega (arith, up, above, meets, past)
           | inr late ↦
               let at : far.e.id.index ≡ y.id.index = omega (arith, late, last) in
-              let both : Some (Entry there.number far.e.event.place far.e.event.step) ≡ Some (Touch y.issue y.element y.cell y.place y.bits) =
+              let both : Some (Entry there.number far.e.event.place far.e.event.step) ≡ Some
+              (Touch y.issue y.element y.cell y.place y.bits) =
               sym there.logged ∙ ap (slice_get (log_of run y.id.rank)) at ∙ other.item.logged in
               absurd (cc both)
         ]
 
-    agrees : (y : Touching) (other : IsTouch script run y) → x.cell ≡ y.cell → x.id ≢ y.id → Before script run x.id y.id → KeepsOrder x y
+    agrees : (y : Touching) (other : IsTouch script run y) → x.cell ≡ y.cell → x.id ≢ y.id →
+        Before script run x.id y.id → KeepsOrder x y
     agrees y other cell apart order =
         let passed = passes y other apart (reaches y.id order) in
         let own_passed : place_after x.place x.change ≤ own.mark.out x.cell =
         subst (λ c. place_after x.place c ≤ own.mark.out x.cell) (sym touch.item.change)
-        (subst (λ l. place_after x.place (option_map_or (λ one. change_made (layout script) (calls_of script x.id.rank) one x.element)
-        (issued_at (calls_of script x.id.rank) l x.issue) None) ≤ own.mark.out x.cell) (append-nil (log_of run x.id.rank)) (own.right.passed [])) in
+        (subst (λ l. place_after x.place
+        (option_map_or (λ one. change_made (layout script) (calls_of script x.id.rank) one x.element)
+        (issued_at (calls_of script x.id.rank) l x.issue) None) ≤ own.mark.out x.cell)
+        (append-nil (log_of run x.id.rank)) (own.right.passed [])) in
         let same : own.mark.out x.cell ≡ own.mark.out y.cell = ap own.mark.out cell in
         keeps_by x y x.change refl (omega (arith, passed, own_passed, same))
 

@@ -23,7 +23,8 @@ pub data AreItemsOfRows (at : ℕ) : List Item → List Row → Type 0 where
   Quiet : (item : Item) → is_touch item ≡ false → is_entry item ≡ false → AreItemsOfRows at (item ∷ []) []
   Single : (row : Row) → AreItemsOfRows at (Entry row.number at row.step ∷ []) (row ∷ [])
   Double : (first second : Row) (next : ℕ) → next ≡ at + 1 →
-      AreItemsOfRows at (Entry first.number at first.step ∷ Entry second.number next second.step ∷ []) (first ∷ second ∷ [])
+      AreItemsOfRows at (Entry first.number at first.step ∷ Entry second.number next second.step ∷ [])
+      (first ∷ second ∷ [])
 
 -- what a step adds
 pub record Adds (agent : Agent) (rows : List Row) (step : AtBoard) : Type 0 where
@@ -35,9 +36,17 @@ pub record Adds (agent : Agent) (rows : List Row) (step : AtBoard) : Type 0 wher
   pub mine : step.agent.rank ≡ agent.rank
 
 adds_none : (agent : Agent) (rows : List Row) → Adds agent rows (waiting agent rows)
-adds_none agent rows = record { items = []; more = []; log = sym (append-nil agent.log); now = sym (append-nil rows); are = NoItem; mine = refl }
+adds_none agent rows = record {
+  items = [];
+  more = [];
+  log = sym (append-nil agent.log);
+  now = sym (append-nil rows);
+  are = NoItem;
+  mine = refl;
+}
 
-adds_finished : (stage : Stage) (agent : Agent) (rows : List Row) (call : Call) (step : Step) → Adds agent rows (entered stage agent rows call step finished)
+adds_finished : (stage : Stage) (agent : Agent) (rows : List Row) (call : Call) (step : Step) →
+    Adds agent rows (entered stage agent rows call step finished)
 adds_finished stage agent rows call step = record {
   items = Entry agent.at (length rows) step ∷ [];
   more = next_row agent call step ∷ [];
@@ -47,7 +56,8 @@ adds_finished stage agent rows call step = record {
   mine = refl;
 }
 
-adds_opened : (stage : Stage) (agent : Agent) (rows : List Row) (call : Call) (step : Step) → Adds agent rows (entered stage agent rows call step opened)
+adds_opened : (stage : Stage) (agent : Agent) (rows : List Row) (call : Call) (step : Step) →
+    Adds agent rows (entered stage agent rows call step opened)
 adds_opened stage agent rows call step = record {
   items = Entry agent.at (length rows) step ∷ [];
   more = next_row agent call step ∷ [];
@@ -83,7 +93,8 @@ opens (Refuse class) stage agent rows call step = record {
 opens Allow stage agent rows call step = adds_opened stage agent rows call step
 opens NotYet stage agent rows call step = adds_none agent rows
 
-tests : (d : Decision) (stage : Stage) (agent : Agent) (rows : List Row) (call : Call) → Adds agent rows (test_by d stage agent rows call)
+tests : (d : Decision) (stage : Stage) (agent : Agent) (rows : List Row) (call : Call) →
+    Adds agent rows (test_by d stage agent rows call)
 tests (Refuse class) stage agent rows call = record {
   items = Refused agent.at class (length rows) ∷ [];
   more = [];
@@ -103,16 +114,20 @@ tests NotYet stage agent rows call = record {
 }
 
 -- the Leave after an Arrive in one step; it is never refused
-leaves : (d : Decision) (stage : Stage) (agent : Agent) (rows : List Row) (call : Call) → ((class : Class) → d ≡ Refuse class → ⊥) →
-    (let arrived = entered stage agent rows call Arrive opened in Adds agent rows (enter_by d stage arrived.agent arrived.rows call Leave finished))
+leaves : (d : Decision) (stage : Stage) (agent : Agent) (rows : List Row) (call : Call) →
+    ((class : Class) → d ≡ Refuse class → ⊥) →
+    (let arrived = entered stage agent rows call Arrive opened in
+    Adds agent rows (enter_by d stage arrived.agent arrived.rows call Leave finished))
 leaves (Refuse class) stage agent rows call never = absurd (never class refl)
 leaves Allow stage agent rows call never = record {
-  items = Entry agent.at (length rows) Arrive ∷ Entry agent.at (length (rows ++ next_row agent call Arrive ∷ [])) Leave ∷ [];
+  items = Entry agent.at (length rows) Arrive ∷ Entry agent.at
+      (length (rows ++ next_row agent call Arrive ∷ [])) Leave ∷ [];
   more = next_row agent call Arrive ∷ next_row agent call Leave ∷ [];
   log = append_assoc agent.log (Entry agent.at (length rows) Arrive ∷ [])
       (Entry agent.at (length (rows ++ next_row agent call Arrive ∷ [])) Leave ∷ []);
   now = append_assoc rows (next_row agent call Arrive ∷ []) (next_row agent call Leave ∷ []);
-  are = Double (next_row agent call Arrive) (next_row agent call Leave) (length (rows ++ next_row agent call Arrive ∷ []))
+  are = Double (next_row agent call Arrive) (next_row agent call Leave)
+      (length (rows ++ next_row agent call Arrive ∷ []))
       (length-append rows (next_row agent call Arrive ∷ []));
   mine = refl;
 }
@@ -135,27 +150,36 @@ arrives (Refuse class) stage agent rows call new = opens (Refuse class) stage ag
 arrives Allow stage agent rows call new =
     let arrived = entered stage agent rows call Arrive opened in
     leaves (decide stage.script.ranks arrived.rows (next_row arrived.agent call Leave)) stage agent rows call
-    (λ class e. leave_or_wait (all_arrived (question stage.script.ranks arrived.rows (next_row arrived.agent call Leave))) class e)
+    (λ class e. leave_or_wait
+    (all_arrived (question stage.script.ranks arrived.rows (next_row arrived.agent call Leave))) class e)
 arrives NotYet stage agent rows call new =
-    subst (λ b. Adds agent rows (cond b (leave stage agent rows call) (waiting agent rows))) (sym new) (adds_none agent rows)
+    subst (λ b. Adds agent rows (cond b (leave stage agent rows call) (waiting agent rows))) (sym new)
+    (adds_none agent rows)
 
 first_adds : (course : Course) (stage : Stage) (agent : Agent) (rows : List Row) (call : Call) → agent.entered ≡ false →
     Adds agent rows (first_entry course stage agent rows call)
 first_adds OneNull stage agent rows call new = adds_none agent rows
 first_adds OneIssue stage agent rows call new = adds_none agent rows
-first_adds LookUpAndIssue stage agent rows call new = opens (decide stage.script.ranks rows (next_row agent call One)) stage agent rows call One
+first_adds LookUpAndIssue stage agent rows call new =
+    opens (decide stage.script.ranks rows (next_row agent call One)) stage agent rows call One
 first_adds OneFlush stage agent rows call new = adds_none agent rows
 first_adds OneRequest stage agent rows call new = adds_none agent rows
-first_adds ArriveAndLeave stage agent rows call new = arrives (decide stage.script.ranks rows (next_row agent call Arrive)) stage agent rows call new
-first_adds EntryOrTested stage agent rows call new = tests (decide stage.script.ranks rows (next_row agent call One)) stage agent rows call
-first_adds OneEntry stage agent rows call new = finishes (decide stage.script.ranks rows (next_row agent call One)) stage agent rows call One
+first_adds ArriveAndLeave stage agent rows call new =
+    arrives (decide stage.script.ranks rows (next_row agent call Arrive)) stage agent rows call new
+first_adds EntryOrTested stage agent rows call new =
+    tests (decide stage.script.ranks rows (next_row agent call One)) stage agent rows call
+first_adds OneEntry stage agent rows call new =
+    finishes (decide stage.script.ranks rows (next_row agent call One)) stage agent rows call One
 
-entry_adds : (stage : Stage) (agent : Agent) (rows : List Row) (call : Call) → Adds agent rows (entry_of stage agent rows call)
+entry_adds : (stage : Stage) (agent : Agent) (rows : List Row) (call : Call) →
+    Adds agent rows (entry_of stage agent rows call)
 entry_adds stage agent rows call = by_entered agent.entered refl
   where
     by_entered : (b : Bool) → agent.entered ≡ b →
-        Adds agent rows (cond b (leave stage agent rows call) (first_entry (course_of agent.known.windows call) stage agent rows call))
-    by_entered true e = finishes (decide stage.script.ranks rows (next_row agent call Leave)) stage agent rows call Leave
+        Adds agent rows (cond b (leave stage agent rows call)
+        (first_entry (course_of agent.known.windows call) stage agent rows call))
+    by_entered true e = finishes (decide stage.script.ranks rows (next_row agent call Leave)) stage agent rows call
+        Leave
     by_entered false e = first_adds (course_of agent.known.windows call) stage agent rows call e
 
 -- a step at the board adds no touch, and an entry for each row that it puts

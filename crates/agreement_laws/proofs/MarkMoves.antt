@@ -34,7 +34,13 @@ use Rattle.agreement_laws.proofs.Marks.{Mark, AreRising, Marking, IsRight, AreMa
 -- the marking of a rank's log
 abbrev pub marking_of : Stage → Agent → List Put → Marking
 marking_of stage agent puts =
-    record { memory = stage.layout; ranks = stage.script.ranks; calls = calls_at stage agent.rank; log = agent.log; puts = puts }
+    record {
+      memory = stage.layout;
+      ranks = stage.script.ranks;
+      calls = calls_at stage agent.rank;
+      log = agent.log;
+      puts = puts;
+    }
 
 -- ---- touches
 
@@ -48,11 +54,14 @@ record AreMarksOf (m : Marking) (items : List Item) (lows after : Lows) : Type 0
   right : AllByRecursion (IsRight m) marks
 
 touch_marks : (m : Marking) (one : PendingAccess) (t : Transfer) → issued_at m.calls m.log one.index ≡ Some one →
-    transfer_at m.calls one.number ≡ Some t → (element : ℕ) (places : List Piece) (lows : Lows) (items : List Item) (after : Lows) →
+    transfer_at m.calls one.number ≡ Some t →
+    (element : ℕ) (places : List Piece) (lows : Lows) (items : List Item) (after : Lows) →
     AreTouches t one.index element places lows items after →
-    ((k : ℕ) → slice_get (pieces m.memory one.access t.dtype) (element + k) ≡ slice_get places k) → AreMarksOf m items lows after
+    ((k : ℕ) → slice_get (pieces m.memory one.access t.dtype) (element + k) ≡ slice_get places k) →
+    AreMarksOf m items lows after
 touch_marks m one t issued moves element [] lows items after h at =
-    subst (λ l. AreMarksOf m l lows after) (sym h.0) (record { marks = []; are = refl; rising = tt; above = tt; below = tt; right = tt })
+    subst (λ l. AreMarksOf m l lows after) (sym h.0)
+    (record { marks = []; are = refl; rising = tt; above = tt; below = tt; right = tt })
 touch_marks m one t issued moves element (piece ∷ rest) lows items after h at =
     let later = touch_marks m one t issued moves (element + 1) rest h.3 h.2 after h.8
     (λ k. ap (slice_get (pieces m.memory one.access t.dtype)) (omega arith) ∙ at (suc k)) in
@@ -69,22 +78,28 @@ touch_marks m one t issued moves element (piece ∷ rest) lows items after h at 
       right = (record { above = h.5; passed = passed }, later.right);
     })
   where
-    its : (more : List Item) → option_map_or (λ other. change_made m.memory m.calls other element) (issued_at m.calls (m.log ++ more) one.index) None
+    its : (more : List Item) →
+        option_map_or (λ other. change_made m.memory m.calls other element)
+        (issued_at m.calls (m.log ++ more) one.index) None
         ≡ change_of t element piece.first_byte
-    its more = ap (λ (o : Option PendingAccess). option_map_or (λ other. change_made m.memory m.calls other element) o None)
+    its more = ap (λ (o : Option PendingAccess). option_map_or
+        (λ other. change_made m.memory m.calls other element) o None)
         (issued_still m.calls m.log more one.index one issued)
         ∙ ap (λ (o : Option Transfer). option_map_or (λ (u : Transfer). option_map_or
-        (λ (p : Piece). change_of u element p.first_byte) (slice_get (pieces m.memory one.access u.dtype) element) None) o None) moves
+        (λ (p : Piece). change_of u element p.first_byte)
+        (slice_get (pieces m.memory one.access u.dtype) element) None) o None) moves
         ∙ ap (λ (o : Option Piece). option_map_or (λ (p : Piece). change_of t element p.first_byte) o None)
         (ap (slice_get (pieces m.memory one.access t.dtype)) (omega arith) ∙ at 0)
 
     passed : (more : List Item) →
-        place_after h.0 (option_map_or (λ other. change_made m.memory m.calls other element) (issued_at m.calls (m.log ++ more) one.index) None)
+        place_after h.0 (option_map_or (λ other. change_made m.memory m.calls other element)
+        (issued_at m.calls (m.log ++ more) one.index) None)
         ≤ h.3 piece.cell
     passed more = subst (λ c. place_after h.0 c ≤ h.3 piece.cell) (sym (its more)) h.7
 
 -- the touches of an access whose Issue stands in the log
-pub access_more : (m : Marking) (stage : Stage) (one : PendingAccess) (lows after : Lows) (items : List Item) → m.memory ≡ stage.layout →
+pub access_more : (m : Marking) (stage : Stage) (one : PendingAccess) (lows after : Lows) (items : List Item) →
+    m.memory ≡ stage.layout →
     issued_at m.calls m.log one.index ≡ Some one → (o : Option Transfer) → transfer_at m.calls one.number ≡ o →
     AreTouchesOf stage one o lows items after → AreMore m items lows after
 access_more m stage one lows after items memory issued None e touches =
@@ -92,9 +107,12 @@ access_more m stage one lows after items memory issued None e touches =
     (record { marks = []; are = refl; rising = tt; above = tt; below = tt; right = tt; rise = touches.1 })
 access_more m stage one lows after items memory issued (Some t) e touches =
     let own : AreTouches t one.index 0 (pieces m.memory one.access t.dtype) lows items after =
-    subst (λ layout. AreTouches t one.index 0 (pieces layout one.access t.dtype) lows items after) (sym memory) touches in
-    let made = touch_marks (record m { log = m.log ++ items }) one t (issued_still m.calls m.log items one.index one issued) e 0
-    (pieces m.memory one.access t.dtype) lows items after own (λ k. ap (slice_get (pieces m.memory one.access t.dtype)) (omega arith)) in
+    subst (λ layout. AreTouches t one.index 0 (pieces layout one.access t.dtype) lows items after)
+    (sym memory) touches in
+    let made = touch_marks (record m { log = m.log ++ items }) one t
+    (issued_still m.calls m.log items one.index one issued) e 0
+    (pieces m.memory one.access t.dtype) lows items after own
+    (λ k. ap (slice_get (pieces m.memory one.access t.dtype)) (omega arith)) in
     record {
       marks = made.marks;
       are = made.are;
@@ -107,7 +125,8 @@ access_more m stage one lows after items memory issued (Some t) e touches =
 
 -- ---- moves
 
-plain_item : (course : Course) (number : ℕ) (item : Item) → IsPlainItem course number item → (is_touch item ≡ false) × (is_entry item ≡ false)
+plain_item : (course : Course) (number : ℕ) (item : Item) → IsPlainItem course number item →
+    (is_touch item ≡ false) × (is_entry item ≡ false)
 plain_item OneNull number item e = (ap is_touch e, ap is_entry e)
 plain_item OneIssue number item e = absurd e
 plain_item LookUpAndIssue number item e = absurd e
@@ -126,10 +145,13 @@ pub record HasMarks (stage : Stage) (puts : List Put) (p : Point) : Type 0 where
 abbrev pub HasMarksAt : Stage → List Put → ℕ → Point → Type 0
 HasMarksAt stage puts many p = (many < length p.rows) ⊎ ((length p.rows ≡ many) × HasMarks stage puts p)
 
-quiet_marked : (stage : Stage) (puts : List Put) (agent : Agent) (item : Item) (lows : Lows) → is_touch item ≡ false → is_entry item ≡ false →
-    AreMarked (marking_of stage agent puts) lows → AreMarked (record (marking_of stage agent puts) { log = agent.log ++ item ∷ [] }) lows
+quiet_marked : (stage : Stage) (puts : List Put) (agent : Agent) (item : Item) (lows : Lows) → is_touch item ≡ false →
+    is_entry item ≡ false →
+    AreMarked (marking_of stage agent puts) lows →
+    AreMarked (record (marking_of stage agent puts) { log = agent.log ++ item ∷ [] }) lows
 quiet_marked stage puts agent item lows plain other marked =
-    marked_more (marking_of stage agent puts) (item ∷ []) lows lows marked (quiet_more (marking_of stage agent puts) item lows plain other)
+    marked_more (marking_of stage agent puts) (item ∷ []) lows lows marked
+    (quiet_more (marking_of stage agent puts) item lows plain other)
 
 more_rows : (many n k : ℕ) → n ≡ many → (many < n + k) ⊎ (n + k ≡ many)
 more_rows many n k e = elim (cases_lt many (n + k)) [ inl more ↦ inl more | inr same ↦ inr (omega (arith, same, e)) ]
@@ -239,7 +261,8 @@ marks_kept stage puts many p _ (inr here) (Draws state new) = inr (
 marks_kept stage puts many p _ (inl past) (Delivers at one items after there due touches) = inl past
 marks_kept stage puts many p _ (inr here) (Delivers at one items after there due touches) =
     let waits : IsUntouched (calls_at stage p.agent.rank) p.agent.log one =
-    each_at (IsUntouched (calls_at stage p.agent.rank) p.agent.log) p.agent.pending at one here.1.touches.has.waiting there in
+    each_at (IsUntouched (calls_at stage p.agent.rank) p.agent.log) p.agent.pending at one here.1.touches.has.waiting
+    there in
     inr (
       here.0,
       record {

@@ -34,7 +34,8 @@ cancel [] ys zs e = e
 cancel (x ∷ xs) ys zs e = cancel xs ys zs (cc e)
 
 -- the marks of entries that are put in one step
-entries_more : (m : Marking) (before puts : List Put) (items : List Item) (rows : List Row) (at : ℕ) (lows after : Lows) →
+entries_more : (m : Marking) (before puts : List Put) (items : List Item) (rows : List Row) (at : ℕ)
+    (lows after : Lows) →
     m.puts ≡ before ++ puts → at ≡ length before → rows_put puts ≡ rows → AreItemsOfRows at items rows →
     ArePut m.ranks before lows puts after → AreMore m items lows after
 entries_more m before [] _ _ at lows after all long is NoItem put =
@@ -81,7 +82,15 @@ entries_more m before (one ∷ two ∷ []) _ _ at lows after all long is (Double
       above = (most_same lows, (most_join lows one.front put.0 put.1 put.2, tt));
       below = (put_rises m.ranks (before ++ one ∷ []) put.0 (two ∷ []) after later, (later.4, tt));
       right = (
-        record { before = before; put = one; rest = two ∷ []; split = all; long = sym long; above = put.1; meets = put.3 },
+        record {
+          before = before;
+          put = one;
+          rest = two ∷ [];
+          split = all;
+          long = sym long;
+          above = put.1;
+          meets = put.3;
+        },
         (
           record {
             before = before ++ one ∷ [];
@@ -97,9 +106,11 @@ entries_more m before (one ∷ two ∷ []) _ _ at lows after all long is (Double
       );
       rise = put_rises m.ranks before lows (one ∷ two ∷ []) after put;
     }
-entries_more m before (one ∷ two ∷ three ∷ puts) _ _ at lows after all long is (Double first second next e) put = absurd (cc is)
+entries_more m before (one ∷ two ∷ three ∷ puts) _ _ at lows after all long is (Double first second next e) put =
+    absurd (cc is)
 
-looks_marked : (stage : Stage) (agent : Agent) (before puts : List Put) (lows after : Lows) → LooksAfter stage agent before lows puts after →
+looks_marked : (stage : Stage) (agent : Agent) (before puts : List Put) (lows after : Lows) →
+    LooksAfter stage agent before lows puts after →
     AreMarked (marking_of stage agent before) lows →
     AreMarked (marking_of stage (board_step stage agent (rows_put before)).agent (before ++ puts)) after
 looks_marked stage agent before puts lows after looks marked =
@@ -110,18 +121,23 @@ looks_marked stage agent before puts lows after looks marked =
     let m : Marking = marking_of stage agent (before ++ puts) in
     let more = entries_more m before puts adds.items adds.more (length (rows_put before)) lows after refl
     (length-map before (λ (put : Put). put.row)) rows adds.are looks.fronts in
-    let grown = marked_more m adds.items lows after (marked_learns (marking_of stage agent before) puts lows marked) more in
-    subst (λ (r : ℕ). AreMarked (record (marking_of stage step.agent (before ++ puts)) { calls = calls_at stage r }) after) (sym adds.mine)
+    let grown = marked_more m adds.items lows after (marked_learns (marking_of stage agent before) puts lows marked)
+    more in
+    subst (λ (r : ℕ). AreMarked (record (marking_of stage step.agent (before ++ puts)) { calls = calls_at stage r })
+    after) (sym adds.mine)
     (subst (λ l. AreMarked (record m { log = l }) after) (sym adds.log) grown)
 
 -- ---- a life
 
-keeps_touches : (stage : Stage) (seed rank : ℕ) (agent : Agent) (known : List Put) (lows : Lows) → Lives stage seed rank agent known lows →
+keeps_touches : (stage : Stage) (seed rank : ℕ) (agent : Agent) (known : List Put) (lows : Lows) →
+    Lives stage seed rank agent known lows →
     KeepsTouches stage agent
 keeps_touches stage seed rank agent known lows life =
-    (life_holds stage seed rank (λ (p : Point). KeepsTouches stage p.agent) (touches_kept stage) (new_touches stage seed rank) agent known lows life).0
+    (life_holds stage seed rank (λ (p : Point). KeepsTouches stage p.agent) (touches_kept stage)
+    (new_touches stage seed rank) agent known lows life).0
 
-pub life_marked : (stage : Stage) (seed rank : ℕ) (agent : Agent) (known : List Put) (lows : Lows) → Lives stage seed rank agent known lows →
+pub life_marked : (stage : Stage) (seed rank : ℕ) (agent : Agent) (known : List Put) (lows : Lows) →
+    Lives stage seed rank agent known lows →
     AreMarked (marking_of stage agent known) lows
 life_marked stage seed rank _ _ _ Begins = record { marks = []; items = refl; rising = tt; below = tt; right = tt }
 life_marked stage seed rank _ _ _ (Looks agent known others puts lows after life apart looks) =
@@ -149,7 +165,8 @@ life_marked stage seed rank _ _ _ (Steps agent next known lows after life tries 
 -- the Issue of each pending access stands in the log
 abbrev AreIssued : Stage → Agent → Type 0
 AreIssued stage agent =
-    AllByRecursion (λ (one : PendingAccess). issued_at (calls_at stage agent.rank) agent.log one.index ≡ Some one) agent.pending
+    AllByRecursion (λ (one : PendingAccess). issued_at (calls_at stage agent.rank) agent.log one.index ≡ Some one)
+    agent.pending
 
 each_left : {X : Type 0} (P : X → Type 0) (xs : List X) (at : ℕ) → AllByRecursion P xs → AllByRecursion P (remove xs at)
 each_left P [] zero all = tt
@@ -157,7 +174,8 @@ each_left P [] (suc at) all = tt
 each_left P (x ∷ xs) zero all = all.1
 each_left P (x ∷ xs) (suc at) all = (all.0, each_left P xs at all.1)
 
-drain_marked : (stage : Stage) (puts : List Put) (agent next : Agent) (lows after : Lows) (o : Option PendingAccess) → slice_get agent.pending 0 ≡ o →
+drain_marked : (stage : Stage) (puts : List Put) (agent next : Agent) (lows after : Lows) (o : Option PendingAccess) →
+    slice_get agent.pending 0 ≡ o →
     AreMarked (marking_of stage agent puts) lows → AreIssued stage agent → IsDelivered stage agent 0 o lows next after →
     AreMarked (marking_of stage next puts) after × AreIssued stage next
 drain_marked stage puts agent next lows after None e marked issued (same, rise) =
@@ -165,25 +183,31 @@ drain_marked stage puts agent next lows after None e marked issued (same, rise) 
     (marked_rises (marking_of stage agent puts) lows after rise marked, issued)
 drain_marked stage puts agent next lows after (Some one) e marked issued (items, touches, same) =
     let calls = calls_at stage agent.rank in
-    let its = each_at (λ (one : PendingAccess). issued_at calls agent.log one.index ≡ Some one) agent.pending 0 one issued e in
+    let its = each_at (λ (one : PendingAccess). issued_at calls agent.log one.index ≡ Some one) agent.pending 0 one
+    issued e in
     subst (λ (a : Agent). AreMarked (marking_of stage a puts) after × AreIssued stage a) (sym same) (
       marked_more (marking_of stage agent puts) items lows after marked
-          (access_more (marking_of stage agent puts) stage one lows after items refl its (transfer_at calls one.number) refl touches),
+          (access_more (marking_of stage agent puts) stage one lows after items refl its
+          (transfer_at calls one.number) refl touches),
       each_turned (λ (other : PendingAccess). issued_at calls agent.log other.index ≡ Some other)
           (λ (other : PendingAccess). issued_at calls (agent.log ++ items) other.index ≡ Some other)
           (λ other is. issued_still calls agent.log items other.index other is) (remove agent.pending 0)
-          (each_left (λ (other : PendingAccess). issued_at calls agent.log other.index ≡ Some other) agent.pending 0 issued),
+          (each_left (λ (other : PendingAccess). issued_at calls agent.log other.index ≡ Some other) agent.pending 0
+          issued),
     )
 
-drains_marked : (stage : Stage) (puts : List Put) (agent : Agent) (lows : Lows) → AreMarked (marking_of stage agent puts) lows → AreIssued stage agent →
-    (last : Agent) (low : Lows) → Drains stage agent lows last low → AreMarked (marking_of stage last puts) low × AreIssued stage last
+drains_marked : (stage : Stage) (puts : List Put) (agent : Agent) (lows : Lows) →
+    AreMarked (marking_of stage agent puts) lows → AreIssued stage agent →
+    (last : Agent) (low : Lows) → Drains stage agent lows last low → AreMarked (marking_of stage last puts) low
+    × AreIssued stage last
 drains_marked stage puts agent lows marked issued _ _ Stays = (marked, issued)
 drains_marked stage puts agent lows marked issued _ _ (Drained now next low after drains made) =
     let old = drains_marked stage puts agent lows marked issued now low drains in
     drain_marked stage puts now next low after (slice_get now.pending 0) refl old.0 old.1 made
 
 -- the log of a rank is marked at the end of its history
-pub lived_marked : (stage : Stage) (seed rank : ℕ) (puts : List Put) (agent : Agent) (lived : HasLived stage seed rank puts agent) →
+pub lived_marked : (stage : Stage) (seed rank : ℕ) (puts : List Put) (agent : Agent)
+    (lived : HasLived stage seed rank puts agent) →
     AreMarked (marking_of stage agent puts) lived.last
 lived_marked stage seed rank puts agent lived =
     let old = life_marked stage seed rank lived.stopped lived.known lived.lows lived.life in
@@ -193,5 +217,6 @@ lived_marked stage seed rank puts agent lived =
     let touches = keeps_touches stage seed rank lived.stopped lived.known lived.lows lived.life in
     let calls = calls_at stage lived.stopped.rank in
     (drains_marked stage puts lived.stopped lived.lows all
-    (each_turned (IsUntouched calls lived.stopped.log) (λ (one : PendingAccess). issued_at calls lived.stopped.log one.index ≡ Some one)
+    (each_turned (IsUntouched calls lived.stopped.log)
+    (λ (one : PendingAccess). issued_at calls lived.stopped.log one.index ≡ Some one)
     (λ one is. is.0) lived.stopped.pending touches.has.waiting) agent lived.last lived.drains).0

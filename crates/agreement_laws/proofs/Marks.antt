@@ -16,7 +16,8 @@ use Rattle.rank_laws.proofs.Lists.{each_turned, each_append, pair_joined}
 use Rattle.rank_laws.specs.Deliveries.{place_after}
 use Rattle.rank_laws.specs.Fronts.{Lows, AreAtMost, Put, MeetsEdges}
 
--- an item of a log: a touch with the lows before and after it; an entry with lows at or below its front, and lows that meet the
+-- an item of a log: a touch with the lows before and after it; an entry with lows at or below its front, and lows
+-- that meet the
 -- edges to it
 pub record Mark : Type 0 where
   pub item : Item
@@ -28,10 +29,12 @@ abbrev pub AreRising : Mark → Mark → Type 0
 AreRising a b = AreAtMost a.out b.low
 
 -- a touch is not below its lows, and passed by those after it, by what it changes in each longer log
-pub record IsTouchMark (memory : Layout) (calls : List Call) (log : List Item) (issue element cell place : ℕ) (low out : Lows) : Type 0 where
+pub record IsTouchMark (memory : Layout) (calls : List Call) (log : List Item) (issue element cell place : ℕ)
+    (low out : Lows) : Type 0 where
   pub above : low cell ≤ place
   pub passed : (more : List Item) →
-      place_after place (option_map_or (λ one. change_made memory calls one element) (issued_at calls (log ++ more) issue) None) ≤ out cell
+      place_after place (option_map_or (λ one. change_made memory calls one element)
+      (issued_at calls (log ++ more) issue) None) ≤ out cell
 
 -- an entry is the put at its place
 pub record IsEntryMark (ranks : ℕ) (puts : List Put) (number place : ℕ) (step : Step) (low out : Lows) : Type 0 where
@@ -52,7 +55,8 @@ pub record Marking : Type 0 where
   pub puts : List Put
 
 abbrev pub IsRightItem : Marking → Item → Lows → Lows → Type 0
-IsRightItem m (Touch issue element cell place bits) low out = IsTouchMark m.memory m.calls m.log issue element cell place low out
+IsRightItem m (Touch issue element cell place bits) low out =
+    IsTouchMark m.memory m.calls m.log issue element cell place low out
 IsRightItem m (Entry number place step) low out = IsEntryMark m.ranks m.puts number place step low out
 IsRightItem m item low out = Unit {0}
 
@@ -118,7 +122,8 @@ marked_rises m lows after rise marked = record {
 }
 
 -- others put entries
-pub marked_learns : (m : Marking) (more : List Put) (lows : Lows) → AreMarked m lows → AreMarked (record m { puts = m.puts ++ more }) lows
+pub marked_learns : (m : Marking) (more : List Put) (lows : Lows) → AreMarked m lows →
+    AreMarked (record m { puts = m.puts ++ more }) lows
 marked_learns m more lows marked = record {
   marks = marked.marks;
   items = marked.items;
@@ -138,13 +143,15 @@ pub record AreMore (m : Marking) (items : List Item) (lows after : Lows) : Type 
   pub right : AllByRecursion (IsRight (record m { log = m.log ++ items })) marks
   pub rise : AreAtMost lows after
 
-pub marked_more : (m : Marking) (items : List Item) (lows after : Lows) → AreMarked m lows → AreMore m items lows after →
+pub marked_more : (m : Marking) (items : List Item) (lows after : Lows) → AreMarked m lows →
+    AreMore m items lows after →
     AreMarked (record m { log = m.log ++ items }) after
 marked_more m items lows after marked more = record {
   marks = marked.marks ++ more.marks;
   items = (λ i. marked.items i ++ more.are i) ∙ sym (map-append (λ (mark : Mark). mark.item) marked.marks more.marks);
   rising = pair_joined AreRising marked.marks more.marks marked.rising more.rising
-      (each_turned (λ (mark : Mark). AreAtMost mark.out lows) (λ (mark : Mark). AllByRecursion (AreRising mark) more.marks)
+      (each_turned (λ (mark : Mark). AreAtMost mark.out lows)
+      (λ (mark : Mark). AllByRecursion (AreRising mark) more.marks)
       (λ mark low. each_turned (λ (other : Mark). AreAtMost lows other.low) (AreRising mark)
       (λ other up. most_join mark.out lows other.low low up) more.marks more.above) marked.marks marked.below);
   below = each_append (λ (mark : Mark). AreAtMost mark.out after) marked.marks more.marks
@@ -156,7 +163,8 @@ marked_more m items lows after marked more = record {
 }
 
 -- an item that is no touch and no entry
-quiet_right : (m : Marking) (item : Item) (low out : Lows) → is_touch item ≡ false → is_entry item ≡ false → IsRightItem m item low out
+quiet_right : (m : Marking) (item : Item) (low out : Lows) → is_touch item ≡ false → is_entry item ≡ false →
+    IsRightItem m item low out
 quiet_right m (Touch issue element cell place bits) low out plain other = absurd (cc plain)
 quiet_right m (Entry number place step) low out plain other = absurd (cc other)
 quiet_right m (Issue number access) low out plain other = tt
@@ -167,7 +175,8 @@ quiet_right m (Tested number seen) low out plain other = tt
 quiet_right m (Refused number class seen) low out plain other = tt
 quiet_right m Ended low out plain other = tt
 
-pub quiet_more : (m : Marking) (item : Item) (lows : Lows) → is_touch item ≡ false → is_entry item ≡ false → AreMore m (item ∷ []) lows lows
+pub quiet_more : (m : Marking) (item : Item) (lows : Lows) → is_touch item ≡ false → is_entry item ≡ false →
+    AreMore m (item ∷ []) lows lows
 quiet_more m item lows plain other = record {
   marks = record { item = item; low = lows; out = lows } ∷ [];
   are = refl;

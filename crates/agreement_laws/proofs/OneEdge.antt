@@ -116,17 +116,22 @@ lock_acquires Syncs lock e = absurd (cc e)
 edge_kinds : (a b : Event) (first second : Synchronisation) → is_edge_by a b first second ≡ true →
     (releases_by first ≡ true) × (acquires_by second ≡ true)
 edge_kinds a b first second h =
-    elim (or_cases (list_any (λ posted. list_any (is_started_by a posted b) (group_of_start second)) (group_of_post first)
+    elim (or_cases (list_any (λ posted. list_any (is_started_by a posted b) (group_of_start second))
+    (group_of_post first)
     || (is_complete first && is_wait second && is_waited_for_by a b))
-    (option_map_or (λ unlocked. option_map_or (is_locked_after a unlocked b) (lock_of second) false) (unlock_of first) false) h) [
+    (option_map_or (λ unlocked. option_map_or (is_locked_after a unlocked b) (lock_of second) false)
+    (unlock_of first) false) h) [
       | inr locks ↦
-          let unlocked = some_of (λ unlocked. option_map_or (is_locked_after a unlocked b) (lock_of second) false) (unlock_of first) locks in
+          let unlocked = some_of (λ unlocked. option_map_or (is_locked_after a unlocked b) (lock_of second) false)
+          (unlock_of first) locks in
           let lock = some_of (is_locked_after a unlocked.0 b) (lock_of second) unlocked.2 in
           (unlock_releases first unlocked.0 unlocked.1, lock_acquires second lock.0 lock.1)
-      | inl rest ↦ elim (or_cases (list_any (λ posted. list_any (is_started_by a posted b) (group_of_start second)) (group_of_post first))
+      | inl rest ↦ elim (or_cases (list_any (λ posted. list_any (is_started_by a posted b) (group_of_start second))
+          (group_of_post first))
           (is_complete first && is_wait second && is_waited_for_by a b) rest) [
             | inl starts ↦
-                let posted = any_in (λ posted. list_any (is_started_by a posted b) (group_of_start second)) (group_of_post first) starts in
+                let posted = any_in (λ posted. list_any (is_started_by a posted b) (group_of_start second))
+                (group_of_post first) starts in
                 let started = any_in (is_started_by a posted.0 b) (group_of_start second) posted.2 in
                 (post_releases first posted.1, start_acquires second started.1)
             | inr waits ↦
@@ -138,10 +143,12 @@ edge_kinds a b first second h =
 
 -- a step with its synchronisation, which may release or acquire
 abbrev Releases : Event → Type 0
-Releases e = (e.step ≡ Arrive) ⊎ ((e.step ≡ One) × (s : Synchronisation) × (synchronisation_of e.asked.call ≡ Some s) × (releases_by s ≡ true))
+Releases e = (e.step ≡ Arrive) ⊎ ((e.step ≡ One) × (s : Synchronisation) × (synchronisation_of e.asked.call ≡ Some s)
+    × (releases_by s ≡ true))
 
 abbrev Acquires : Event → Type 0
-Acquires e = (e.step ≡ Leave) ⊎ ((e.step ≡ One) × (s : Synchronisation) × (synchronisation_of e.asked.call ≡ Some s) × (acquires_by s ≡ true))
+Acquires e = (e.step ≡ Leave) ⊎ ((e.step ≡ One) × (s : Synchronisation) × (synchronisation_of e.asked.call ≡ Some s)
+    × (acquires_by s ≡ true))
 
 arrive_to_leave : (a b : Step) → is_arrive_to_leave a b ≡ true → (a ≡ Arrive) × (b ≡ Leave)
 arrive_to_leave Arrive Arrive h = absurd (cc h)
@@ -151,7 +158,8 @@ arrive_to_leave Leave b h = absurd (cc h)
 arrive_to_leave One b h = absurd (cc h)
 
 matched : (a b : Event) (s t : Step) → is_matched_one a b s t ≡ true →
-    (s ≡ One) × (t ≡ One) × (option_map_or (λ first. option_map_or (is_edge_by a b first) (synchronisation_of b.asked.call) false)
+    (s ≡ One) × (t ≡ One) × (option_map_or
+    (λ first. option_map_or (is_edge_by a b first) (synchronisation_of b.asked.call) false)
     (synchronisation_of a.asked.call) false ≡ true)
 matched a b One One h = (refl, refl, h)
 matched a b One Arrive h = absurd (cc h)
@@ -161,14 +169,18 @@ matched a b Leave t h = absurd (cc h)
 
 edge_ends : (a b : Event) → is_edge a b ≡ true → Releases a × Acquires b
 edge_ends a b h =
-    let parts = and_parts (are_on_one_window a b) ((is_arrive_to_leave a.step b.step && are_of_one_round a b) || is_matched_one a b a.step b.step) h in
-    elim (or_cases (is_arrive_to_leave a.step b.step && are_of_one_round a b) (is_matched_one a b a.step b.step) parts.1) [
+    let parts = and_parts (are_on_one_window a b)
+    ((is_arrive_to_leave a.step b.step && are_of_one_round a b) || is_matched_one a b a.step b.step) h in
+    elim (or_cases (is_arrive_to_leave a.step b.step && are_of_one_round a b)
+    (is_matched_one a b a.step b.step) parts.1) [
       | inl round ↦
-          let steps = arrive_to_leave a.step b.step (and_parts (is_arrive_to_leave a.step b.step) (are_of_one_round a b) round).0 in
+          let steps = arrive_to_leave a.step b.step
+          (and_parts (is_arrive_to_leave a.step b.step) (are_of_one_round a b) round).0 in
           (inl steps.0, inl steps.1)
       | inr one ↦
           let is = matched a b a.step b.step one in
-          let first = some_of (λ first. option_map_or (is_edge_by a b first) (synchronisation_of b.asked.call) false) (synchronisation_of a.asked.call) is.2 in
+          let first = some_of (λ first. option_map_or (is_edge_by a b first) (synchronisation_of b.asked.call) false)
+          (synchronisation_of a.asked.call) is.2 in
           let second = some_of (is_edge_by a b first.0) (synchronisation_of b.asked.call) first.2 in
           let kinds = edge_kinds a b first.0 second.0 second.2 in
           (inr (is.0, first.0, first.1, kinds.0), inr (is.1, second.0, second.1, kinds.1))

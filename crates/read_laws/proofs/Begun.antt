@@ -39,24 +39,29 @@ named_member rank first zero (x ∷ log) item e =
     (λ i. record { id = record { rank = rank; index = at i }; item = same i }) here
 named_member rank first (suc k) (x ∷ log) item e =
     let at : first + 1 + k ≡ first + suc k = omega arith in
-    there (subst (λ n. In (record { id = record { rank = rank; index = n }; item = item }) (named_from rank (first + 1) log)) at
+    there (subst (λ n. In (record { id = record { rank = rank; index = n }; item = item })
+    (named_from rank (first + 1) log)) at
     (named_member rank (first + 1) k log item e))
 
 logs_member : (first k rank : ℕ) (logs : List (List Item)) {x : Named} → rank ≡ first + k → k < length logs →
     In x (named_in rank (slice_index_or logs k [])) → In x (named_logs first logs)
 logs_member first k rank [] is below m = absurd (omega (arith, below))
 logs_member first zero rank (log ∷ logs) {x} is below m =
-    let same : rank ≡ first = omega (arith, is) in in_append_left (named_logs (first + 1) logs) (subst (λ r. In x (named_in r log)) same m)
+    let same : rank ≡ first = omega (arith, is) in
+    in_append_left (named_logs (first + 1) logs) (subst (λ r. In x (named_in r log)) same m)
 logs_member first (suc k) rank (log ∷ logs) is below m =
-    in_append_right (named_in first log) (logs_member (first + 1) k rank logs (omega (arith, is)) (omega (arith, below)) m)
+    in_append_right (named_in first log)
+    (logs_member (first + 1) k rank logs (omega (arith, is)) (omega (arith, below)) m)
 
 -- an item of a log, with its name
-pub item_member : (run : Run) (rank k : ℕ) (item : Item) → rank < length run.logs → slice_get (log_of run rank) k ≡ Some item →
+pub item_member : (run : Run) (rank k : ℕ) (item : Item) → rank < length run.logs →
+    slice_get (log_of run rank) k ≡ Some item →
     In (record { id = record { rank = rank; index = k }; item = item }) (named_items run)
 item_member run rank k item below e =
     let at : 0 + k ≡ k = omega arith in
     logs_member 0 rank rank run.logs (omega arith) below
-    (subst (λ n. In (record { id = record { rank = rank; index = n }; item = item }) (named_in rank (log_of run rank))) at
+    (subst (λ n. In (record { id = record { rank = rank; index = n }; item = item })
+    (named_in rank (log_of run rank))) at
     (named_member rank 0 k (log_of run rank) item e))
 
 -- ---- the rows before an entry
@@ -67,12 +72,14 @@ pub act_among : (acc before : List Row) (row : Row) (rest : List Row) →
 act_among acc [] row rest = let same : acc ++ [] ≡ acc = append-nil acc in
     subst (λ l. In (record { row = row; window = window_of l row }) (acts_after acc (row ∷ rest))) (sym same) here
 act_among acc (x ∷ before) row rest =
-    there (subst (λ l. In (record { row = row; window = window_of l row }) (acts_after (acc ++ x ∷ []) (before ++ row ∷ rest)))
+    there (subst (λ l. In (record { row = row; window = window_of l row })
+    (acts_after (acc ++ x ∷ []) (before ++ row ∷ rest)))
     (append_assoc acc (x ∷ []) before) (act_among (acc ++ x ∷ []) before row rest))
 
 flat_joined : {X Y : Type 0} (f : X → List Y) (xs ys : List X) → flat_map f (xs ++ ys) ≡ flat_map f xs ++ flat_map f ys
 flat_joined f [] ys = refl
-flat_joined f (x ∷ xs) ys = ap (λ l. f x ++ l) (flat_joined f xs ys) ∙ sym (append_assoc (f x) (flat_map f xs) (flat_map f ys))
+flat_joined f (x ∷ xs) ys = ap (λ l. f x ++ l) (flat_joined f xs ys)
+    ∙ sym (append_assoc (f x) (flat_map f xs) (flat_map f ys))
 
 -- the rows of entries of a rank's log
 abbrev pub rows_in : Script → ℕ → List Item → List Row
@@ -90,21 +97,25 @@ touch_has_none script rank (Refused number class seen) h = refl
 touch_has_none script rank Ended h = refl
 
 -- they are the same without touches
-pub rows_untouched : (script : Script) (rank : ℕ) (log : List Item) → rows_in script rank log ≡ rows_in script rank (untouched log)
+pub rows_untouched : (script : Script) (rank : ℕ) (log : List Item) →
+    rows_in script rank log ≡ rows_in script rank (untouched log)
 rows_untouched script rank [] = refl
 rows_untouched script rank (x ∷ log) = by_test (is_touch x) refl (rows_untouched script rank log)
   where
     by_test : (b : Bool) → is_touch x ≡ b → rows_in script rank log ≡ rows_in script rank (untouched log) →
-        row_by script rank x ++ rows_in script rank log ≡ rows_in script rank (cond (not b) (x ∷ untouched log) (untouched log))
+        row_by script rank x ++ rows_in script rank log ≡ rows_in script rank
+        (cond (not b) (x ∷ untouched log) (untouched log))
     by_test true is rest = ap (λ l. l ++ rows_in script rank log) (touch_has_none script rank x is) ∙ rest
     by_test false is rest = ap (λ l. row_by script rank x ++ l) rest
 
 count_rows : (script : Script) (rank first : ℕ) (p : Row → Bool) (items : List Item) →
-    total (λ (x : Named). count_by p (row_of script x)) (named_from rank first items) ≡ count_by p (rows_in script rank items)
+    total (λ (x : Named). count_by p (row_of script x)) (named_from rank first items) ≡ count_by p
+    (rows_in script rank items)
 count_rows script rank first p [] = refl
 count_rows script rank first p (item ∷ items) =
     let rest = count_rows script rank (first + 1) p items in
-    let joined = sum_by-append (λ y. cond (p y) 1 0) (row_by script rank item) (rows_in script rank items) in omega (arith, rest, joined)
+    let joined = sum_by-append (λ y. cond (p y) 1 0) (row_by script rank item) (rows_in script rank items) in
+    omega (arith, rest, joined)
 
 no_entry_no_row : (script : Script) (most : ℕ) (rank : ℕ) (item : Item) → is_below most item ≡ false →
     ((number place : ℕ) (step : Step) → item ≡ Entry number place step → place < most) → row_by script rank item ≡ []
@@ -119,7 +130,8 @@ no_entry_no_row script most rank (Tested number seen) h k = refl
 no_entry_no_row script most rank (Refused number class seen) h k = refl
 no_entry_no_row script most rank Ended h k = refl
 
-not_below : (most : ℕ) (item : Item) → ((number place : ℕ) (step : Step) → item ≡ Entry number place step → most ≤ place) → is_below most item ≡ false
+not_below : (most : ℕ) (item : Item) → ((number place : ℕ) (step : Step) → item ≡ Entry number place step →
+    most ≤ place) → is_below most item ≡ false
 not_below most (Issue number access) k = refl
 not_below most (Null number) k = refl
 not_below most (Touch issue element cell place bits) k = refl
@@ -130,7 +142,8 @@ not_below most (Tested number seen) k = refl
 not_below most (Refused number class seen) k = refl
 not_below most Ended k = refl
 
-named_joined : (rank first : ℕ) (xs ys : List Item) → named_from rank first (xs ++ ys) ≡ named_from rank first xs ++ named_from rank (first + length xs) ys
+named_joined : (rank first : ℕ) (xs ys : List Item) →
+    named_from rank first (xs ++ ys) ≡ named_from rank first xs ++ named_from rank (first + length xs) ys
 named_joined rank first [] ys = let same : first ≡ first + 0 = omega arith in ap (λ n. named_from rank n ys) same
 named_joined rank first (x ∷ xs) ys =
     let same : first + 1 + length xs ≡ first + suc (length xs) = omega arith in
@@ -144,7 +157,8 @@ get_front (y ∷ xs) ys (suc k) x e = get_front xs ys k x e
 
 get_back : {X : Type 0} (xs ys : List X) (k : ℕ) → slice_get (xs ++ ys) (length xs + k) ≡ slice_get ys k
 get_back [] ys k = let same : 0 + k ≡ k = omega arith in ap (slice_get ys) same
-get_back (x ∷ xs) ys k = let same : suc (length xs) + k ≡ suc (length xs + k) = omega arith in ap (slice_get (x ∷ (xs ++ ys))) same ∙ get_back xs ys k
+get_back (x ∷ xs) ys k = let same : suc (length xs) + k ≡ suc (length xs + k) = omega arith in
+    ap (slice_get (x ∷ (xs ++ ys))) same ∙ get_back xs ys k
 
 module _ (script : Script) (delay : Delay) (run : Run) (lawful : IsLawful script delay run) where
   -- an entry of a log, as the board sees it
@@ -169,7 +183,8 @@ module _ (script : Script) (delay : Delay) (run : Run) (lawful : IsLawful script
 
       at : slice_get (log_of run rank) (length xs) ≡ Some (Entry number place step)
       at = let plus : length xs ≡ length xs + 0 = omega arith in
-          ap (λ l. slice_get l (length xs)) log ∙ ap (slice_get (xs ++ Entry number place step ∷ ys)) plus ∙ get_back xs (Entry number place step ∷ ys) 0
+          ap (λ l. slice_get l (length xs)) log ∙ ap (slice_get (xs ++ Entry number place step ∷ ys)) plus
+          ∙ get_back xs (Entry number place step ∷ ys) 0
 
       member : In entry (named_items run)
       member = item_member run rank (length xs) (Entry number place step) (omega (arith, within, lawful.ranks)) at
@@ -184,8 +199,10 @@ module _ (script : Script) (delay : Delay) (run : Run) (lawful : IsLawful script
       if_one true n e some = (refl, e)
       if_one false n e some = absurd (omega (arith, e, some))
 
-      counted_once : (nat_lt place (count_by is_some_entry (named_items run)) ≡ true) × (count_by (is_named_entry_at place) (named_items run) ≡ 1)
-      counted_once = if_one (nat_lt place (count_by is_some_entry (named_items run))) (count_by (is_named_entry_at place) (named_items run))
+      counted_once : (nat_lt place (count_by is_some_entry (named_items run)) ≡ true)
+          × (count_by (is_named_entry_at place) (named_items run) ≡ 1)
+      counted_once = if_one (nat_lt place (count_by is_some_entry (named_items run)))
+          (count_by (is_named_entry_at place) (named_items run))
           (lawful.board.entries.places place) (in_counts (is_named_entry_at place) member passes)
 
       within_places : place < count_by is_some_entry (named_items run)
@@ -199,7 +216,8 @@ module _ (script : Script) (delay : Delay) (run : Run) (lawful : IsLawful script
       found : find (is_named_entry_at place) (named_items run) ≡ Some entry
       found = let one = found_where (is_named_entry_at place) (named_items run) (omega (arith, counted_once.1)) in
           let few : count_by (is_named_entry_at place) (named_items run) ≤ 1 = omega (arith, counted_once.1) in
-          let same : one.0 ≡ entry = alone (is_named_entry_at place) (named_items run) one.0 entry few one.1 member passes in
+          let same : one.0 ≡ entry = alone (is_named_entry_at place)
+          (named_items run) one.0 entry few one.1 member passes in
           one.1 ∙ ap Some same
 
       before : List Row
@@ -210,7 +228,8 @@ module _ (script : Script) (delay : Delay) (run : Run) (lawful : IsLawful script
           (numbers_from (0 + place + 1) (count_by is_some_entry (named_items run) - place - 1)))
 
       whole : rows_of script run ≡ flat_map (row_of script) (first_entries (named_items run) place)
-          ++ record { rank = rank; number = number; call = call; step = step } ∷ flat_map (row_of script) (flat_map (entry_at (named_items run))
+          ++ record { rank = rank; number = number; call = call; step = step } ∷ flat_map (row_of script)
+          (flat_map (entry_at (named_items run))
           (numbers_from (0 + place + 1) (count_by is_some_entry (named_items run) - place - 1)))
       whole =
           let plus : 0 + place ≡ place = omega arith in
@@ -219,11 +238,16 @@ module _ (script : Script) (delay : Delay) (run : Run) (lawful : IsLawful script
           ap (entry_at (named_items run)) plus ∙ ap (λ o. option_map_or (λ one. one ∷ []) o []) found in
           let row : row_of script entry ≡ record { rank = rank; number = number; call = call; step = step } ∷ [] =
           ap (λ o. option_map_or (λ c. record { rank = rank; number = number; call = c; step = step } ∷ []) o []) of in
-          ap (λ l. flat_map (row_of script) (flat_map (entry_at (named_items run)) l)) (numbers_split 0 (count_by is_some_entry (named_items run)) place within_places)
-          ∙ ap (flat_map (row_of script)) (flat_joined (entry_at (named_items run)) (numbers_from 0 place) ((0 + place) ∷ later))
-          ∙ flat_joined (row_of script) (first_entries (named_items run) place) (entry_at (named_items run) (0 + place) ++ flat_map (entry_at (named_items run)) later)
-          ∙ ap (λ l. flat_map (row_of script) (first_entries (named_items run) place) ++ flat_map (row_of script) (l ++ flat_map (entry_at (named_items run)) later)) here_
-          ∙ ap (λ l. flat_map (row_of script) (first_entries (named_items run) place) ++ (l ++ flat_map (row_of script) (flat_map (entry_at (named_items run)) later))) row
+          ap (λ l. flat_map (row_of script) (flat_map (entry_at (named_items run)) l))
+          (numbers_split 0 (count_by is_some_entry (named_items run)) place within_places)
+          ∙ ap (flat_map (row_of script)) (flat_joined (entry_at (named_items run)) (numbers_from 0 place)
+          ((0 + place) ∷ later))
+          ∙ flat_joined (row_of script) (first_entries (named_items run) place)
+          (entry_at (named_items run) (0 + place) ++ flat_map (entry_at (named_items run)) later)
+          ∙ ap (λ l. flat_map (row_of script) (first_entries (named_items run) place) ++ flat_map (row_of script)
+          (l ++ flat_map (entry_at (named_items run)) later)) here_
+          ∙ ap (λ l. flat_map (row_of script) (first_entries (named_items run) place) ++
+          (l ++ flat_map (row_of script) (flat_map (entry_at (named_items run)) later))) row
 
       moments : EachPair IsBefore (moments_in (log_of run rank))
       moments = (lawful.board.looks rank within).moments
@@ -233,17 +257,20 @@ module _ (script : Script) (delay : Delay) (run : Run) (lawful : IsLawful script
           (ap (λ l. slice_get l k) log ∙ get_front xs (Entry number place step ∷ ys) k (Entry n q s) e) at
           (slice_get_within xs k (Entry n q s) e)
 
-      later_place : (k : ℕ) (n q : ℕ) (s : Step) → slice_get (Entry number place step ∷ ys) k ≡ Some (Entry n q s) → place ≤ q
+      later_place : (k : ℕ) (n q : ℕ) (s : Step) → slice_get (Entry number place step ∷ ys) k ≡ Some (Entry n q s) →
+          place ≤ q
       later_place zero n q s e = let same : place ≡ q = place_of (cc e) in omega (arith, same)
         where
           place_of : Entry number place step ≡ Entry n q s → place ≡ q
           place_of e = cc e
       later_place (suc k) n q s e =
           let up = places_ascend (log_of run rank) (length xs) (length xs + suc k) number n place q step s moments at
-          (ap (λ l. slice_get l (length xs + suc k)) log ∙ get_back xs (Entry number place step ∷ ys) (suc k) ∙ e) (omega arith) in omega (arith, up)
+          (ap (λ l. slice_get l (length xs + suc k)) log ∙ get_back xs (Entry number place step ∷ ys) (suc k)
+          ∙ e) (omega arith) in omega (arith, up)
 
       same_counts : (p : Row → Bool) → ((row : Row) → (row.rank ≡ rank → ⊥) → p row ≡ false) →
-          count_by p (flat_map (row_of script) (first_entries (named_items run) place)) ≡ count_by p (rows_in script rank xs)
+          count_by p (flat_map (row_of script) (first_entries (named_items run) place)) ≡ count_by p
+          (rows_in script rank xs)
       same_counts p others =
           rows_total script p run place once
           ∙ of_rank_total h run rank other_ranks
@@ -262,7 +289,8 @@ module _ (script : Script) (delay : Delay) (run : Run) (lawful : IsLawful script
               let fails : ◌≡◌ {A = ℕ} (cond (p row) 1 0) 0 = ap (λ b. cond b 1 0) all.0 in
               let rest = none_of rows all.1 in omega (arith, split, fails, rest)
 
-          of_rank : (x : Named) → (x.id.rank ≡ rank → ⊥) → AllByRecursion (λ (row : Row). p row ≡ false) (row_of script x)
+          of_rank : (x : Named) → (x.id.rank ≡ rank → ⊥) →
+              AllByRecursion (λ (row : Row). p row ≡ false) (row_of script x)
           of_rank x apart = by_item x.item
             where
               by_item : (item : Item) → AllByRecursion (λ (row : Row). p row ≡ false) (row_by script x.id.rank item)
@@ -286,7 +314,8 @@ module _ (script : Script) (delay : Delay) (run : Run) (lawful : IsLawful script
           zero_if false n e = refl
 
           other_ranks : (x : Named) → (x.id.rank ≡ rank → ⊥) → h x ≡ 0
-          other_ranks x apart = zero_if (is_below place x.item) (count_by p (row_of script x)) (none_of (row_of script x) (of_rank x apart))
+          other_ranks x apart = zero_if (is_below place x.item) (count_by p (row_of script x))
+              (none_of (row_of script x) (of_rank x apart))
 
           front : total h (named_from rank 0 xs) ≡ count_by p (rows_in script rank xs)
           front = front_total (λ (x : Named). count_by p (row_of script x)) rank 0 place xs (λ x m fails.
@@ -298,7 +327,8 @@ module _ (script : Script) (delay : Delay) (run : Run) (lawful : IsLawful script
           back : total h (named_from rank (0 + length xs) (Entry number place step ∷ ys)) ≡ 0
           back = total_of_all h (named_from rank (0 + length xs) (Entry number place step ∷ ys)) (λ x m.
               let one = named_at rank (0 + length xs) (Entry number place step ∷ ys) m in
-              ap (λ b. cond b (count_by p (row_of script x)) 0) (not_below place x.item (λ n q s is. later_place one.0 n q s (one.3 ∙ ap Some is))))
+              ap (λ b. cond b (count_by p (row_of script x)) 0)
+              (not_below place x.item (λ n q s is. later_place one.0 n q s (one.3 ∙ ap Some is))))
 
           sums : (a b c : ℕ) → a ≡ c → b ≡ 0 → a + b ≡ c
           sums a b c e f = omega arith

@@ -34,7 +34,8 @@ two_agree (suc (suc zero)) a b inside agree =
     omega (arith, one, two)
 two_agree (suc (suc (suc n))) a b inside agree = absurd (omega arith)
 
-four_agree : (first a b : ℕ) → first + 4 ≤ 4 → DoAgree first 4 a b → a / 256 ^ first % 4294967296 ≡ b / 256 ^ first % 4294967296
+four_agree : (first a b : ℕ) → first + 4 ≤ 4 → DoAgree first 4 a b →
+    a / 256 ^ first % 4294967296 ≡ b / 256 ^ first % 4294967296
 four_agree zero a b inside agree =
     let one = agree 0 (omega arith) (omega arith) in
     let two = agree 1 (omega arith) (omega arith) in
@@ -46,7 +47,8 @@ four_agree (suc n) a b inside agree = absurd (omega arith)
 -- ---- the bytes outside a new element
 
 one_outside : (bits first pattern at : ℕ) → first + 1 ≤ 4 → pattern < 256 → at < 4 → (at < first) ⊎ (first + 1 ≤ at) →
-    byte_of (bits % 256 ^ first + pattern * 256 ^ first + bits / (256 ^ first * 256) * (256 ^ first * 256)) at ≡ byte_of bits at
+    byte_of (bits % 256 ^ first + pattern * 256 ^ first + bits / (256 ^ first * 256) * (256 ^ first * 256)) at
+    ≡ byte_of bits at
 one_outside bits zero pattern zero i p below out = absurd (omega arith)
 one_outside bits zero pattern (suc zero) i p below out = omega arith
 one_outside bits zero pattern (suc (suc zero)) i p below out = omega arith
@@ -67,7 +69,8 @@ one_outside bits (suc (suc (suc (suc n)))) pattern at i p below out = absurd (om
 one_outside bits first pattern (suc (suc (suc (suc n)))) i p below out = absurd (omega arith)
 
 two_outside : (bits first pattern at : ℕ) → first + 2 ≤ 4 → pattern < 65536 → at < 4 → (at < first) ⊎ (first + 2 ≤ at) →
-    byte_of (bits % 256 ^ first + pattern * 256 ^ first + bits / (256 ^ first * 65536) * (256 ^ first * 65536)) at ≡ byte_of bits at
+    byte_of (bits % 256 ^ first + pattern * 256 ^ first + bits / (256 ^ first * 65536) * (256 ^ first * 65536)) at
+    ≡ byte_of bits at
 two_outside bits zero pattern zero i p below out = absurd (omega arith)
 two_outside bits zero pattern (suc zero) i p below out = absurd (omega arith)
 two_outside bits zero pattern (suc (suc zero)) i p below out = omega arith
@@ -145,8 +148,10 @@ element_agrees Int32 first a b inside agree = four_agree first a b inside agree
 element_agrees Uint32 first a b inside agree = four_agree first a b inside agree
 
 -- a new element leaves the other bytes
-pub outside_stays : (dtype : Dtype) (bits first pattern at : ℕ) → first + size_of dtype ≤ 4 → pattern < patterns_of dtype →
-    at < 4 → (at < first) ⊎ (first + size_of dtype ≤ at) → byte_of (with_element bits first dtype pattern) at ≡ byte_of bits at
+pub outside_stays : (dtype : Dtype) (bits first pattern at : ℕ) → first + size_of dtype ≤ 4 →
+    pattern < patterns_of dtype →
+    at < 4 → (at < first) ⊎ (first + size_of dtype ≤ at) →
+    byte_of (with_element bits first dtype pattern) at ≡ byte_of bits at
 outside_stays Int8 bits first pattern at i p below out = one_outside bits first pattern at i p below out
 outside_stays Uint8 bits first pattern at i p below out = one_outside bits first pattern at i p below out
 outside_stays Byte bits first pattern at i p below out = one_outside bits first pattern at i p below out
@@ -158,7 +163,8 @@ outside_stays Uint32 bits first pattern at i p below (inl low) = absurd (omega a
 outside_stays Uint32 bits first pattern at i p below (inr high) = absurd (omega arith)
 
 -- two cells with one new element have the same bytes in it
-pub inside_agrees : (dtype : Dtype) (a b first pattern at : ℕ) → first + size_of dtype ≤ 4 → pattern < patterns_of dtype →
+pub inside_agrees : (dtype : Dtype) (a b first pattern at : ℕ) → first + size_of dtype ≤ 4 →
+    pattern < patterns_of dtype →
     first ≤ at → at < first + size_of dtype →
     byte_of (with_element a first dtype pattern) at ≡ byte_of (with_element b first dtype pattern) at
 inside_agrees Int8 a b first pattern at i p low high = one_inside a b first pattern at i p low high

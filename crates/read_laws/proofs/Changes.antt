@@ -28,12 +28,15 @@ written change old = cut change.dtype (combined change.op change.dtype old (cut 
 
 abbrev next_from : Change → ℕ → ℕ → ℕ
 next_from change bits old =
-    cond (meets change.compare change.dtype old) (with_element bits change.first_byte change.dtype (written change old)) bits
+    cond (meets change.compare change.dtype old)
+    (with_element bits change.first_byte change.dtype (written change old)) bits
 
 -- the bytes outside the element of a change stay
 pub outside : (change : Change) (bits at : ℕ) → IsInCell change → at < 4 →
-    (at < change.first_byte) ⊎ (change.first_byte + size_of change.dtype ≤ at) → byte_of (next bits change) at ≡ byte_of bits at
-outside change bits at i below out = by_test (meets change.compare change.dtype (element_in bits change.first_byte change.dtype))
+    (at < change.first_byte) ⊎ (change.first_byte + size_of change.dtype ≤ at) →
+    byte_of (next bits change) at ≡ byte_of bits at
+outside change bits at i below out =
+    by_test (meets change.compare change.dtype (element_in bits change.first_byte change.dtype))
   where
     by_test : (b : Bool) → byte_of
         (cond b (with_element bits change.first_byte change.dtype
@@ -50,7 +53,8 @@ inside_by change a b old at i low high same = by_test (meets change.compare chan
     by_test : (test : Bool) →
         byte_of (cond test (with_element a change.first_byte change.dtype (written change old)) a) at
         ≡ byte_of (cond test (with_element b change.first_byte change.dtype (written change old)) b) at
-    by_test true = inside_agrees change.dtype a b change.first_byte (written change old) at i (cut_below change.dtype _) low high
+    by_test true = inside_agrees change.dtype a b change.first_byte (written change old) at i
+        (cut_below change.dtype _) low high
     by_test false = same
 
 -- cells that agree on the element of a change agree on it after the change
@@ -66,16 +70,21 @@ inside change a b at i agree low high =
 pub apart_stays : (change : Change) (bits first count : ℕ) → IsInCell change → first + count ≤ 4 →
     (change.first_byte + size_of change.dtype ≤ first) ⊎ (first + count ≤ change.first_byte) →
     DoAgree first count (next bits change) bits
-apart_stays change bits first count i within (inl low) at from to = outside change bits at i (omega arith) (inr (omega arith))
-apart_stays change bits first count i within (inr high) at from to = outside change bits at i (omega arith) (inl (omega arith))
+apart_stays change bits first count i within (inl low) at from to = outside change bits at i (omega arith)
+    (inr (omega arith))
+apart_stays change bits first count i within (inr high) at from to = outside change bits at i (omega arith)
+    (inl (omega arith))
 
 -- one change of two cells that agree on its element keeps what agrees
-pub change_agrees : (change : Change) (a b first count : ℕ) → IsInCell change → first + count ≤ 4 → DoAgree first count a b →
+pub change_agrees : (change : Change) (a b first count : ℕ) → IsInCell change → first + count ≤ 4 →
+    DoAgree first count a b →
     DoAgree change.first_byte (size_of change.dtype) a b → DoAgree first count (next a change) (next b change)
 change_agrees change a b first count i within agree element at from to = elim (cases_lt at change.first_byte) [
-  | inl low ↦ outside change a at i (omega arith) (inl low) ∙ agree at from to ∙ sym (outside change b at i (omega arith) (inl low))
+  | inl low ↦ outside change a at i (omega arith) (inl low) ∙ agree at from to
+      ∙ sym (outside change b at i (omega arith) (inl low))
   | inr above ↦ elim (cases_lt at (change.first_byte + size_of change.dtype)) [
     | inl within_it ↦ inside change a b at i element above within_it
-    | inr high ↦ outside change a at i (omega arith) (inr high) ∙ agree at from to ∙ sym (outside change b at i (omega arith) (inr high))
+    | inr high ↦ outside change a at i (omega arith) (inr high) ∙ agree at from to
+        ∙ sym (outside change b at i (omega arith) (inr high))
   ]
 ]

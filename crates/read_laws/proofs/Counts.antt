@@ -37,14 +37,16 @@ total_alike f g (x ∷ xs) same =
     let one = same x here in
     let rest = total_alike f g xs (λ y m. same y (there m)) in omega (arith, one, rest)
 
-total_added : {X : Type 0} (f g h : X → ℕ) (xs : List X) → ((x : X) → f x ≡ g x + h x) → total f xs ≡ total g xs + total h xs
+total_added : {X : Type 0} (f g h : X → ℕ) (xs : List X) → ((x : X) → f x ≡ g x + h x) →
+    total f xs ≡ total g xs + total h xs
 total_added f g h [] sum = refl
 total_added f g h (x ∷ xs) sum =
     let one = sum x in
     let rest = total_added f g h xs sum in omega (arith, one, rest)
 
 -- how many pass a test in lists that are joined
-count_flat : {X Y : Type 0} (p : Y → Bool) (f : X → List Y) (xs : List X) → count_by p (flat_map f xs) ≡ total (λ x. count_by p (f x)) xs
+count_flat : {X Y : Type 0} (p : Y → Bool) (f : X → List Y) (xs : List X) →
+    count_by p (flat_map f xs) ≡ total (λ x. count_by p (f x)) xs
 count_flat p f [] = refl
 count_flat p f (x ∷ xs) =
     let one = sum_by-append (λ y. cond (p y) 1 0) (f x) (flat_map f xs) in
@@ -59,7 +61,8 @@ in_counts p (there {y = z} {xs = ys} m) passes =
     let split = counted p z ys in
     let rest = in_counts p m passes in omega (arith, split, rest)
 
-none_counts : {X : Type 0} (p : X → Bool) (g : X → ℕ) (xs : List X) → count_by p xs ≡ 0 → total (λ y. cond (p y) (g y) 0) xs ≡ 0
+none_counts : {X : Type 0} (p : X → Bool) (g : X → ℕ) (xs : List X) → count_by p xs ≡ 0 →
+    total (λ y. cond (p y) (g y) 0) xs ≡ 0
 none_counts p g xs none = total_of_all (λ y. cond (p y) (g y) 0) xs fails
   where
     by_test : (b : Bool) (n : ℕ) → (b ≡ true → ⊥) → ◌≡◌ {A = ℕ} (cond b n 0) 0
@@ -76,7 +79,8 @@ one_counts p g [] x one found = absurd (omega (arith, one))
 one_counts {X} p g (y ∷ ys) x one found =
     by_test (p y) (counted p y ys) refl found (λ later. one_counts p g ys x later) (λ none. none_counts p g ys none)
   where
-    by_test : (b : Bool) → count_by p (y ∷ ys) ≡ cond (p y) 1 0 + count_by p ys → p y ≡ b → cond b (Some y) (find p ys) ≡ Some x →
+    by_test : (b : Bool) → count_by p (y ∷ ys) ≡ cond (p y) 1 0 + count_by p ys → p y ≡ b →
+        cond b (Some y) (find p ys) ≡ Some x →
         (count_by p ys ≡ 1 → find p ys ≡ Some x → total (λ z. cond (p z) (g z) 0) ys ≡ g x) →
         (count_by p ys ≡ 0 → total (λ z. cond (p z) (g z) 0) ys ≡ 0) →
         cond b (g y) 0 + total (λ z. cond (p z) (g z) 0) ys ≡ g x
@@ -94,17 +98,20 @@ in_head here = inl refl
 in_head (there m) = inr m
 
 -- what alone passes is what is found
-pub alone : {X : Type 0} (p : X → Bool) (xs : List X) (x y : X) → count_by p xs ≤ 1 → find p xs ≡ Some x → In y xs → p y ≡ true → x ≡ y
+pub alone : {X : Type 0} (p : X → Bool) (xs : List X) (x y : X) → count_by p xs ≤ 1 → find p xs ≡ Some x → In y xs →
+    p y ≡ true → x ≡ y
 alone p [] x y once found m passes = elim m [ ]
 alone {X} p (z ∷ zs) x y once found m passes =
     by_test (p z) (counted p z zs) refl found (in_head m) (λ few later n. alone p zs x y few later n passes)
   where
-    by_test : (b : Bool) → count_by p (z ∷ zs) ≡ cond (p z) 1 0 + count_by p zs → p z ≡ b → cond b (Some z) (find p zs) ≡ Some x →
+    by_test : (b : Bool) → count_by p (z ∷ zs) ≡ cond (p z) 1 0 + count_by p zs → p z ≡ b →
+        cond b (Some z) (find p zs) ≡ Some x →
         (y ≡ z) ⊎ In y zs → (count_by p zs ≤ 1 → find p zs ≡ Some x → In y zs → x ≡ y) → x ≡ y
     by_test true split is found (inl first) rest = let same : z ≡ x = cc found in sym same ∙ sym first
     by_test true split is found (inr n) rest =
         let some = in_counts p n passes in
-        let counts : ◌≡◌ {A = ℕ} (cond (p z) 1 0) 1 = ap (λ b. cond b 1 0) is in absurd (omega (arith, some, split, counts, once))
+        let counts : ◌≡◌ {A = ℕ} (cond (p z) 1 0) 1 = ap (λ b. cond b 1 0) is in
+        absurd (omega (arith, some, split, counts, once))
     by_test false split is found (inl first) rest = absurd (cc (is, ap p first, passes))
     by_test false split is found (inr n) rest =
         let counts : ◌≡◌ {A = ℕ} (cond (p z) 1 0) 0 = ap (λ b. cond b 1 0) is in
@@ -150,7 +157,8 @@ none_below (Tested number seen) = refl
 none_below (Refused number class seen) = refl
 none_below Ended = refl
 
-split_place : (place most n : ℕ) → cond (nat_lt place (suc most)) n 0 ≡ cond (nat_lt place most) n 0 + cond (place == most) n 0
+split_place : (place most n : ℕ) →
+    cond (nat_lt place (suc most)) n 0 ≡ cond (nat_lt place most) n 0 + cond (place == most) n 0
 split_place place most n = elim (cases_lt place most) [
   | inl low ↦
       let a = ap (λ b. cond b n 0) (lt-ltb place (suc most) (omega (arith, low))) in
@@ -180,7 +188,8 @@ split_place place most n = elim (cases_lt place most) [
     nones : (a b c : ℕ) → a ≡ 0 → b ≡ 0 → c ≡ 0 → a ≡ b + c
     nones a b c p q r = omega arith
 
-one_more_below : (most n : ℕ) (item : Item) → cond (is_below (suc most) item) n 0 ≡ cond (is_below most item) n 0 + cond (is_entry_at most item) n 0
+one_more_below : (most n : ℕ) (item : Item) →
+    cond (is_below (suc most) item) n 0 ≡ cond (is_below most item) n 0 + cond (is_entry_at most item) n 0
 one_more_below most n (Issue number access) = refl
 one_more_below most n (Null number) = refl
 one_more_below most n (Touch issue element cell place bits) = refl
@@ -195,18 +204,23 @@ one_more_below most n Ended = refl
 abbrev pub first_entries : List Named → ℕ → List Named
 first_entries items most = flat_map (entry_at items) (numbers_from 0 most)
 
-entries_last : (items : List Named) (most : ℕ) → first_entries items (suc most) ≡ first_entries items most ++ entry_at items most
+entries_last : (items : List Named) (most : ℕ) →
+    first_entries items (suc most) ≡ first_entries items most ++ entry_at items most
 entries_last items most =
     let same : 0 + most ≡ most = omega arith in
-    ap (flat_map (entry_at items)) (numbers_last 0 most) ∙ joined (numbers_from 0 most) (0 + most) ∙ ap (λ n. first_entries items most ++ entry_at items n) same
+    ap (flat_map (entry_at items)) (numbers_last 0 most) ∙ joined (numbers_from 0 most) (0 + most)
+    ∙ ap (λ n. first_entries items most ++ entry_at items n) same
   where
-    joined : (ns : List ℕ) (n : ℕ) → flat_map (entry_at items) (ns ++ n ∷ []) ≡ flat_map (entry_at items) ns ++ entry_at items n
+    joined : (ns : List ℕ) (n : ℕ) →
+        flat_map (entry_at items) (ns ++ n ∷ []) ≡ flat_map (entry_at items) ns ++ entry_at items n
     joined [] n = by_option (find (is_named_entry_at n) items)
       where
-        by_option : (o : Option Named) → option_map_or (λ one. one ∷ []) o [] ++ [] ≡ option_map_or (λ one. one ∷ []) o []
+        by_option : (o : Option Named) →
+            option_map_or (λ one. one ∷ []) o [] ++ [] ≡ option_map_or (λ one. one ∷ []) o []
         by_option None = refl
         by_option (Some x) = refl
-    joined (m ∷ ns) n = ap (λ l. entry_at items m ++ l) (joined ns n) ∙ sym (append_assoc (entry_at items m) (flat_map (entry_at items) ns) (entry_at items n))
+    joined (m ∷ ns) n = ap (λ l. entry_at items m ++ l) (joined ns n)
+        ∙ sym (append_assoc (entry_at items m) (flat_map (entry_at items) ns) (entry_at items n))
 
 -- what is found where one is counted
 pub found_where : {X : Type 0} (p : X → Bool) (xs : List X) → 1 ≤ count_by p xs → (x : X) × (find p xs ≡ Some x)
@@ -217,10 +231,12 @@ found_where {X} p (x ∷ xs) some = by_test (p x) (counted p x xs) refl (λ late
         (1 ≤ count_by p xs → (y : X) × (find p xs ≡ Some y)) → (y : X) × (cond b (Some x) (find p xs) ≡ Some y)
     by_test true split is rest = (x, refl)
     by_test false split is rest =
-        let counts : ◌≡◌ {A = ℕ} (cond (p x) 1 0) 0 = ap (λ b. cond b 1 0) is in rest (omega (arith, split, counts, some))
+        let counts : ◌≡◌ {A = ℕ} (cond (p x) 1 0) 0 = ap (λ b. cond b 1 0) is in
+        rest (omega (arith, split, counts, some))
 
 -- the total over the entries of the first places is that over the items with such a place
-first_total : (items : List Named) (g : Named → ℕ) (most : ℕ) → ((place : ℕ) → place < most → count_by (is_named_entry_at place) items ≡ 1) →
+first_total : (items : List Named) (g : Named → ℕ) (most : ℕ) →
+    ((place : ℕ) → place < most → count_by (is_named_entry_at place) items ≡ 1) →
     total g (first_entries items most) ≡ total (λ (x : Named). cond (is_below most x.item) (g x) 0) items
 first_total items g zero once = sym (total_of_all (λ (x : Named). cond (is_below 0 x.item) (g x) 0) items
     (λ x m. ap (λ b. cond b (g x) 0) (none_below x.item)))
@@ -231,20 +247,23 @@ first_total items g (suc most) once =
     let last : entry_at items most ≡ one.0 ∷ [] = ap (λ o. option_map_or (λ x. x ∷ []) o []) one.1 in
     let grown = ap (total g) (entries_last items most ∙ ap (λ l. first_entries items most ++ l) last) in
     let joined = total_joined g (first_entries items most) (one.0 ∷ []) in
-    let added = total_added (λ (x : Named). cond (is_below (suc most) x.item) (g x) 0) (λ (x : Named). cond (is_below most x.item) (g x) 0)
+    let added = total_added (λ (x : Named). cond (is_below (suc most) x.item) (g x) 0)
+    (λ (x : Named). cond (is_below most x.item) (g x) 0)
     (λ (x : Named). cond (is_named_entry_at most x) (g x) 0) items (λ x. one_more_below most (g x) x.item) in
     let own = one_counts (is_named_entry_at most) g items one.0 counts one.1 in
     omega (arith, rest, grown, joined, added, own)
 
 -- ---- the items of one rank
 
-log_total : (h : Named → ℕ) (rank index : ℕ) (log : List Item) → ((x : Named) → x.id.rank ≡ rank → h x ≡ 0) → total h (named_from rank index log) ≡ 0
+log_total : (h : Named → ℕ) (rank index : ℕ) (log : List Item) → ((x : Named) → x.id.rank ≡ rank → h x ≡ 0) →
+    total h (named_from rank index log) ≡ 0
 log_total h rank index [] none = refl
 log_total h rank index (item ∷ log) none =
     let one = none (record { id = record { rank = rank; index = index }; item = item }) refl in
     let rest = log_total h rank (index + 1) log none in omega (arith, one, rest)
 
-later_total : (h : Named → ℕ) (first : ℕ) (logs : List (List Item)) → ((x : Named) → first ≤ x.id.rank → h x ≡ 0) → total h (named_logs first logs) ≡ 0
+later_total : (h : Named → ℕ) (first : ℕ) (logs : List (List Item)) → ((x : Named) → first ≤ x.id.rank → h x ≡ 0) →
+    total h (named_logs first logs) ≡ 0
 later_total h first [] none = refl
 later_total h first (log ∷ logs) none =
     let joined = total_joined h (named_in first log) (named_logs (first + 1) logs) in
@@ -252,7 +271,8 @@ later_total h first (log ∷ logs) none =
     let rest = later_total h (first + 1) logs (λ x low. none x (omega (arith, low))) in omega (arith, joined, one, rest)
 
 rank_total : (h : Named → ℕ) (first : ℕ) (logs : List (List Item)) (k rank : ℕ) → rank ≡ first + k →
-    ((x : Named) → (x.id.rank ≡ rank → ⊥) → h x ≡ 0) → total h (named_logs first logs) ≡ total h (named_in rank (slice_index_or logs k []))
+    ((x : Named) → (x.id.rank ≡ rank → ⊥) → h x ≡ 0) →
+    total h (named_logs first logs) ≡ total h (named_in rank (slice_index_or logs k []))
 rank_total h first [] k rank is none = refl
 rank_total h first (log ∷ logs) zero rank is none =
     let joined = total_joined h (named_in first log) (named_logs (first + 1) logs) in
@@ -282,8 +302,10 @@ rows_total script p run most once =
 -- the total over the items of a log with a place below that of one of its entries is that over the items before it
 pub front_total : (g : Named → ℕ) (rank first most : ℕ) (xs : List Item) →
     ((x : Named) → In x (named_from rank first xs) → (is_below most x.item ≡ false → g x ≡ 0)) →
-    total (λ (x : Named). cond (is_below most x.item) (g x) 0) (named_from rank first xs) ≡ total g (named_from rank first xs)
-front_total g rank first most xs none = total_alike (λ (x : Named). cond (is_below most x.item) (g x) 0) g (named_from rank first xs) same
+    total (λ (x : Named). cond (is_below most x.item) (g x) 0) (named_from rank first xs) ≡ total g
+    (named_from rank first xs)
+front_total g rank first most xs none = total_alike (λ (x : Named). cond (is_below most x.item) (g x) 0) g
+    (named_from rank first xs) same
   where
     by_test : (b : Bool) (n : ℕ) → (b ≡ false → n ≡ 0) → cond b n 0 ≡ n
     by_test true n h = refl

@@ -60,7 +60,8 @@ no_read RmaRead h k = cc h
 no_read Store h k = cc k
 no_read Load h k = cc k
 
-pub read_role : (kind : Kind) → is_get_or_load kind ≡ true → (is_update_role (role_of kind) ≡ false) × (accumulation_of kind ≡ None)
+pub read_role : (kind : Kind) → is_get_or_load kind ≡ true → (is_update_role (role_of kind) ≡ false)
+    × (accumulation_of kind ≡ None)
 read_role GetKind h = (refl, refl)
 read_role PutKind h = absurd (cc h)
 read_role (AccKind op dtype) h = absurd (cc h)
@@ -78,25 +79,31 @@ read_kept u v is keeps = subst (λ o. KeepsOrder (record u { change = o }) v) is
 
 -- ---- accesses of one name
 
-pub same_issued : (script : Script) (run : Run) (a b : IssuedAccess) → IsAccess script run a → IsAccess script run b → a.id ≡ b.id → a.issued ≡ b.issued
+pub same_issued : (script : Script) (run : Run) (a b : IssuedAccess) → IsAccess script run a → IsAccess script run b →
+    a.id ≡ b.id → a.issued ≡ b.issued
 same_issued script run a b access other same =
-    let first : issued_at (calls_of script a.id.rank) (log_of run a.id.rank) a.id.index ≡ Some a.issued = found a access in
-    let second : issued_at (calls_of script b.id.rank) (log_of run b.id.rank) b.id.index ≡ Some b.issued = found b other in
+    let first : issued_at (calls_of script a.id.rank) (log_of run a.id.rank) a.id.index ≡ Some a.issued =
+    found a access in
+    let second : issued_at (calls_of script b.id.rank) (log_of run b.id.rank) b.id.index ≡ Some b.issued =
+    found b other in
     let both : Some a.issued ≡ Some b.issued =
     sym first ∙ ap (λ (i : Id). issued_at (calls_of script i.rank) (log_of run i.rank) i.index) same ∙ second in
     cc both
   where
-    found : (x : IssuedAccess) → IsAccess script run x → issued_at (calls_of script x.id.rank) (log_of run x.id.rank) x.id.index ≡ Some x.issued
+    found : (x : IssuedAccess) → IsAccess script run x →
+        issued_at (calls_of script x.id.rank) (log_of run x.id.rank) x.id.index ≡ Some x.issued
     found x is =
         ap (issued_at (calls_of script x.id.rank) (log_of run x.id.rank)) (sym is.index)
         ∙ ap (λ o. option_map_or (issued_by (calls_of script x.id.rank) x.issued.index) o None) is.logged ∙ is.issued
 
 -- two touches of one name are of one access
-pub same_access : (script : Script) (run : Run) (a b : IssuedAccess) (u v : Touching) → IsAccess script run a → IsAccess script run b →
+pub same_access : (script : Script) (run : Run) (a b : IssuedAccess) (u v : Touching) → IsAccess script run a →
+    IsAccess script run b →
     IsTouchBy script run a u → IsTouchBy script run b v → u.id ≡ v.id → a.id ≡ b.id
 same_access script run a b u v access other by of same =
     let rank : a.id.rank ≡ b.id.rank = sym by.rank ∙ ap (λ (i : Id). i.rank) same ∙ of.rank in
-    let items : Some (Touch a.issued.index u.element u.cell u.place u.bits) ≡ Some (Touch b.issued.index v.element v.cell v.place v.bits) =
+    let items : Some (Touch a.issued.index u.element u.cell u.place u.bits) ≡ Some
+    (Touch b.issued.index v.element v.cell v.place v.bits) =
     sym (touch_logged script run a u by) ∙ ap (λ r. slice_get (log_of run r) u.id.index) rank
     ∙ ap (λ (i : Id). slice_get (log_of run b.id.rank) i.index) same ∙ touch_logged script run b v of in
     let issue : a.issued.index ≡ b.issued.index = cc items in
@@ -116,10 +123,12 @@ pub record IsUpdateOn (script : Script) (run : Run) (cell : ℕ) (v : Touching) 
   pub aligned : IsAligned change.first_byte change.dtype
   pub on : v.cell ≡ cell
 
-module _ (script : Script) (delay : Delay) (run : Run) (formed : IsWellFormed script) (lawful : IsLawful script delay run)
+module _ (script : Script) (delay : Delay) (run : Run) (formed : IsWellFormed script)
+    (lawful : IsLawful script delay run)
     (agree : TouchesAgree script run) (before : Id → Id → Bool) (order : IsOrder script run before)
     (none : findings script run Separate before ≡ []) (each : AreOfTransfers script run) where
-  pub update_on : (cell : ℕ) (v : Touching) (change : Change) → In v (updates_of script run cell) → v.change ≡ Some change →
+  pub update_on : (cell : ℕ) (v : Touching) (change : Change) → In v (updates_of script run cell) →
+      v.change ≡ Some change →
       IsUpdateOn script run cell v change
   update_on cell v change m some =
       let one = filter_in is_update (on_cell cell (all_touches script run)) m in
@@ -130,7 +139,8 @@ module _ (script : Script) (delay : Delay) (run : Run) (formed : IsWellFormed sc
       let part = part_of script delay run lawful has.access t.0 v access t.1.moves has.by in
       let makes = change_is t.0 v.element part.piece change (sym part.change ∙ some) in
       let element = element_of (layout script) has.access.issued.access t.0.dtype v.element part.piece part.element in
-      let aligned = piece_aligned (layout script) has.access.issued.access t.0.dtype v.element part.piece t.1.lies element in
+      let aligned = piece_aligned (layout script) has.access.issued.access t.0.dtype v.element part.piece t.1.lies
+      element in
       record {
         listed = two.0;
         access = has.access;
@@ -140,7 +150,8 @@ module _ (script : Script) (delay : Delay) (run : Run) (formed : IsWellFormed sc
         part = part;
         makes = makes;
         element = element;
-        aligned = subst (λ n. IsAligned n change.dtype) (sym makes.first) (subst (IsAligned part.piece.first_byte) (sym makes.dtype_is) aligned);
+        aligned = subst (λ n. IsAligned n change.dtype) (sym makes.first)
+            (subst (IsAligned part.piece.first_byte) (sym makes.dtype_is) aligned);
         on = eqb-true v.cell cell two.1;
       }
 
@@ -148,16 +159,19 @@ module _ (script : Script) (delay : Delay) (run : Run) (formed : IsWellFormed sc
       is_update_role (role_of u.access.issued.access.kind) ≡ true
   is_updating cell v change u = ap (λ k. is_update_role (role_of k)) u.is.kind ∙ u.is.facts.updates u.makes.updates
 
-  pub own_target : (a : IssuedAccess) (t : Transfer) → IsOfTransfer script a t → is_local_role (role_of a.issued.access.kind) ≡ true →
+  pub own_target : (a : IssuedAccess) (t : Transfer) → IsOfTransfer script a t →
+      is_local_role (role_of a.issued.access.kind) ≡ true →
       a.issued.access.target ≡ a.id.rank
   own_target a t is local = is.own (is.facts.local (sym (ap is_local is.kind) ∙ local_kind a.issued.access.kind local))
 
   -- ---- two updates of a cell
 
   -- an update that shares a byte with a later one is before it, or changes the same element
-  pub earlier_update : (cell : ℕ) (v w : Touching) (c d : Change) → IsUpdateOn script run cell v c → IsUpdateOn script run cell w d →
+  pub earlier_update : (cell : ℕ) (v w : Touching) (c d : Change) → IsUpdateOn script run cell v c →
+      IsUpdateOn script run cell w d →
       v.change ≡ Some c → w.change ≡ Some d → v.place < w.place → c.first_byte < d.first_byte + size_of d.dtype →
-      d.first_byte < c.first_byte + size_of c.dtype → Before script run v.id w.id ⊎ ((c.first_byte ≡ d.first_byte) × (c.dtype ≡ d.dtype))
+      d.first_byte < c.first_byte + size_of c.dtype →
+      Before script run v.id w.id ⊎ ((c.first_byte ≡ d.first_byte) × (c.dtype ≡ d.dtype))
   earlier_update cell v w c d u x some_v some_w place low high = elim (cases_eq u.access.id.rank x.access.id.rank) [
     | inl rank ↦ elim (cases_eq u.access.id.index x.access.id.index) [
       | inl index ↦ inr (same_dtype (one_transfer (λ k. record { rank = rank k; index = index k })))
@@ -194,7 +208,8 @@ module _ (script : Script) (delay : Delay) (run : Run) (formed : IsWellFormed sc
             dtype,
           )
 
-      pieces_share : (p q : Piece) (e f : Dtype) → c.first_byte ≡ p.first_byte → d.first_byte ≡ q.first_byte → c.dtype ≡ e → d.dtype ≡ f →
+      pieces_share : (p q : Piece) (e f : Dtype) → c.first_byte ≡ p.first_byte → d.first_byte ≡ q.first_byte →
+          c.dtype ≡ e → d.dtype ≡ f →
           (p.first_byte < q.first_byte + size_of f) × (q.first_byte < p.first_byte + size_of e)
       pieces_share p q e f h k m n =
           let size_c : size_of c.dtype ≡ size_of e = ap size_of m in
@@ -204,26 +219,35 @@ module _ (script : Script) (delay : Delay) (run : Run) (formed : IsWellFormed sc
       cells : u.part.piece.cell ≡ x.part.piece.cell
       cells = u.part.cell ∙ u.on ∙ sym x.on ∙ sym x.part.cell
 
-      apart : (u.access.id ≡ x.access.id → ⊥) → Before script run v.id w.id ⊎ ((c.first_byte ≡ d.first_byte) × (c.dtype ≡ d.dtype))
+      apart : (u.access.id ≡ x.access.id → ⊥) →
+          Before script run v.id w.id ⊎ ((c.first_byte ≡ d.first_byte) × (c.dtype ≡ d.dtype))
       apart differ =
-          let shares = pieces_share u.part.piece x.part.piece u.t.dtype x.t.dtype u.makes.first x.makes.first u.makes.dtype_is x.makes.dtype_is in
-          let meet = share_byte script u.access.issued.access x.access.issued.access u.t.dtype x.t.dtype v.element w.element u.part.piece x.part.piece
+          let shares = pieces_share u.part.piece x.part.piece u.t.dtype x.t.dtype u.makes.first x.makes.first
+          u.makes.dtype_is x.makes.dtype_is in
+          let meet = share_byte script u.access.issued.access x.access.issued.access u.t.dtype x.t.dtype v.element
+          w.element u.part.piece x.part.piece
           u.is.lies x.is.lies u.element x.element cells shares.0 shares.1 in
-          let back = share_byte script x.access.issued.access u.access.issued.access x.t.dtype u.t.dtype w.element v.element x.part.piece u.part.piece
+          let back = share_byte script x.access.issued.access u.access.issued.access x.t.dtype u.t.dtype w.element
+          v.element x.part.piece u.part.piece
           x.is.lies u.is.lies x.element u.element (sym cells) shares.1 shares.0 in
-          elim (meeting script run before order none u.access x.access u.of_run x.of_run differ meet back (inl (is_updating cell v c u))
+          elim (meeting script run before order none u.access x.access u.of_run x.of_run differ meet back
+          (inl (is_updating cell v c u))
           (own_target u.access u.t u.is) (own_target x.access x.t x.is)) [
             | inl (inl first) ↦ inl (transitive script run v.id x.access.id w.id
                 (before_issue script delay run formed lawful before order u.access x.access v access other_access differ
-                (λ read. absurd (no_read (role_of u.access.issued.access.kind) (is_updating cell v c u) read)) first u.part.by)
+                (λ read. absurd (no_read (role_of u.access.issued.access.kind) (is_updating cell v c u) read)) first
+                u.part.by)
                 (after_issue script delay run formed lawful x.access w other_access x.part.by))
             | inl (inr second) ↦
                 let back_before = transitive script run w.id u.access.id v.id
-                (before_issue script delay run formed lawful before order x.access u.access w other_access access (λ same. differ (sym same))
-                (λ read. absurd (no_read (role_of x.access.issued.access.kind) (is_updating cell w d x) read)) second x.part.by)
+                (before_issue script delay run formed lawful before order x.access u.access w other_access access
+                (λ same. differ (sym same))
+                (λ read. absurd (no_read (role_of x.access.issued.access.kind) (is_updating cell w d x) read)) second
+                x.part.by)
                 (after_issue script delay run formed lawful u.access v access u.part.by) in
                 let keeps = agree w v (in_contains x.listed) (in_contains u.listed) (x.on ∙ sym u.on)
-                (λ same. differ (sym (same_access script run x.access u.access w v other_access access x.part.by u.part.by same))) back_before in
+                (λ same. differ (sym (same_access script run x.access u.access w v other_access access x.part.by
+                u.part.by same))) back_before in
                 let passed = update_passed w v d some_w keeps in absurd (omega (arith, passed, place))
             | inr alike ↦ inr (same_dtype (
                 sym (u.is.facts.dtype_is alike.dtype alike.first (ap accumulation_of (sym u.is.kind) ∙ alike.of_a))

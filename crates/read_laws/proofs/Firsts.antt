@@ -26,7 +26,8 @@ some_and (Some x) h = (x, refl, h)
 
 -- ---- the items of one call
 
--- an item that its call may begin with, other than an Issue: a flush or sync, the end of a request, or an entry but a Leave
+-- an item that its call may begin with, other than an Issue: a flush or sync, the end of a request, or an entry but a
+-- Leave
 abbrev pub begins_with_step : Step → Bool
 begins_with_step Arrive = true
 begins_with_step Leave = false
@@ -46,9 +47,11 @@ is_initial Ended = false
 -- the items of a call of this number: one, or one and another that is not initial
 pub data AreOfOne (number : ℕ) : List Item → Type 0 where
   Single : (x : Item) → number_in x ≡ Some number → AreOfOne number (x ∷ [])
-  Double : (x y : Item) → number_in x ≡ Some number → number_in y ≡ Some number → is_initial y ≡ false → AreOfOne number (x ∷ y ∷ [])
+  Double : (x y : Item) → number_in x ≡ Some number → number_in y ≡ Some number → is_initial y ≡ false →
+      AreOfOne number (x ∷ y ∷ [])
 
-single_if : (number : ℕ) (items : List Item) (x : Item) → items ≡ x ∷ [] → number_in x ≡ Some number → AreOfOne number items
+single_if : (number : ℕ) (items : List Item) (x : Item) → items ≡ x ∷ [] → number_in x ≡ Some number →
+    AreOfOne number items
 single_if number items x is of = subst (AreOfOne number) (sym is) (Single x of)
 
 issue_number : (o : Option Access) (number : ℕ) (item : Item) → IsSomeAnd o (λ access. item ≡ Issue number access) →
@@ -67,8 +70,10 @@ course_items OneFlush known number call items h = single_if number items (Flush 
 course_items OneRequest known number call items h = single_if number items (Request number) h refl
 course_items ArriveAndLeave known number call items (arrived, left, is) =
     subst (AreOfOne number) (sym is) (Double (Entry number arrived Arrive) (Entry number left Leave) refl refl refl)
-course_items EntryOrTested known number call items (inl entry) = single_if number items (Entry number entry.0 One) entry.1 refl
-course_items EntryOrTested known number call items (inr tested) = single_if number items (Tested number tested.0) tested.1 refl
+course_items EntryOrTested known number call items (inl entry) =
+    single_if number items (Entry number entry.0 One) entry.1 refl
+course_items EntryOrTested known number call items (inr tested) =
+    single_if number items (Tested number tested.0) tested.1 refl
 course_items OneEntry known number call items (place, is) = single_if number items (Entry number place One) is refl
 
 class_items : (o : Option Class) (known : Knowledge) (number : ℕ) (call : Call) (items : List Item) →
@@ -79,7 +84,8 @@ class_items None known number call items (inl refused) =
 class_items None known number call items (inr accepted) =
     course_items (course_of known.windows call) known number call items accepted
 
-pub one_call : (here : RankOfRun) (before : List Item) (number : ℕ) (items : List Item) → AreItemsOf here before number items →
+pub one_call : (here : RankOfRun) (before : List Item) (number : ℕ) (items : List Item) →
+    AreItemsOf here before number items →
     AreOfOne number items
 one_call here before number items h =
     let call = some_and (slice_get (calls_here here) number) h in
@@ -94,16 +100,21 @@ AreFirsts before (x ∷ xs) =
     (is_initial x ≡ true → (number : ℕ) → number_in x ≡ Some number → list_any (belongs_to number) before ≡ false)
     × AreFirsts (before ++ x ∷ []) xs
 
-firsts_joined : (before xs ys : List Item) → AreFirsts before xs → AreFirsts (before ++ xs) ys → AreFirsts before (xs ++ ys)
+firsts_joined : (before xs ys : List Item) → AreFirsts before xs → AreFirsts (before ++ xs) ys →
+    AreFirsts before (xs ++ ys)
 firsts_joined before [] ys one two = subst (λ l. AreFirsts l ys) (append-nil before) two
-firsts_joined before (x ∷ xs) ys one two =
-    (one.0, firsts_joined (before ++ x ∷ []) xs ys one.1 (subst (λ l. AreFirsts l ys) (sym (append_assoc before (x ∷ []) xs)) two))
+firsts_joined before (x ∷ xs) ys one two = (
+  one.0,
+  firsts_joined (before ++ x ∷ []) xs ys one.1
+      (subst (λ l. AreFirsts l ys) (sym (append_assoc before (x ∷ []) xs)) two),
+)
 
 -- no item belongs to a call of this number or of a greater one
 abbrev AreBelow : ℕ → List Item → Type 0
 AreBelow number items = (other : ℕ) → number ≤ other → list_any (belongs_to other) items ≡ false
 
-none_joined : {X : Type 0} (p : X → Bool) (xs ys : List X) → list_any p xs ≡ false → list_any p ys ≡ false → list_any p (xs ++ ys) ≡ false
+none_joined : {X : Type 0} (p : X → Bool) (xs ys : List X) → list_any p xs ≡ false → list_any p ys ≡ false →
+    list_any p (xs ++ ys) ≡ false
 none_joined p [] ys one two = two
 none_joined {X} p (x ∷ xs) ys one two = by_test (p x) one (λ h. none_joined p xs ys h two)
   where
@@ -112,7 +123,8 @@ none_joined {X} p (x ∷ xs) ys one two = by_test (p x) one (λ h. none_joined p
     by_test true h rest = absurd (cc h)
     by_test false h rest = rest h
 
-other_number : (number other : ℕ) (x : Item) → number_in x ≡ Some number → suc number ≤ other → belongs_to other x ≡ false
+other_number : (number other : ℕ) (x : Item) → number_in x ≡ Some number → suc number ≤ other →
+    belongs_to other x ≡ false
 other_number number other x is more =
     ap (λ o. option_map_or (λ n. n == other) o false) is ∙ ne_eqb number other (λ same. omega (arith, same, more))
 
@@ -122,7 +134,8 @@ none_of_one number items (Double x y of_x of_y plain) other more =
     ap (λ b. b || (belongs_to other y || false)) (other_number number other x of_x more)
     ∙ ap (λ b. b || false) (other_number number other y of_y more)
 
-first_of_one : (number : ℕ) (before items : List Item) → AreOfOne number items → AreBelow number before → AreFirsts before items
+first_of_one : (number : ℕ) (before items : List Item) → AreOfOne number items → AreBelow number before →
+    AreFirsts before items
 first_of_one number before items (Single x of) below = (λ initial other is. none other (cc (of, is)), tt)
   where
     none : (other : ℕ) → number ≡ other → list_any (belongs_to other) before ≡ false
@@ -133,30 +146,35 @@ first_of_one number before items (Double x y of_x of_y plain) below =
     none : (other : ℕ) → number ≡ other → list_any (belongs_to other) before ≡ false
     none other same = below other (omega (arith, same))
 
-finished_below : (here : RankOfRun) (number : ℕ) (items : List Item) → AreFinished here number items → AreBelow number items
+finished_below : (here : RankOfRun) (number : ℕ) (items : List Item) → AreFinished here number items →
+    AreBelow number items
 finished_below here zero items h other more = ap (list_any (belongs_to other)) h
 finished_below here (suc number) items (before, last, is, earlier, of) other more =
     ap (list_any (belongs_to other)) is
     ∙ none_joined (belongs_to other) before last (finished_below here number before earlier other (omega arith))
     (none_of_one number last (one_call here before number last of) other more)
 
-finished_firsts : (here : RankOfRun) (number : ℕ) (items : List Item) → AreFinished here number items → AreFirsts [] items
+finished_firsts : (here : RankOfRun) (number : ℕ) (items : List Item) → AreFinished here number items →
+    AreFirsts [] items
 finished_firsts here zero items h = subst (AreFirsts []) (sym h) tt
 finished_firsts here (suc number) items (before, last, is, earlier, of) =
     subst (AreFirsts []) (sym is)
     (firsts_joined [] before last (finished_firsts here number before earlier)
     (first_of_one number before last (one_call here before number last of) (finished_below here number before earlier)))
 
-standing_firsts : (here : RankOfRun) (before : List Item) (number : ℕ) (call : Call) (rest : List Item) → AreBelow number before →
+standing_firsts : (here : RankOfRun) (before : List Item) (number : ℕ) (call : Call) (rest : List Item) →
+    AreBelow number before →
     StandsAt here before number call rest → AreFirsts before rest
 standing_firsts here before number call rest below (own, inl none) = subst (AreFirsts before) (sym none.0) tt
 standing_firsts here before number call rest below (own, inr arrived) =
     subst (AreFirsts before) (sym arrived.1)
-    (first_of_one number before (Entry number arrived.0 Arrive ∷ []) (Single (Entry number arrived.0 Arrive) refl) below)
+    (first_of_one number before (Entry number arrived.0 Arrive ∷ [])
+    (Single (Entry number arrived.0 Arrive) refl) below)
 
 ending_firsts : (here : RankOfRun) (before : List Item) (number : ℕ) (rest : List Item) → AreBelow number before →
     EndsOrStands here before number rest → AreFirsts before rest
-ending_firsts here before number rest below (inl ended) = subst (AreFirsts before) (sym ended.1) (λ initial. absurd (cc initial), tt)
+ending_firsts here before number rest below (inl ended) = subst (AreFirsts before) (sym ended.1)
+    (λ initial. absurd (cc initial), tt)
 ending_firsts here before number rest below (inr stands) =
     let call = some_and (slice_get (calls_here here) number) stands in
     standing_firsts here before number call.0 rest below call.2
@@ -193,7 +211,8 @@ any_joined {X} p (x ∷ xs) ys = by_test (p x) (any_joined p xs ys)
     by_test true rest = refl
     by_test false rest = rest
 
-log_firsts : (before front log : List Item) → HaveAlike before front → AreFirsts before (untouched log) → AreFirsts front log
+log_firsts : (before front log : List Item) → HaveAlike before front → AreFirsts before (untouched log) →
+    AreFirsts front log
 log_firsts before front [] alike h = tt
 log_firsts before front (x ∷ log) alike h = by_test (is_touch x) refl h
     (λ front' alike' rest. log_firsts before front' log alike' rest)
@@ -216,7 +235,8 @@ log_firsts before front (x ∷ log) alike h = by_test (is_touch x) refl h
     by_test false other h skip keep = (
       λ initial number is. sym (alike number) ∙ h.0 initial number is,
       keep (λ number. any_joined (belongs_to number) before (x ∷ [])
-          ∙ ap (λ b. b || (belongs_to number x || false)) (alike number) ∙ sym (any_joined (belongs_to number) front (x ∷ []))) h.1,
+          ∙ ap (λ b. b || (belongs_to number x || false)) (alike number)
+          ∙ sym (any_joined (belongs_to number) front (x ∷ []))) h.1,
     )
 
 first_at : (before log : List Item) (k : ℕ) (x : Item) (number : ℕ) → AreFirsts before log → slice_get log k ≡ Some x →
@@ -231,7 +251,9 @@ first_at before (y ∷ log) (suc k) x number h e initial is =
     (first_at (before ++ y ∷ []) log k x number h.1 e initial is)
 
 -- an initial item of a log is the first of its call
-pub is_first : (here : RankOfRun) (log : List Item) (k : ℕ) (x : Item) (number : ℕ) → HasItemsOfCalls here (untouched log) →
-    slice_get log k ≡ Some x → is_initial x ≡ true → number_in x ≡ Some number → list_any (belongs_to number) (take k log) ≡ false
+pub is_first : (here : RankOfRun) (log : List Item) (k : ℕ) (x : Item) (number : ℕ) →
+    HasItemsOfCalls here (untouched log) →
+    slice_get log k ≡ Some x → is_initial x ≡ true → number_in x ≡ Some number →
+    list_any (belongs_to number) (take k log) ≡ false
 is_first here log k x number calls e initial is =
     first_at [] log k x number (log_firsts [] [] log (λ n. refl) (items_firsts here (untouched log) calls)) e initial is

@@ -40,7 +40,8 @@ none_found {X} q p (x ∷ xs) none =
     let fails = fails_where_none (q x) (count_by q xs) (count_by q (x ∷ xs)) (counted q x xs) none in
     by_test (p x) fails.0 (none_found q p xs fails.1)
   where
-    by_test : (b : Bool) → q x ≡ false → find q (filter p xs) ≡ None → find q (cond b (x ∷ filter p xs) (filter p xs)) ≡ None
+    by_test : (b : Bool) → q x ≡ false → find q (filter p xs) ≡ None →
+        find q (cond b (x ∷ filter p xs) (filter p xs)) ≡ None
     by_test true fails rest = ap (λ t. cond t (Some x) (find q (filter p xs))) fails ∙ rest
     by_test false fails rest = rest
 
@@ -54,7 +55,8 @@ found_if {X} q p (x ∷ xs) once = by_tests (q x) (p x) refl refl (λ few. found
         (count_by q xs ≤ 1 → find q (filter p xs) ≡ option_map_or (λ y. kept_if (p y) y) (find q xs) None) →
         find q (cond c (x ∷ filter p xs) (filter p xs))
         ≡ option_map_or (λ y. kept_if (p y) y) (cond b (Some x) (find q xs)) None
-    by_tests true true is passes rest = ap (λ t. cond t (Some x) (find q (filter p xs))) is ∙ sym (ap (λ t. kept_if t x) passes)
+    by_tests true true is passes rest = ap (λ t. cond t (Some x) (find q (filter p xs))) is
+        ∙ sym (ap (λ t. kept_if t x) passes)
     by_tests true false is fails rest =
         none_found q p xs (one_counts (q x) (count_by q xs) (count_by q (x ∷ xs)) (counted q x xs) is once)
         ∙ sym (ap (λ t. kept_if t x) fails)
@@ -68,7 +70,8 @@ pub find_in : {X : Type 0} (q : X → Bool) (xs : List X) (x : X) → find q xs 
 find_in q [] x e = absurd (cc e)
 find_in {X} q (y ∷ ys) x e = by_test (q y) refl (λ later. find_in q ys x later) e
   where
-    by_test : (b : Bool) → q y ≡ b → (find q ys ≡ Some x → In x ys × (q x ≡ true)) → cond b (Some y) (find q ys) ≡ Some x → In x (y ∷ ys) × (q x ≡ true)
+    by_test : (b : Bool) → q y ≡ b → (find q ys ≡ Some x → In x ys × (q x ≡ true)) →
+        cond b (Some y) (find q ys) ≡ Some x → In x (y ∷ ys) × (q x ≡ true)
     by_test true is rest e =
         let same : y ≡ x = cc e in (subst (λ z. In z (y ∷ ys)) same here, subst (λ z. q z ≡ true) same is)
     by_test false is rest e = let later = rest e in (there later.0, later.1)
@@ -99,14 +102,17 @@ pub record AreUpdates (updates : List Touching) : Type 0 where
   pub once : (place : ℕ) → count_by (has_place place) updates ≤ 1
   pub inside : (update : Touching) (change : Change) → In update updates → update.change ≡ Some change → IsInCell change
 
--- Which bytes are needed after so many updates: fewer updates need them too, and an update that changes one of them passes the
+-- Which bytes are needed after so many updates: fewer updates need them too, and an update that changes one of them
+-- passes the
 -- test, and changes no other byte, or the bytes that it changes are needed before it.
 pub record AreNeeded (updates : List Touching) (test : Touching → Bool) (Needs : ℕ → ℕ → ℕ → Type 0) : Type 0 where
   pub fewer : (k first count : ℕ) → Needs (suc k) first count → Needs k first count
   pub within : (k first count : ℕ) → Needs k first count → first + count ≤ 4
-  pub passes : (update : Touching) (change : Change) (first count : ℕ) → In update updates → update.change ≡ Some change →
+  pub passes : (update : Touching) (change : Change) (first count : ℕ) → In update updates →
+      update.change ≡ Some change →
       Needs (suc update.place) first count → DoShare change first count → test update ≡ true
-  pub widens : (update : Touching) (change : Change) (first count : ℕ) → In update updates → update.change ≡ Some change →
+  pub widens : (update : Touching) (change : Change) (first count : ℕ) → In update updates →
+      update.change ≡ Some change →
       Needs (suc update.place) first count → DoShare change first count →
       ((first ≤ change.first_byte) × (change.first_byte + size_of change.dtype ≤ first + count))
       ⊎ Needs update.place change.first_byte (size_of change.dtype)
@@ -115,7 +121,8 @@ module _ (updates : List Touching) (test : Touching → Bool) (are : AreUpdates 
   abbrev left : ℕ → ℕ
   left k = state (filter test updates) k
 
-  left_next : (k : ℕ) → left (suc k) ≡ after_found (left k) (option_map_or (λ x. kept_if (test x) x) (find (has_place k) updates) None)
+  left_next : (k : ℕ) → left (suc k) ≡ after_found (left k)
+      (option_map_or (λ x. kept_if (test x) x) (find (has_place k) updates) None)
   left_next k = ap (after_found (state (filter test updates) k)) (found_if (has_place k) test updates (are.once k))
 
   -- one more update that is apart
@@ -123,19 +130,23 @@ module _ (updates : List Touching) (test : Touching → Bool) (are : AreUpdates 
       IsInCell change → first + count ≤ 4 → AreApart change first count →
       DoAgree first count (after_found bits (kept_if b update)) bits
   apart_test true update change bits first count is i within apart =
-      subst (λ c. DoAgree first count (changed bits c) bits) (sym is) (apart_stays change bits first count i within apart)
+      subst (λ c. DoAgree first count (changed bits c) bits) (sym is)
+      (apart_stays change bits first count i within apart)
   apart_test false update change bits first count is i within apart = λ at low high. refl
 
-  joined : (first count a b c d : ℕ) → DoAgree first count a b → DoAgree first count b c → DoAgree first count d c → DoAgree first count a d
+  joined : (first count a b c d : ℕ) → DoAgree first count a b → DoAgree first count b c → DoAgree first count d c →
+      DoAgree first count a d
   joined first count a b c d one two three = λ at low high. one at low high ∙ two at low high ∙ sym (three at low high)
 
   -- ---- below the place
 
   module _ (Needs : ℕ → ℕ → ℕ → Type 0) (needed : AreNeeded updates test Needs) where
-    step : (k first count : ℕ) (found : Option Touching) → find (has_place k) updates ≡ found → Needs (suc k) first count →
+    step : (k first count : ℕ) (found : Option Touching) → find (has_place k) updates ≡ found →
+        Needs (suc k) first count →
         DoAgree first count (state updates k) (left k) →
         ((first count : ℕ) → Needs k first count → DoAgree first count (state updates k) (left k)) →
-        DoAgree first count (after_found (state updates k) found) (after_found (left k) (option_map_or (λ x. kept_if (test x) x) found None))
+        DoAgree first count (after_found (state updates k) found)
+        (after_found (left k) (option_map_or (λ x. kept_if (test x) x) found None))
     step k first count None is needs agree wider = agree
     step k first count (Some update) is needs agree wider = by_change update.change refl
       where
@@ -152,7 +163,8 @@ module _ (updates : List Touching) (test : Touching → Bool) (are : AreUpdates 
         within = needed.within (suc k) first count needs
 
         by_change : (c : Option Change) → update.change ≡ c →
-            DoAgree first count (after_found (state updates k) (Some update)) (after_found (left k) (kept_if (test update) update))
+            DoAgree first count (after_found (state updates k) (Some update))
+            (after_found (left k) (kept_if (test update) update))
         by_change None none = λ at low high.
             ap (λ c. byte_of (changed (state updates k) c) at) none ∙ agree at low high ∙ sym (stays (test update) at)
           where
@@ -162,8 +174,10 @@ module _ (updates : List Touching) (test : Touching → Bool) (are : AreUpdates 
         by_change (Some change) some = elim (share_or_apart change first count) [
           | inr apart ↦ joined first count (after_found (state updates k) (Some update)) (state updates k) (left k)
               (after_found (left k) (kept_if (test update) update))
-              (apart_test true update change (state updates k) first count some (are.inside update change member.0 some) within apart)
-              agree (apart_test (test update) update change (left k) first count some (are.inside update change member.0 some) within apart)
+              (apart_test true update change (state updates k) first count some
+              (are.inside update change member.0 some) within apart)
+              agree (apart_test (test update) update change (left k) first count some
+              (are.inside update change member.0 some) within apart)
           | inl shared ↦
               let passes = needed.passes update change first count member.0 some needs_here shared in
               let element : DoAgree change.first_byte (size_of change.dtype) (state updates k) (left k) =
@@ -172,8 +186,10 @@ module _ (updates : List Touching) (test : Touching → Bool) (are : AreUpdates 
                 | inr outer ↦ wider change.first_byte (size_of change.dtype)
                     (subst (λ n. Needs n change.first_byte (size_of change.dtype)) place outer)
               ] in
-              let both = change_agrees change (state updates k) (left k) first count (are.inside update change member.0 some) within agree element in
-              subst (λ b. DoAgree first count (after_found (state updates k) (Some update)) (after_found (left k) (kept_if b update))) (sym passes)
+              let both = change_agrees change (state updates k) (left k) first count
+              (are.inside update change member.0 some) within agree element in
+              subst (λ b. DoAgree first count (after_found (state updates k) (Some update))
+              (after_found (left k) (kept_if b update))) (sym passes)
               (subst (λ c. DoAgree first count (changed (state updates k) c) (changed (left k) c)) (sym some) both)
         ]
 
@@ -182,11 +198,13 @@ module _ (updates : List Touching) (test : Touching → Bool) (are : AreUpdates 
     below zero first count needs = λ at low high. refl
     below (suc k) first count needs =
         subst (DoAgree first count (state updates (suc k))) (sym (left_next k))
-        (step k first count (find (has_place k) updates) refl needs (below k first count (needed.fewer k first count needs)) (below k))
+        (step k first count (find (has_place k) updates) refl needs
+        (below k first count (needed.fewer k first count needs)) (below k))
 
   -- ---- from the place on
 
-  above_step : (k first count bits : ℕ) (found : Option Touching) → find (has_place k) updates ≡ found → first + count ≤ 4 →
+  above_step : (k first count bits : ℕ) (found : Option Touching) → find (has_place k) updates ≡ found →
+      first + count ≤ 4 →
       ((update : Touching) (change : Change) → In update updates → update.change ≡ Some change → update.place ≡ k →
       DoShare change first count → test update ≡ false) →
       DoAgree first count (after_found bits (option_map_or (λ x. kept_if (test x) x) found None)) bits
@@ -196,24 +214,28 @@ module _ (updates : List Touching) (test : Touching → Bool) (are : AreUpdates 
       member : In update updates × (has_place k update ≡ true)
       member = find_in (has_place k) updates update is
 
-      by_change : (c : Option Change) → update.change ≡ c → DoAgree first count (after_found bits (kept_if (test update) update)) bits
+      by_change : (c : Option Change) → update.change ≡ c →
+          DoAgree first count (after_found bits (kept_if (test update) update)) bits
       by_change None none = λ at low high. stays (test update) at
         where
           stays : (b : Bool) (at : ℕ) → byte_of (after_found bits (kept_if b update)) at ≡ byte_of bits at
           stays true at = ap (λ c. byte_of (changed bits c) at) none
           stays false at = refl
       by_change (Some change) some = elim (share_or_apart change first count) [
-        | inr apart ↦ apart_test (test update) update change bits first count some (are.inside update change member.0 some) within apart
+        | inr apart ↦ apart_test (test update) update change bits first count some
+            (are.inside update change member.0 some) within apart
         | inl shared ↦
             let fails_ = fails update change member.0 some (eqb-true update.place k member.1) shared in
-            subst (λ b. DoAgree first count (after_found bits (kept_if b update)) bits) (sym fails_) (λ at low high. refl)
+            subst (λ b. DoAgree first count (after_found bits (kept_if b update)) bits) (sym fails_)
+            (λ at low high. refl)
       ]
 
   above : (more k first count : ℕ) → first + count ≤ 4 →
       ((update : Touching) (change : Change) → In update updates → update.change ≡ Some change → k ≤ update.place →
       DoShare change first count → test update ≡ false) →
       DoAgree first count (left k) (left (k + more))
-  above zero k first count within fails = λ at low high. let same : k ≡ k + 0 = omega arith in ap (λ n. byte_of (left n) at) same
+  above zero k first count within fails = λ at low high. let same : k ≡ k + 0 = omega arith in
+      ap (λ n. byte_of (left n) at) same
   above (suc more) k first count within fails =
       let rest = above more k first count within fails in
       let last = subst (λ b. DoAgree first count b (left (k + more))) (sym (left_next (k + more)))
@@ -222,8 +244,10 @@ module _ (updates : List Touching) (test : Touching → Bool) (are : AreUpdates 
       let same : suc (k + more) ≡ k + suc more = omega arith in
       λ at low high. rest at low high ∙ sym (last at low high) ∙ ap (λ n. byte_of (left n) at) same
 
--- the two folds agree on the bytes that are needed at the place, where no update from there on that the test leaves changes one
-pub folds_agree : (updates : List Touching) (test : Touching → Bool) (Needs : ℕ → ℕ → ℕ → Type 0) (place total first count : ℕ) →
+-- the two folds agree on the bytes that are needed at the place, where no update from there on that the test leaves
+-- changes one
+pub folds_agree : (updates : List Touching) (test : Touching → Bool) (Needs : ℕ → ℕ → ℕ →
+    Type 0) (place total first count : ℕ) →
     AreUpdates updates → AreNeeded updates test Needs → Needs place first count → place ≤ total →
     ((update : Touching) (change : Change) → In update updates → update.change ≡ Some change → place ≤ update.place →
     DoShare change first count → test update ≡ false) →

@@ -65,7 +65,8 @@ number_space : (shapes : ℕ → List Part) (calls : List Call) (known : Knowled
     (known_after_number shapes calls known number).windows.space ≡ known.windows.space
 number_space shapes calls known number = by_call (slice_get calls number)
   where
-    by_call : (o : Option Call) → (option_map_or (known_after_call shapes known number) o known).windows.space ≡ known.windows.space
+    by_call : (o : Option Call) →
+        (option_map_or (known_after_call shapes known number) o known).windows.space ≡ known.windows.space
     by_call None = refl
     by_call (Some call) = space_stays shapes known.windows (action_of call)
 
@@ -73,14 +74,16 @@ item_space : (shapes : ℕ → List Part) (calls : List Call) (known : Knowledge
     (learn shapes calls known item).windows.space ≡ known.windows.space
 item_space shapes calls known item = by_number (accepted_by calls item)
   where
-    by_number : (o : Option ℕ) → (option_map_or (known_after_number shapes calls known) o known).windows.space ≡ known.windows.space
+    by_number : (o : Option ℕ) →
+        (option_map_or (known_after_number shapes calls known) o known).windows.space ≡ known.windows.space
     by_number None = refl
     by_number (Some number) = number_space shapes calls known number
 
 items_space : (shapes : ℕ → List Part) (calls : List Call) (known : Knowledge) (items : List Item) →
     (known_after shapes calls known items).windows.space ≡ known.windows.space
 items_space shapes calls known [] = refl
-items_space shapes calls known (item ∷ items) = items_space shapes calls (learn shapes calls known item) items ∙ item_space shapes calls known item
+items_space shapes calls known (item ∷ items) = items_space shapes calls (learn shapes calls known item) items
+    ∙ item_space shapes calls known item
 
 -- ---- the entries
 
@@ -89,7 +92,8 @@ abbrev EntryHasRoom : Script → ℕ → Item → Type 0
 EntryHasRoom script rank item = (number place : ℕ) (step : Step) → item ≡ Entry number place step → (call : Call) →
     slice_get (calls_of script rank) number ≡ Some call → HasRoom (bytes_at (layout script) rank) (action_of call)
 
-one_room : (script : Script) (rank number : ℕ) (call : Call) (x : Item) → slice_get (calls_of script rank) number ≡ Some call →
+one_room : (script : Script) (rank number : ℕ) (call : Call) (x : Item) →
+    slice_get (calls_of script rank) number ≡ Some call →
     HasRoom (bytes_at (layout script) rank) (action_of call) → number_in x ≡ Some number → EntryHasRoom script rank x
 one_room script rank number call x of room is other place step e found at =
     let same : Some number ≡ Some other = sym is ∙ ap number_in e in
@@ -98,89 +102,115 @@ one_room script rank number call x of room is other place step e found at =
     let call_is : call ≡ found = cc both in
     subst (λ c. HasRoom (bytes_at (layout script) rank) (action_of c)) call_is room
 
-block_room : (script : Script) (rank number : ℕ) (call : Call) (items : List Item) → slice_get (calls_of script rank) number ≡ Some call →
-    HasRoom (bytes_at (layout script) rank) (action_of call) → AreOfOne number items → AllByRecursion (EntryHasRoom script rank) items
+block_room : (script : Script) (rank number : ℕ) (call : Call) (items : List Item) →
+    slice_get (calls_of script rank) number ≡ Some call →
+    HasRoom (bytes_at (layout script) rank) (action_of call) → AreOfOne number items →
+    AllByRecursion (EntryHasRoom script rank) items
 block_room script rank number call items of room (Single x of_x) = (one_room script rank number call x of room of_x, tt)
 block_room script rank number call items of room (Double x y of_x of_y plain) =
     (one_room script rank number call x of room of_x, (one_room script rank number call y of room of_y, tt))
 
 no_room : (script : Script) (rank : ℕ) (items : List Item) (x : Item) → items ≡ x ∷ [] →
-    ((number place : ℕ) (step : Step) → x ≡ Entry number place step → ⊥) → AllByRecursion (EntryHasRoom script rank) items
+    ((number place : ℕ) (step : Step) → x ≡ Entry number place step → ⊥) →
+    AllByRecursion (EntryHasRoom script rank) items
 no_room script rank items x is none =
-    subst (AllByRecursion (EntryHasRoom script rank)) (sym is) (λ number place step e. absurd (none number place step e), tt)
+    subst (AllByRecursion (EntryHasRoom script rank)) (sym is)
+    (λ number place step e. absurd (none number place step e), tt)
 
-module _ (script : Script) (delay : Delay) (run : Run) (formed : IsWellFormed script) (lawful : IsLawful script delay run) where
+module _ (script : Script) (delay : Delay) (run : Run) (formed : IsWellFormed script)
+    (lawful : IsLawful script delay run) where
   abbrev here_at : ℕ → RankOfRun
   here_at rank = rank_in script delay run rank
 
-  space_at : (rank : ℕ) (items : List Item) → rank < script.ranks → (known_at (here_at rank) items).windows.space ≤ bytes_at (layout script) rank
+  space_at : (rank : ℕ) (items : List Item) → rank < script.ranks →
+      (known_at (here_at rank) items).windows.space ≤ bytes_at (layout script) rank
   space_at rank items within =
       subst (λ n. n ≤ bytes_at (layout script) rank)
-      (sym (items_space (shapes_in (stage_of script delay) (rows_of script run)) (calls_of script rank) (first_knowledge (stage_of script delay) rank) items))
-      (space_has_memory script rank (subst (λ n. rank < n) (sym formed.spaces) within) (subst (λ n. rank < n) (sym formed.lists) within))
+      (sym (items_space (shapes_in (stage_of script delay) (rows_of script run)) (calls_of script rank)
+      (first_knowledge (stage_of script delay) rank) items))
+      (space_has_memory script rank (subst (λ n. rank < n) (sym formed.spaces) within)
+      (subst (λ n. rank < n) (sym formed.lists) within))
 
-  class_room : (rank : ℕ) (before : List Item) (number : ℕ) (call : Call) (o : Option Class) (items : List Item) → rank < script.ranks →
+  class_room : (rank : ℕ) (before : List Item) (number : ℕ) (call : Call) (o : Option Class) (items : List Item) →
+      rank < script.ranks →
       slice_get (calls_of script rank) number ≡ Some call → own_class (known_at (here_at rank) before) call ≡ o →
-      AreItemsBy o (known_at (here_at rank) before) number call items → AreOfOne number items → AllByRecursion (EntryHasRoom script rank) items
+      AreItemsBy o (known_at (here_at rank) before) number call items → AreOfOne number items →
+      AllByRecursion (EntryHasRoom script rank) items
   class_room rank before number call (Some class) items within of own h one =
       no_room script rank items (Refused number class 0) h (λ n p s e. cc e)
   class_room rank before number call None items within of own (inl refused) one =
       no_room script rank items (Refused number refused.1 (suc refused.2)) refused.3 (λ n p s e. cc e)
   class_room rank before number call None items within of own (inr accepted) one =
       block_room script rank number call items of
-      (own_has_room (known_at (here_at rank) before) (bytes_at (layout script) rank) call (space_at rank before within) own) one
+      (own_has_room (known_at (here_at rank) before) (bytes_at (layout script) rank) call
+      (space_at rank before within) own) one
 
-  finished_room : (rank number : ℕ) (items : List Item) → rank < script.ranks → AreFinished (here_at rank) number items →
+  finished_room : (rank number : ℕ) (items : List Item) → rank < script.ranks →
+      AreFinished (here_at rank) number items →
       AllByRecursion (EntryHasRoom script rank) items
   finished_room rank zero items within h = subst (AllByRecursion (EntryHasRoom script rank)) (sym h) tt
   finished_room rank (suc number) items within (before, last, is, earlier, of) =
       let call = some_and (slice_get (calls_of script rank) number) of in
       subst (AllByRecursion (EntryHasRoom script rank)) (sym is)
       (each_append (EntryHasRoom script rank) before last (finished_room rank number before within earlier)
-      (class_room rank before number call.0 (own_class (known_at (here_at rank) before) call.0) last within call.1 refl call.2
+      (class_room rank before number call.0 (own_class (known_at (here_at rank) before) call.0) last within call.1
+      refl call.2
       (one_call (here_at rank) before number last of)))
 
   standing_room : (rank : ℕ) (before : List Item) (number : ℕ) (call : Call) (rest : List Item) → rank < script.ranks →
       slice_get (calls_of script rank) number ≡ Some call → StandsAt (here_at rank) before number call rest →
       AllByRecursion (EntryHasRoom script rank) rest
-  standing_room rank before number call rest within of (own, inl none) = subst (AllByRecursion (EntryHasRoom script rank)) (sym none.0) tt
+  standing_room rank before number call rest within of (own, inl none) =
+      subst (AllByRecursion (EntryHasRoom script rank)) (sym none.0) tt
   standing_room rank before number call rest within of (own, inr arrived) =
       subst (AllByRecursion (EntryHasRoom script rank)) (sym arrived.1)
       (block_room script rank number call (Entry number arrived.0 Arrive ∷ []) of
-      (own_has_room (known_at (here_at rank) before) (bytes_at (layout script) rank) call (space_at rank before within) own)
+      (own_has_room (known_at (here_at rank) before) (bytes_at (layout script) rank) call
+      (space_at rank before within) own)
       (Single (Entry number arrived.0 Arrive) refl))
 
-  ending_room : (rank : ℕ) (before : List Item) (number : ℕ) (rest : List Item) → rank < script.ranks → EndsOrStands (here_at rank) before number rest →
+  ending_room : (rank : ℕ) (before : List Item) (number : ℕ) (rest : List Item) → rank < script.ranks →
+      EndsOrStands (here_at rank) before number rest →
       AllByRecursion (EntryHasRoom script rank) rest
   ending_room rank before number rest within (inl ended) = no_room script rank rest Ended ended.1 (λ n p s e. cc e)
   ending_room rank before number rest within (inr stands) =
-      let call = some_and (slice_get (calls_of script rank) number) stands in standing_room rank before number call.0 rest within call.1 call.2
+      let call = some_and (slice_get (calls_of script rank) number) stands in
+      standing_room rank before number call.0 rest within call.1 call.2
 
   log_room : (rank : ℕ) → rank < script.ranks → AllByRecursion (EntryHasRoom script rank) (log_of run rank)
-  log_room rank within = with_touches (EntryHasRoom script rank) no_touch (log_of run rank) (by_calls (lawful.logs rank within).calls)
+  log_room rank within = with_touches (EntryHasRoom script rank) no_touch (log_of run rank)
+      (by_calls (lawful.logs rank within).calls)
     where
       no_touch : (x : Item) → is_touch x ≡ true → EntryHasRoom script rank x
       no_touch x touch number place step e = absurd (cc (touch, ap is_touch e))
 
-      by_calls : HasItemsOfCalls (here_at rank) (untouched (log_of run rank)) → AllByRecursion (EntryHasRoom script rank) (untouched (log_of run rank))
+      by_calls : HasItemsOfCalls (here_at rank) (untouched (log_of run rank)) →
+          AllByRecursion (EntryHasRoom script rank) (untouched (log_of run rank))
       by_calls (number, before, rest, is, finished, end) =
           subst (AllByRecursion (EntryHasRoom script rank)) (sym is)
           (each_append (EntryHasRoom script rank) before rest (finished_room rank number before within finished)
           (ending_room rank before number rest within end))
 
-  entries_sound : (at : ℕ) (xs : List Named) → AllFrom (IsEntryOf script run) at xs → AllByRecursion (IsSoundRow script) (flat_map (row_of script) xs)
+  entries_sound : (at : ℕ) (xs : List Named) → AllFrom (IsEntryOf script run) at xs →
+      AllByRecursion (IsSoundRow script) (flat_map (row_of script) xs)
   unfolding AllFrom
   entries_sound at [] all = tt
   entries_sound at (x ∷ xs) all =
       let e = all.0 in
       let row : row_of script x ≡ record { rank = x.id.rank; number = e.number; call = e.call; step = e.step } ∷ [] =
       ap (row_by script x.id.rank) e.is
-      ∙ ap (λ o. option_map_or (λ call. record { rank = x.id.rank; number = e.number; call = call; step = e.step } ∷ []) o []) e.of_rank in
+      ∙ ap (λ o. option_map_or (λ call. record {
+        rank = x.id.rank;
+        number = e.number;
+        call = call;
+        step = e.step;
+      } ∷ []) o []) e.of_rank in
       subst (λ l. AllByRecursion (IsSoundRow script) (l ++ flat_map (row_of script) xs)) (sym row) (
         record {
           inside = e.within;
           here = e.of_rank;
-          room = each_get (EntryHasRoom script x.id.rank) (log_of run x.id.rank) x.id.index x.item (log_room x.id.rank e.within) e.logged
+          room = each_get (EntryHasRoom script x.id.rank) (log_of run x.id.rank) x.id.index x.item
+              (log_room x.id.rank e.within) e.logged
               e.number at e.step e.is e.call e.of_rank;
         },
         entries_sound (at + 1) xs all.1,
@@ -189,15 +219,18 @@ module _ (script : Script) (delay : Delay) (run : Run) (formed : IsWellFormed sc
   rows_sound : AllByRecursion (IsSoundRow script) (rows_of script run)
   rows_sound = entries_sound 0 (entries_of run) (entries_placed script run lawful.ranks lawful.board.entries)
 
-  regular_all : (before rows : List Row) → AreRegular script before → AllByRecursion (IsSoundRow script) rows → AreAllowed script.ranks before rows →
+  regular_all : (before rows : List Row) → AreRegular script before → AllByRecursion (IsSoundRow script) rows →
+      AreAllowed script.ranks before rows →
       AreRegular script (before ++ rows)
   regular_all before [] regular sound allowed = subst (AreRegular script) (sym (append-nil before)) regular
   regular_all before (row ∷ rows) regular sound allowed =
       subst (AreRegular script) (append_assoc before (row ∷ []) rows)
-      (regular_all (before ++ row ∷ []) rows (regular_push script before row formed regular sound.0 allowed.0) sound.1 allowed.1)
+      (regular_all (before ++ row ∷ []) rows (regular_push script before row formed regular sound.0 allowed.0) sound.1
+      allowed.1)
 
   regular : AreRegular script (rows_of script run)
-  regular = regular_all [] (rows_of script run) (record { sound = tt; numbered = tt; flavors = λ window. (Dynamic, tt) }) rows_sound lawful.board.allowed
+  regular = regular_all [] (rows_of script run)
+      (record { sound = tt; numbered = tt; flavors = λ window. (Dynamic, tt) }) rows_sound lawful.board.allowed
 
   -- ---- the entries of a rank without its touches
 
@@ -205,12 +238,18 @@ module _ (script : Script) (delay : Delay) (run : Run) (formed : IsWellFormed sc
       (front back : List Item) × (log ≡ front ++ item ∷ back) × (untouched front ≡ xs)
   split_untouched [] [] ys item plain e = absurd (cc e)
   split_untouched [] (x ∷ xs) ys item plain e = absurd (cc e)
-  split_untouched (z ∷ log) xs ys item plain e = by_test (is_touch z) refl (λ xs' e'. split_untouched log xs' ys item plain e') e
+  split_untouched (z ∷ log) xs ys item plain e =
+      by_test (is_touch z) refl (λ xs' e'. split_untouched log xs' ys item plain e') e
     where
       grown : (front back : List Item) → is_touch z ≡ true → log ≡ front ++ item ∷ back → untouched front ≡ xs →
           (front' back' : List Item) × (z ∷ log ≡ front' ++ item ∷ back') × (untouched front' ≡ xs)
-      grown front back touch is same =
-          (z ∷ front, back, ap (λ l. z ∷ l) is, ap (λ b. cond (not b) (z ∷ untouched front) (untouched front)) touch ∙ same)
+      grown front back touch is same = (
+        z ∷ front,
+        back,
+        ap (λ l. z ∷ l) is,
+        ap (λ b. cond (not b) (z ∷ untouched front) (untouched front)) touch
+            ∙ same,
+      )
 
       kept : is_touch z ≡ false → (xs' : List Item) → xs ≡ z ∷ xs' →
           ((front back : List Item) × (log ≡ front ++ item ∷ back) × (untouched front ≡ xs')) →
@@ -223,20 +262,23 @@ module _ (script : Script) (delay : Delay) (run : Run) (formed : IsWellFormed sc
       )
 
       by_list : (l : List Item) → xs ≡ l → is_touch z ≡ false → z ∷ untouched log ≡ l ++ item ∷ ys →
-          ((xs' : List Item) → untouched log ≡ xs' ++ item ∷ ys → (front back : List Item) × (log ≡ front ++ item ∷ back) × (untouched front ≡ xs')) →
+          ((xs' : List Item) → untouched log ≡ xs' ++ item ∷ ys →
+          (front back : List Item) × (log ≡ front ++ item ∷ back) × (untouched front ≡ xs')) →
           (front' back' : List Item) × (z ∷ log ≡ front' ++ item ∷ back') × (untouched front' ≡ xs)
       by_list [] is other e later = let same : z ≡ item = cc e in ([], log, ap (λ i. i ∷ log) same, sym is)
       by_list (x ∷ xs') is other e later =
           let same : z ≡ x = cc e in kept other xs' (is ∙ ap (λ i. i ∷ xs') (sym same)) (later xs' (cc e))
 
       by_test : (b : Bool) → is_touch z ≡ b →
-          ((xs' : List Item) → untouched log ≡ xs' ++ item ∷ ys → (front back : List Item) × (log ≡ front ++ item ∷ back) × (untouched front ≡ xs')) →
+          ((xs' : List Item) → untouched log ≡ xs' ++ item ∷ ys →
+          (front back : List Item) × (log ≡ front ++ item ∷ back) × (untouched front ≡ xs')) →
           cond (not b) (z ∷ untouched log) (untouched log) ≡ xs ++ item ∷ ys →
           (front' back' : List Item) × (z ∷ log ≡ front' ++ item ∷ back') × (untouched front' ≡ xs)
       by_test true touch later e = let one = later xs e in grown one.0 one.1 touch one.2 one.3
       by_test false other later e = by_list xs refl other e later
 
-  all_entered : (rank : ℕ) (within : rank < script.ranks) → AreEntered script delay run formed lawful regular rank within (untouched (log_of run rank))
+  all_entered : (rank : ℕ) (within : rank < script.ranks) →
+      AreEntered script delay run formed lawful regular rank within (untouched (log_of run rank))
   all_entered rank within xs ys number place step call e of =
       let split = split_untouched (log_of run rank) xs ys (Entry number place step) refl e in
       let one = entered script delay run lawful rank number place step call split.0 split.1 within split.2 of in
@@ -244,16 +286,19 @@ module _ (script : Script) (delay : Delay) (run : Run) (formed : IsWellFormed sc
         before = one.before;
         rest = one.rest;
         split = one.split;
-        counts = λ p others. one.counts p others ∙ ap (count_by p) (rows_untouched script rank split.0 ∙ ap (rows_in script rank) split.3);
+        counts = λ p others. one.counts p others
+            ∙ ap (count_by p) (rows_untouched script rank split.0 ∙ ap (rows_in script rank) split.3);
       }
 
   -- ---- accesses
 
   allowed_at : (before front rest : List Row) (row : Row) → AreAllowed script.ranks before (front ++ row ∷ rest) →
       decide script.ranks (before ++ front) row ≡ Allow
-  allowed_at before [] rest row allowed = subst (λ l. decide script.ranks l row ≡ Allow) (sym (append-nil before)) allowed.0
+  allowed_at before [] rest row allowed = subst (λ l. decide script.ranks l row ≡ Allow)
+      (sym (append-nil before)) allowed.0
   allowed_at before (x ∷ front) rest row allowed =
-      subst (λ l. decide script.ranks l row ≡ Allow) (append_assoc before (x ∷ []) front) (allowed_at (before ++ x ∷ []) front rest row allowed.1)
+      subst (λ l. decide script.ranks l row ≡ Allow) (append_assoc before (x ∷ []) front)
+      (allowed_at (before ++ x ∷ []) front rest row allowed.1)
 
   -- what an Issue tells of its access
   pub record IsIssueTold (rank : ℕ) (access : Access) (call : Call) : Type 0 where
@@ -272,13 +317,17 @@ module _ (script : Script) (delay : Delay) (run : Run) (formed : IsWellFormed sc
     Sound known begun = IsSound script delay run formed lawful regular rank within known begun
 
     -- the access of an accepted transfer, given that it lies in memory on its window
-    told : (known : Knowledge) (begun : ℕ → ℕ) (call : Call) (access : Access) → Sound known begun → own_class known call ≡ None →
+    told : (known : Knowledge) (begun : ℕ → ℕ) (call : Call) (access : Access) → Sound known begun →
+        own_class known call ≡ None →
         (t : Transfer) → transfer_of call ≡ Some t → access_of known.windows call ≡ Some access →
-        ((window : Window) → window_of_name known.windows t.win ≡ Some window → first_class (place_tests known.windows window t) ≡ None →
+        ((window : Window) → window_of_name known.windows t.win ≡ Some window →
+        first_class (place_tests known.windows window t) ≡ None →
         LiesInMemory (layout script) (access_on known.windows t window) t.dtype) → IsIssueTold rank access call
     told known begun call access sound own t moves is lies =
-        let passed = transfer_passed known.windows t (subst (λ a. window_class known.windows a ≡ None) (moves_it call t moves) (windows_allow known call own)) in
-        let both : Some access ≡ Some (access_on known.windows t passed.0) = sym is ∙ access_on_is known.windows call t passed.0 moves passed.1 in
+        let passed = transfer_passed known.windows t
+        (subst (λ a. window_class known.windows a ≡ None) (moves_it call t moves) (windows_allow known call own)) in
+        let both : Some access ≡ Some (access_on known.windows t passed.0) = sym is
+        ∙ access_on_is known.windows call t passed.0 moves passed.1 in
         let same : access ≡ access_on known.windows t passed.0 = cc both in
         record {
           t = t;
@@ -288,28 +337,38 @@ module _ (script : Script) (delay : Delay) (run : Run) (formed : IsWellFormed sc
           lies = subst (λ a. LiesInMemory (layout script) a t.dtype) (sym same) (lies passed.0 passed.1 passed.2);
         }
 
-    roomy_window : (known : Knowledge) (begun : ℕ → ℕ) (win : ℕ) (window : Window) → Sound known begun → window_of_name known.windows win ≡ Some window →
+    roomy_window : (known : Knowledge) (begun : ℕ → ℕ) (win : ℕ) (window : Window) → Sound known begun →
+        window_of_name known.windows win ≡ Some window →
         IsRoomyWindow (layout script) window
     roomy_window known begun win window sound live =
-        (found_is (IsRoomyWindow (layout script)) (λ (w : Window). w.win == win) known.windows.windows window sound.roomy.windows live).0
+        (found_is (IsRoomyWindow (layout script)) (λ (w : Window). w.win == win) known.windows.windows window
+        sound.roomy.windows live).0
 
-    epochs_pass : (known : Knowledge) (call : Call) (t : Transfer) → transfer_of call ≡ Some t → own_class known call ≡ None →
+    epochs_pass : (known : Knowledge) (call : Call) (t : Transfer) → transfer_of call ≡ Some t →
+        own_class known call ≡ None →
         epoch_class known.windows.ranks known.epochs (Moves t) ≡ None
-    epochs_pass known call t moves own = subst (λ a. epoch_class known.windows.ranks known.epochs a ≡ None) (moves_it call t moves) (epochs_allow known call own)
+    epochs_pass known call t moves own = subst (λ a. epoch_class known.windows.ranks known.epochs a ≡ None)
+        (moves_it call t moves) (epochs_allow known call own)
 
-    course_at : (known : Knowledge) (call : Call) (t : Transfer) (course : Course) → transfer_of call ≡ Some t → course_of known.windows call ≡ course →
+    course_at : (known : Knowledge) (call : Call) (t : Transfer) (course : Course) → transfer_of call ≡ Some t →
+        course_of known.windows call ≡ course →
         course_of_transfer known.windows t ≡ course
-    course_at known call t course moves is = subst (λ a. course_of_action known.windows a ≡ course) (moves_it call t moves) is
+    course_at known call t course moves is = subst (λ a. course_of_action known.windows a ≡ course)
+        (moves_it call t moves) is
 
     -- without a look-up
-    plain_told : (known : Knowledge) (begun : ℕ → ℕ) (call : Call) (access : Access) → Sound known begun → own_class known call ≡ None →
-        course_of known.windows call ≡ OneIssue → access_of known.windows call ≡ Some access → IsIssueTold rank access call
+    plain_told : (known : Knowledge) (begun : ℕ → ℕ) (call : Call) (access : Access) → Sound known begun →
+        own_class known call ≡ None →
+        course_of known.windows call ≡ OneIssue → access_of known.windows call ≡ Some access →
+        IsIssueTold rank access call
     plain_told known begun call access sound own course is =
         let t = transfer_with_issue known.windows call (subst HasIssue (sym course) tt) in
         let at = course_at known call t.0 OneIssue t.1 course in
         told known begun call access sound own t.0 t.1 is (λ window live place.
-        access_lies (layout script) known.windows t.0 window sound.roomy (roomy_window known begun t.0.win window sound live) live at
-        (right_place known.windows known.epochs window t.0 (subst HasIssue (sym at) tt) (epochs_pass known call t.0 t.1 own) place))
+        access_lies (layout script) known.windows t.0 window sound.roomy
+        (roomy_window known begun t.0.win window sound live) live at
+        (right_place known.windows known.epochs window t.0 (subst HasIssue (sym at) tt)
+        (epochs_pass known call t.0 t.1 own) place))
 
     not_refused : (o : Option Class) (b : Bool) → decision_by o b ≡ Allow → o ≡ None
     not_refused None b e = refl
@@ -320,17 +379,24 @@ module _ (script : Script) (delay : Delay) (run : Run) (formed : IsWellFormed sc
     attached false e = refl
 
     -- after a look-up
-    looked_told : (known : Knowledge) (begun : ℕ → ℕ) (number place : ℕ) (call : Call) (access : Access) (xs : List Item) → Sound known begun →
-        own_class known call ≡ None → course_of known.windows call ≡ LookUpAndIssue → access_of known.windows call ≡ Some access →
+    looked_told : (known : Knowledge) (begun : ℕ → ℕ) (number place : ℕ) (call : Call) (access : Access)
+        (xs : List Item) → Sound known begun →
+        own_class known call ≡ None → course_of known.windows call ≡ LookUpAndIssue →
+        access_of known.windows call ≡ Some access →
         IsEntered script delay run lawful rank number place One call xs → IsIssueTold rank access call
     looked_told known begun number place call access xs sound own course is entry =
         told known begun call access sound own t.0 t.1 is (λ window live passed.
-        looked_up_lies (layout script) known.windows t.0 window (ranges_attached (acts entry.before) (rank_reached known.windows.rank t.0.target) q.window)
+        looked_up_lies (layout script) known.windows t.0 window
+        (ranges_attached (acts entry.before) (rank_reached known.windows.rank t.0.target) q.window)
         (roomy_window known begun t.0.win window sound live) (looks_up_dynamic known.windows t.0 window at live)
-        (right_place known.windows known.epochs window t.0 (subst HasIssue (sym at) tt) (epochs_pass known call t.0 t.1 own) passed)
-        (attached_lie script (acts entry.before) (rank_reached known.windows.rank t.0.target) q.window (acts_sound script entry.before
-        (each_front (IsSoundRow script) entry.before _ (subst (AllByRecursion (IsSoundRow script)) entry.split rows_sound))))
-        (subst (λ r. covers (ranges_attached (acts entry.before) (rank_reached r t.0.target) q.window) (natural t.0.disp) (bytes_of t.0) ≡ true)
+        (right_place known.windows known.epochs window t.0 (subst HasIssue (sym at) tt)
+        (epochs_pass known call t.0 t.1 own) passed)
+        (attached_lie script (acts entry.before) (rank_reached known.windows.rank t.0.target) q.window
+        (acts_sound script entry.before
+        (each_front (IsSoundRow script) entry.before _
+        (subst (AllByRecursion (IsSoundRow script)) entry.split rows_sound))))
+        (subst (λ r. covers (ranges_attached (acts entry.before) (rank_reached r t.0.target) q.window)
+        (natural t.0.disp) (bytes_of t.0) ≡ true)
         (sym sound.mine) covered))
       where
         t : (t : Transfer) × (transfer_of call ≡ Some t)
@@ -345,18 +411,24 @@ module _ (script : Script) (delay : Delay) (run : Run) (formed : IsWellFormed sc
         q : Question
         q = question script.ranks entry.before (record { rank = rank; number = number; call = call; step = One })
 
-        allowed : decide script.ranks entry.before (record { rank = rank; number = number; call = call; step = One }) ≡ Allow
-        allowed = allowed_at [] entry.before entry.rest (record { rank = rank; number = number; call = call; step = One })
+        allowed : decide script.ranks entry.before (record { rank = rank; number = number; call = call; step = One })
+            ≡ Allow
+        allowed = allowed_at [] entry.before entry.rest
+            (record { rank = rank; number = number; call = call; step = One })
             (subst (AreAllowed script.ranks []) entry.split lawful.board.allowed)
 
-        covered : covers (ranges_attached (acts entry.before) (rank_reached rank t.0.target) q.window) (natural t.0.disp) (bytes_of t.0) ≡ true
-        covered = not-false (covers (ranges_attached (acts entry.before) (rank_reached rank t.0.target) q.window) (natural t.0.disp) (bytes_of t.0))
+        covered : covers (ranges_attached (acts entry.before) (rank_reached rank t.0.target) q.window)
+            (natural t.0.disp) (bytes_of t.0) ≡ true
+        covered = not-false (covers (ranges_attached (acts entry.before) (rank_reached rank t.0.target) q.window)
+            (natural t.0.disp) (bytes_of t.0))
             (attached (reaches_unattached q t.0)
-            (subst (λ a. one_refusal q a ≡ None) (moves_it call t.0 t.1) (not_refused (refusal q One) (is_allowed_now q One) allowed)))
+            (subst (λ a. one_refusal q a ≡ None) (moves_it call t.0 t.1)
+            (not_refused (refusal q One) (is_allowed_now q One) allowed)))
 
     -- ---- the items of a rank
 
-    of_issue : (number : ℕ) (call : Call) (access : Access) → slice_get (calls_of script rank) number ≡ Some call → IsIssueTold rank access call →
+    of_issue : (number : ℕ) (call : Call) (access : Access) → slice_get (calls_of script rank) number ≡ Some call →
+        IsIssueTold rank access call →
         IssueIsTold rank (Issue number access)
     of_issue number call access of told_ other access' e found at =
         let number_is : number ≡ other = cc e in
@@ -365,16 +437,20 @@ module _ (script : Script) (delay : Delay) (run : Run) (formed : IsWellFormed sc
         let call_is : call ≡ found = cc both in
         subst (IsIssueTold rank access') call_is (subst (λ a. IsIssueTold rank a call) access_is_ told_)
 
-    none_issues : (items : List Item) (x : Item) → items ≡ x ∷ [] → ((number : ℕ) (access : Access) → x ≡ Issue number access → ⊥) →
+    none_issues : (items : List Item) (x : Item) → items ≡ x ∷ [] →
+        ((number : ℕ) (access : Access) → x ≡ Issue number access → ⊥) →
         AllByRecursion (IssueIsTold rank) items
     none_issues items x is none = subst (AllByRecursion (IssueIsTold rank)) (sym is) (λ n a e. absurd (none n a e), tt)
 
-    course_told : (known : Knowledge) (before rest items : List Item) (number : ℕ) (call : Call) (course : Course) → Sound known
+    course_told : (known : Knowledge) (before rest items : List Item) (number : ℕ) (call : Call) (course : Course) →
+        Sound known
         (begun_in script delay run formed lawful regular rank within before) →
-        AreEntered script delay run formed lawful regular rank within (before ++ (items ++ rest)) → own_class known call ≡ None →
+        AreEntered script delay run formed lawful regular rank within (before ++ (items ++ rest)) →
+        own_class known call ≡ None →
         slice_get (calls_of script rank) number ≡ Some call → course_of known.windows call ≡ course →
         AreItemsOfCourse course known number call items → AllByRecursion (IssueIsTold rank) items
-    course_told known before rest items number call OneNull sound enter own of is h = none_issues items (Null number) h (λ n a e. cc e)
+    course_told known before rest items number call OneNull sound enter own of is h =
+        none_issues items (Null number) h (λ n a e. cc e)
     course_told known before rest items number call OneIssue sound enter own of is (item, issue, e) =
         let one = some_and (access_of known.windows call) issue in
         subst (AllByRecursion (IssueIsTold rank)) (sym (e ∙ ap (λ i. i ∷ []) one.2))
@@ -384,12 +460,21 @@ module _ (script : Script) (delay : Delay) (run : Run) (formed : IsWellFormed sc
         let entry = enter before (item ∷ rest) number place One call (ap (λ l. before ++ (l ++ rest)) e) of in
         subst (AllByRecursion (IssueIsTold rank)) (sym (e ∙ ap (λ i. Entry number place One ∷ i ∷ []) one.2)) (
           λ n a same. absurd (cc same),
-          (of_issue number call one.0 of (looked_told known _ number place call one.0 before sound own is one.1 entry), tt),
+          (
+            of_issue number call one.0 of
+                (looked_told known _ number place call one.0 before sound own is one.1 entry),
+            tt,
+          ),
         )
-    course_told known before rest items number call OneFlush sound enter own of is h = none_issues items (Flush number) h (λ n a e. cc e)
-    course_told known before rest items number call OneRequest sound enter own of is h = none_issues items (Request number) h (λ n a e. cc e)
+    course_told known before rest items number call OneFlush sound enter own of is h =
+        none_issues items (Flush number) h (λ n a e. cc e)
+    course_told known before rest items number call OneRequest sound enter own of is h =
+        none_issues items (Request number) h (λ n a e. cc e)
     course_told known before rest items number call ArriveAndLeave sound enter own of is (arrived, left, e) =
-        subst (AllByRecursion (IssueIsTold rank)) (sym e) (λ n a same. absurd (cc same), (λ n a same. absurd (cc same), tt))
+        subst (AllByRecursion (IssueIsTold rank)) (sym e) (
+          λ n a same. absurd (cc same),
+          (λ n a same. absurd (cc same), tt),
+        )
     course_told known before rest items number call EntryOrTested sound enter own of is (inl entry) =
         none_issues items (Entry number entry.0 One) entry.1 (λ n a e. cc e)
     course_told known before rest items number call EntryOrTested sound enter own of is (inr tested) =
@@ -401,32 +486,39 @@ module _ (script : Script) (delay : Delay) (run : Run) (formed : IsWellFormed sc
         (begun_in script delay run formed lawful regular rank within before) →
         AreEntered script delay run formed lawful regular rank within (before ++ (items ++ rest)) →
         slice_get (calls_of script rank) number ≡ Some call →
-        IsOfCallAfter script delay run formed lawful regular rank within (known_at (here_at rank) before) number call items →
+        IsOfCallAfter script delay run formed lawful regular rank within
+        (known_at (here_at rank) before) number call items →
         AllByRecursion (IssueIsTold rank) items
     call_told before rest items number call sound enter of (Refuses item class seen is) =
         none_issues items (Refused number class seen) is (λ n a e. cc e)
     call_told before rest items number call sound enter of (Accepts own accepted) =
-        course_told (known_at (here_at rank) before) before rest items number call (course_of (known_at (here_at rank) before).windows call)
+        course_told (known_at (here_at rank) before) before rest items number call
+        (course_of (known_at (here_at rank) before).windows call)
         sound enter own of refl accepted
 
     finished_told : (number : ℕ) (items rest : List Item) → AreFinished (here_at rank) number items →
-        AreEntered script delay run formed lawful regular rank within (items ++ rest) → AllByRecursion (IssueIsTold rank) items
+        AreEntered script delay run formed lawful regular rank within (items ++ rest) →
+        AllByRecursion (IssueIsTold rank) items
     finished_told zero items rest h enter = subst (AllByRecursion (IssueIsTold rank)) (sym h) tt
     finished_told (suc number) items rest (before, last, is, earlier, of) enter =
-        let enter' = subst (AreEntered script delay run formed lawful regular rank within) (ap (λ l. l ++ rest) is ∙ append_assoc before last rest) enter in
-        let sound = known_sound script delay run formed lawful regular rank within number before (last ++ rest) earlier enter' in
+        let enter' = subst (AreEntered script delay run formed lawful regular rank within) (ap (λ l. l ++ rest) is
+        ∙ append_assoc before last rest) enter in
+        let sound = known_sound script delay run formed lawful regular rank within number before
+        (last ++ rest) earlier enter' in
         let one = of_call_after script delay run formed lawful regular rank within before number last of in
         subst (AllByRecursion (IssueIsTold rank)) (sym is)
         (each_append (IssueIsTold rank) before last (finished_told number before (last ++ rest) earlier enter')
         (call_told before rest last number one.0 sound enter' one.1 one.2))
 
-    ending_told : (before : List Item) (number : ℕ) (rest : List Item) → EndsOrStands (here_at rank) before number rest →
+    ending_told : (before : List Item) (number : ℕ) (rest : List Item) →
+        EndsOrStands (here_at rank) before number rest →
         AllByRecursion (IssueIsTold rank) rest
     ending_told before number rest (inl ended) = none_issues rest Ended ended.1 (λ n a e. cc e)
     ending_told before number rest (inr stands) =
         let call = some_and (slice_get (calls_of script rank) number) stands in by_standing call.0 call.2
       where
-        by_standing : (call : Call) → StandsAt (here_at rank) before number call rest → AllByRecursion (IssueIsTold rank) rest
+        by_standing : (call : Call) → StandsAt (here_at rank) before number call rest →
+            AllByRecursion (IssueIsTold rank) rest
         by_standing call (own, inl none) = subst (AllByRecursion (IssueIsTold rank)) (sym none.0) tt
         by_standing call (own, inr arrived) = none_issues rest (Entry number arrived.0 Arrive) arrived.1 (λ n a e. cc e)
 
@@ -436,14 +528,17 @@ module _ (script : Script) (delay : Delay) (run : Run) (formed : IsWellFormed sc
         no_touch : (x : Item) → is_touch x ≡ true → IssueIsTold rank x
         no_touch x touch number access e = absurd (cc (touch, ap is_touch e))
 
-        by_calls : HasItemsOfCalls (here_at rank) (untouched (log_of run rank)) → AllByRecursion (IssueIsTold rank) (untouched (log_of run rank))
+        by_calls : HasItemsOfCalls (here_at rank) (untouched (log_of run rank)) →
+            AllByRecursion (IssueIsTold rank) (untouched (log_of run rank))
         by_calls (number, before, rest, is, finished, end) =
             subst (AllByRecursion (IssueIsTold rank)) (sym is)
             (each_append (IssueIsTold rank) before rest
-            (finished_told number before rest finished (subst (AreEntered script delay run formed lawful regular rank within) is (all_entered rank within)))
+            (finished_told number before rest finished
+            (subst (AreEntered script delay run formed lawful regular rank within) is (all_entered rank within)))
             (ending_told before number rest end))
 
-  call_at : (calls : List Call) (number : ℕ) (t : Transfer) (o : Option Call) → slice_get calls number ≡ o → option_map_or transfer_of o None ≡ Some t →
+  call_at : (calls : List Call) (number : ℕ) (t : Transfer) (o : Option Call) → slice_get calls number ≡ o →
+      option_map_or transfer_of o None ≡ Some t →
       (call : Call) × (slice_get calls number ≡ Some call) × (transfer_of call ≡ Some t)
   call_at calls number t None e h = absurd (cc h)
   call_at calls number t (Some call) e h = (call, e, h)
@@ -452,8 +547,10 @@ module _ (script : Script) (delay : Delay) (run : Run) (formed : IsWellFormed sc
   of_transfers a m =
       let access = access_is script run m in
       let issued = issued_is (calls_of script a.id.rank) a.issued.index access.item a.issued access.issued in
-      let call = call_at (calls_of script a.id.rank) a.issued.number issued.t (slice_get (calls_of script a.id.rank) a.issued.number) refl issued.moves in
-      let one = each_get (IssueIsTold a.id.rank) (log_of run a.id.rank) a.issued.index access.item (log_told a.id.rank access.within) access.logged
+      let call = call_at (calls_of script a.id.rank) a.issued.number issued.t
+      (slice_get (calls_of script a.id.rank) a.issued.number) refl issued.moves in
+      let one = each_get (IssueIsTold a.id.rank) (log_of run a.id.rank) a.issued.index access.item
+      (log_told a.id.rank access.within) access.logged
       a.issued.number a.issued.access issued.is call.0 call.1 in
       let both : Some one.t ≡ Some issued.t = sym one.moves ∙ call.2 in
       let same : one.t ≡ issued.t = cc both in (

@@ -1,4 +1,5 @@
--- Two accesses of a run without findings, one of them an update, that have a byte in common: one is ordered before the other, or
+-- Two accesses of a run without findings, one of them an update, that have a byte in common: one is ordered before
+-- the other, or
 -- both are accumulates of one datatype.
 use Rattle.std.proofs.Common.{◌≡◌, ℕ, zero, suc, ◌<◌, ◌⊎◌, inl, inr, Bool, true, false, cond, not, List, [], ◌∷◌, ◌++◌, Option, Some, None, refl, ap, sym, ◌∙◌, arith}
 use Rattle.std.specs.Prelude.{◌&&◌, ◌||◌, ◌==◌, ◌≢◌, map, nat_lt}
@@ -51,16 +52,19 @@ by_exception pair overlaps = elim (cases_Bool pair.is_excepted) [
   | inr plain ↦ inl (S2, ap (λ b. rule_if b S2) (and_from pair.overlaps (not pair.is_excepted) overlaps (ap not plain)))
 ]
 
-either : (pair : Pair) (a b : Role) → rule_for pair a b ≡ rule_if (pair.overlaps && not pair.is_excepted) S2 → pair.overlaps ≡ true → HasRule pair a b
+either : (pair : Pair) (a b : Role) → rule_for pair a b ≡ rule_if (pair.overlaps && not pair.is_excepted) S2 →
+    pair.overlaps ≡ true → HasRule pair a b
 either pair a b is overlaps = elim (by_exception pair overlaps) [
   | inl rule ↦ inl (rule.0, is ∙ rule.1)
   | inr excepted ↦ inr (inl excepted)
 ]
 
-has_rule : (pair : Pair) (a b : Role) → pair.overlaps ≡ true → (is_update a ≡ true) ⊎ (is_update b ≡ true) → HasRule pair a b
+has_rule : (pair : Pair) (a b : Role) → pair.overlaps ≡ true → (is_update a ≡ true) ⊎ (is_update b ≡ true) →
+    HasRule pair a b
 has_rule pair RmaUpdate RmaUpdate overlaps one = either pair RmaUpdate RmaUpdate refl overlaps
 has_rule pair RmaUpdate RmaRead overlaps one = either pair RmaUpdate RmaRead refl overlaps
-has_rule pair RmaUpdate Store overlaps one = inl (S1, ap (λ b. cond b (Some S1) (rule_if (pair.on_one_window && is_separate pair.model) S3)) overlaps)
+has_rule pair RmaUpdate Store overlaps one =
+    inl (S1, ap (λ b. cond b (Some S1) (rule_if (pair.on_one_window && is_separate pair.model) S3)) overlaps)
 has_rule pair RmaUpdate Load overlaps one = inl (S1, ap (λ b. rule_if b S1) overlaps)
 has_rule pair RmaRead RmaUpdate overlaps one = either pair RmaRead RmaUpdate refl overlaps
 has_rule pair RmaRead RmaRead overlaps (inl one) = absurd (cc one)
@@ -68,7 +72,8 @@ has_rule pair RmaRead RmaRead overlaps (inr one) = absurd (cc one)
 has_rule pair RmaRead Store overlaps one = inl (S2, ap (λ b. rule_if b S2) overlaps)
 has_rule pair RmaRead Load overlaps (inl one) = absurd (cc one)
 has_rule pair RmaRead Load overlaps (inr one) = absurd (cc one)
-has_rule pair Store RmaUpdate overlaps one = inl (S1, ap (λ b. cond b (Some S1) (rule_if (pair.on_one_window && is_separate pair.model) S3)) overlaps)
+has_rule pair Store RmaUpdate overlaps one =
+    inl (S1, ap (λ b. cond b (Some S1) (rule_if (pair.on_one_window && is_separate pair.model) S3)) overlaps)
 has_rule pair Store RmaRead overlaps one = inl (S2, ap (λ b. rule_if b S2) overlaps)
 has_rule pair Store Store overlaps one = inr (inr (refl, refl))
 has_rule pair Store Load overlaps one = inr (inr (refl, refl))
@@ -121,8 +126,10 @@ pub record AreOfOneDtype (a b : Kind) : Type 0 where
 excepted_alike : (a b : Access) (one_origin : Bool) → are_excepted a b one_origin ≡ true → AreOfOneDtype a.kind b.kind
 excepted_alike a b one_origin h =
     let parts = and_parts (a.window == b.window)
-    (option_map_or (λ x. option_map_or (are_alike one_origin x) (accumulation_of b.kind) false) (accumulation_of a.kind) false) h in
-    let x = some_of (λ x. option_map_or (are_alike one_origin x) (accumulation_of b.kind) false) (accumulation_of a.kind) parts.1 in
+    (option_map_or (λ x. option_map_or (are_alike one_origin x) (accumulation_of b.kind) false)
+    (accumulation_of a.kind) false) h in
+    let x = some_of (λ x. option_map_or (are_alike one_origin x) (accumulation_of b.kind) false)
+    (accumulation_of a.kind) parts.1 in
     let y = some_of (are_alike one_origin x.0) (accumulation_of b.kind) x.2 in
     let alike = and_parts (is_same_dtype x.0.0 y.0.0) (may_combine x.0.1 y.0.1 one_origin) y.2 in
     record {
@@ -145,7 +152,8 @@ split_at (there {y} m) = let rest = split_at m in (y ∷ rest.0, rest.1, ap (λ 
 two_in : {X : Type 0} {x y : X} {xs : List X} → In x xs → In y xs → (x ≡ y) ⊎ (StandsIn x y xs ⊎ StandsIn y x xs)
 two_in here here = inl refl
 two_in {X} {x} here (there m) = let rest = split_at m in inr (inl (x ∷ rest.0, rest.1, ap (λ l. x ∷ l) rest.2, here))
-two_in {X} {x} {y} (there m) here = let rest = split_at m in inr (inr (y ∷ rest.0, rest.1, ap (λ l. y ∷ l) rest.2, here))
+two_in {X} {x} {y} (there m) here = let rest = split_at m in
+    inr (inr (y ∷ rest.0, rest.1, ap (λ l. y ∷ l) rest.2, here))
 two_in (there {y = z} m) (there n) = elim (two_in m n) [
   | inl same ↦ inl same
   | inr (inl first) ↦ inr (inl (z ∷ first.0, first.1, ap (λ l. z ∷ l) first.2, there first.3))
@@ -180,7 +188,8 @@ module _ (script : Script) (run : Run) (before : Id → Id → Bool) (order : Is
     | inr not_first ↦ elim (decided (is_ordered before (judge b) (judge a))) [
       | inl second ↦ inl (inr second)
       | inr not_second ↦ inr (ap (λ o. option_map_or (unless_ordered before (judge a) (judge b)) o None) is
-          ∙ unordered (is_ordered before (judge a) (judge b)) (is_ordered before (judge b) (judge a)) rule not_first not_second)
+          ∙ unordered (is_ordered before (judge a) (judge b))
+          (is_ordered before (judge b) (judge a)) rule not_first not_second)
     ]
   ]
 
@@ -189,7 +198,8 @@ module _ (script : Script) (run : Run) (before : Id → Id → Bool) (order : Is
   no_finding a b rule stands forbids =
       let split : judged_accesses script run Separate before ≡ map judge stands.0 ++ judge b ∷ map judge stands.1 =
       ap (map judge) stands.2 ∙ map-append judge stands.0 (b ∷ stands.1) in
-      let found = complete script run Separate before (map judge stands.0) (judge b) (map judge stands.1) split (judge a)
+      let found = complete script run Separate before (map judge stands.0) (judge b) (map judge stands.1) split
+      (judge a)
       (in_contains (in_map judge stands.3)) rule forbids in
       empty (contains_in (findings script run Separate before) found.0 found.1) none
     where
@@ -206,7 +216,8 @@ module _ (script : Script) (run : Run) (before : Id → Id → Bool) (order : Is
   ]
 
   -- two local accesses of one rank are ordered as their Issues are
-  local_points : (A : JudgedAccess) (a b : Role) → is_local_role a ≡ true → is_local_role b ≡ true → points_for A a b ≡ A.id ∷ []
+  local_points : (A : JudgedAccess) (a b : Role) → is_local_role a ≡ true → is_local_role b ≡ true →
+      points_for A a b ≡ A.id ∷ []
   local_points A RmaUpdate b h k = absurd (cc h)
   local_points A RmaRead b h k = absurd (cc h)
   local_points A Store RmaUpdate h k = absurd (cc k)
@@ -215,14 +226,17 @@ module _ (script : Script) (run : Run) (before : Id → Id → Bool) (order : Is
   local_points A Store Load h k = refl
   local_points A Load b h k = refl
 
-  local_first : (a b : IssuedAccess) → is_local_role (role_of a.issued.access.kind) ≡ true → is_local_role (role_of b.issued.access.kind) ≡ true →
+  local_first : (a b : IssuedAccess) → is_local_role (role_of a.issued.access.kind) ≡ true →
+      is_local_role (role_of b.issued.access.kind) ≡ true →
       a.id.rank ≡ b.id.rank → a.id.index < b.id.index → is_ordered before (judge a) (judge b) ≡ true
   local_first a b local_a local_b rank earlier =
-      let points = local_points (judge a) (role_of a.issued.access.kind) (role_of b.issued.access.kind) local_a local_b in
+      let points = local_points (judge a) (role_of a.issued.access.kind)
+      (role_of b.issued.access.kind) local_a local_b in
       let is : before a.id b.id ≡ true = (order a.id b.id).1 (InLog Same (rank, earlier)) in
       ap (list_any (λ point. before point b.id)) points ∙ or_left (before a.id b.id) false is
 
-  local_ordered : (a b : IssuedAccess) → is_local_role (role_of a.issued.access.kind) ≡ true → is_local_role (role_of b.issued.access.kind) ≡ true →
+  local_ordered : (a b : IssuedAccess) → is_local_role (role_of a.issued.access.kind) ≡ true →
+      is_local_role (role_of b.issued.access.kind) ≡ true →
       a.id.rank ≡ b.id.rank → a.id ≢ b.id → AreOrdered a b
   local_ordered a b local_a local_b rank apart = elim (cases_lt a.id.index b.id.index) [
     | inl first ↦ inl (local_first a b local_a local_b rank first)
@@ -252,8 +266,15 @@ module _ (script : Script) (run : Run) (before : Id → Id → Bool) (order : Is
       swapped : AreOrdered b a → AreOrdered a b
       swapped h = turned h
 
-      other_way : AreOfOneDtype b.issued.access.kind a.issued.access.kind → AreOfOneDtype a.issued.access.kind b.issued.access.kind
-      other_way alike = record { dtype = alike.dtype; first = alike.second; second = alike.first; of_a = alike.of_b; of_b = alike.of_a }
+      other_way : AreOfOneDtype b.issued.access.kind a.issued.access.kind →
+          AreOfOneDtype a.issued.access.kind b.issued.access.kind
+      other_way alike = record {
+        dtype = alike.dtype;
+        first = alike.second;
+        second = alike.first;
+        of_a = alike.of_b;
+        of_b = alike.of_a;
+      }
 
       by_rule : (x y : IssuedAccess) → StandsIn x y (accesses_in script run) →
           (is_update (role_of x.issued.access.kind) ≡ true) ⊎ (is_update (role_of y.issued.access.kind) ≡ true) →
@@ -261,13 +282,17 @@ module _ (script : Script) (run : Run) (before : Id → Id → Bool) (order : Is
           (is_local_role (role_of x.issued.access.kind) ≡ true → x.issued.access.target ≡ x.id.rank) →
           (is_local_role (role_of y.issued.access.kind) ≡ true → y.issued.access.target ≡ y.id.rank) →
           (AreOrdered x y → AreOrdered a b) →
-          (AreOfOneDtype x.issued.access.kind y.issued.access.kind → AreOfOneDtype a.issued.access.kind b.issued.access.kind) → x.id ≢ y.id →
+          (AreOfOneDtype x.issued.access.kind y.issued.access.kind →
+          AreOfOneDtype a.issued.access.kind b.issued.access.kind) → x.id ≢ y.id →
           AreOrdered a b ⊎ AreOfOneDtype a.issued.access.kind b.issued.access.kind
       by_rule x y stands update meets own_x own_y ordered alike differ =
           elim (has_rule (pair_of Separate x.issued.access y.issued.access (x.id.rank == y.id.rank))
           (role_of x.issued.access.kind) (role_of y.issued.access.kind) meets.overlap update) [
-            | inl rule ↦ inl (ordered (ruled x y rule.0 stands (rule_meets x.issued.access y.issued.access x.id.rank y.id.rank meets ∙ rule.1)))
-            | inr (inl excepted) ↦ inr (alike (excepted_alike x.issued.access y.issued.access (x.id.rank == y.id.rank) excepted))
+            | inl rule ↦ inl (ordered
+                (ruled x y rule.0 stands (rule_meets x.issued.access y.issued.access x.id.rank y.id.rank meets
+                ∙ rule.1)))
+            | inr (inl excepted) ↦ inr
+                (alike (excepted_alike x.issued.access y.issued.access (x.id.rank == y.id.rank) excepted))
             | inr (inr local) ↦
                 let rank : x.id.rank ≡ y.id.rank = sym (own_x local.0) ∙ meets.target ∙ own_y local.1 in
                 inl (ordered (local_ordered x y local.0 local.1 rank differ))

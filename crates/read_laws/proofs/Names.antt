@@ -26,11 +26,13 @@ AreNamed known = AllByRecursion IsNamed known.windows
 made_named : (round win : ℕ) → win < 32 → window_number round win % 32 ≡ win
 made_named round win small = omega (arith, small)
 
-action_named : (shapes : ℕ → List Part) (known : RankWindows) (action : Action) → IsWrittenAction action → AreNamed known →
+action_named : (shapes : ℕ → List Part) (known : RankWindows) (action : Action) → IsWrittenAction action →
+    AreNamed known →
     AreNamed (windows_after shapes known action)
 action_named shapes known (Creates creation) written named =
     each_append IsNamed known.windows _ named (made_named _ creation.win written.name, tt)
-action_named shapes known (Frees win) written named = each_kept IsNamed (λ (window : Window). not (window.win == win)) known.windows named
+action_named shapes known (Frees win) written named =
+    each_kept IsNamed (λ (window : Window). not (window.win == win)) known.windows named
 action_named shapes known (Attaches win base bytes) written named = named
 action_named shapes known (Detaches win base) written named = named
 action_named shapes known (Synchronises win s) written named = named
@@ -38,7 +40,8 @@ action_named shapes known Meets written named = named
 action_named shapes known (Moves t) written named = named
 action_named shapes known (EndsRequest req) written named = named
 
-number_named : (shapes : ℕ → List Part) (calls : List Call) (known : Knowledge) (number : ℕ) → AllByRecursion IsWrittenCall calls →
+number_named : (shapes : ℕ → List Part) (calls : List Call) (known : Knowledge) (number : ℕ) →
+    AllByRecursion IsWrittenCall calls →
     AreNamed known.windows → AreNamed (known_after_number shapes calls known number).windows
 number_named shapes calls known number written named = by_call (slice_get calls number) refl
   where
@@ -48,7 +51,8 @@ number_named shapes calls known number written named = by_call (slice_get calls 
     by_call (Some call) e =
         action_named shapes known.windows (action_of call) (each_get IsWrittenCall calls number call written e) named
 
-item_named : (shapes : ℕ → List Part) (calls : List Call) (known : Knowledge) (item : Item) → AllByRecursion IsWrittenCall calls →
+item_named : (shapes : ℕ → List Part) (calls : List Call) (known : Knowledge) (item : Item) →
+    AllByRecursion IsWrittenCall calls →
     AreNamed known.windows → AreNamed (learn shapes calls known item).windows
 item_named shapes calls known item written named = by_number (accepted_by calls item)
   where
@@ -56,20 +60,25 @@ item_named shapes calls known item written named = by_number (accepted_by calls 
     by_number None = named
     by_number (Some number) = number_named shapes calls known number written named
 
-items_named : (shapes : ℕ → List Part) (calls : List Call) (known : Knowledge) (items : List Item) → AllByRecursion IsWrittenCall calls →
+items_named : (shapes : ℕ → List Part) (calls : List Call) (known : Knowledge) (items : List Item) →
+    AllByRecursion IsWrittenCall calls →
     AreNamed known.windows → AreNamed (known_after shapes calls known items).windows
 items_named shapes calls known [] written named = named
 items_named shapes calls known (item ∷ items) written named =
-    items_named shapes calls (learn shapes calls known item) items written (item_named shapes calls known item written named)
+    items_named shapes calls (learn shapes calls known item) items written
+    (item_named shapes calls known item written named)
 
-pub calls_written : (script : Script) (rank : ℕ) → IsWellFormed script → AllByRecursion IsWrittenCall (calls_of script rank)
+pub calls_written : (script : Script) (rank : ℕ) → IsWellFormed script →
+    AllByRecursion IsWrittenCall (calls_of script rank)
 calls_written script rank formed = each_get_or (AllByRecursion IsWrittenCall) script.calls rank [] tt formed.calls
 
 -- the number of the window of this name
-pub name_of_window : (here : RankOfRun) (items : List Item) (win : ℕ) (window : Window) → IsWellFormed here.stage.script →
+pub name_of_window : (here : RankOfRun) (items : List Item) (win : ℕ) (window : Window) →
+    IsWellFormed here.stage.script →
     window_of_name (known_at here items).windows win ≡ Some window → window.number % 32 ≡ win
 name_of_window here items win window formed e =
-    let named = items_named (shapes_in here.stage here.rows) (calls_here here) (first_knowledge here.stage here.rank) items
+    let named = items_named (shapes_in here.stage here.rows) (calls_here here)
+    (first_knowledge here.stage here.rank) items
     (calls_written here.stage.script here.rank formed) tt in
     let one = found_is IsNamed (λ (w : Window). w.win == win) (known_at here items).windows.windows window named e in
     one.0 ∙ eqb-true window.win win one.1

@@ -67,24 +67,33 @@ local_role (CasKind dtype) role e (inr load) = absurd (cc (e, load))
 local_role LoadKind role e which = refl
 local_role StoreKind role e which = refl
 
-module _ (script : Script) (delay : Delay) (run : Run) (formed : IsWellFormed script) (lawful : IsLawful script delay run) where
+module _ (script : Script) (delay : Delay) (run : Run) (formed : IsWellFormed script)
+    (lawful : IsLawful script delay run) where
   -- ---- loads and stores
 
   -- each touch of a load or a store stands before any later item that is no touch
   directly : (a : IssuedAccess) (u : Touching) (k : ℕ) (x : Item) → IsAccess script run a → IsTouchBy script run a u →
-      is_local a.issued.access.kind ≡ true → slice_get (log_of run a.id.rank) k ≡ Some x → is_touch x ≡ false → a.id.index < k → u.id.index < k
+      is_local a.issued.access.kind ≡ true → slice_get (log_of run a.id.rank) k ≡ Some x → is_touch x ≡ false →
+      a.id.index < k → u.id.index < k
   directly a u k x access by local at plain later =
       let here = rank_in script delay run a.id.rank in
       let log = log_of run a.id.rank in
-      let is : IsIssuedAt here log a.issued = record { item = access.item; logged = access.logged; issued = access.issued } in
-      let follows = each_in (IsLocalDirect here log) (issued_in here log) (lawful.logs a.id.rank access.within).local_direct
+      let is : IsIssuedAt here log a.issued = record {
+        item = access.item;
+        logged = access.logged;
+        issued = access.issued;
+      } in
+      let follows = each_in (IsLocalDirect here log) (issued_in here log)
+      (lawful.logs a.id.rank access.within).local_direct
       (issued_among here log a.issued is) local in
-      directly_before here log a.issued k x (lawful.logs a.id.rank access.within) is follows (omega (arith, later, access.index)) at
+      directly_before here log a.issued k x (lawful.logs a.id.rank access.within) is follows
+      (omega (arith, later, access.index)) at
       (no_touch a.issued.index x plain) u.id.index u.element u.cell u.place u.bits (touch_logged script run a u by)
 
   -- what the Issue of a load or a store is before: an item of its log from there on, or what its touches are before
   local_before : (a : IssuedAccess) (u : Touching) (c : Id) → IsAccess script run a → IsTouchBy script run a u →
-      is_local a.issued.access.kind ≡ true → Before script run a.id c → ((a.id.rank ≡ c.rank) × (a.id.index ≤ c.index)) ⊎ Before script run u.id c
+      is_local a.issued.access.kind ≡ true → Before script run a.id c →
+      ((a.id.rank ≡ c.rank) × (a.id.index ≤ c.index)) ⊎ Before script run u.id c
   local_before a u c access by local Same = inl (refl, omega arith)
   local_before a u c access by local (InLog {b} rest stands) = elim (local_before a u b access by local rest) [
     | inl near ↦ inl (near.0 ∙ stands.0, omega (arith, near.1, stands.1))
@@ -95,7 +104,8 @@ module _ (script : Script) (delay : Delay) (run : Run) (formed : IsWellFormed sc
     | inl near ↦
         let ends = edge_between (events_in script run) b c edge in
         let event = event_at script delay run lawful ends.0 ends.2 in
-        let logged : slice_get (log_of run a.id.rank) b.index ≡ Some (Entry event.number ends.0.event.place ends.0.event.step) =
+        let logged : slice_get (log_of run a.id.rank) b.index ≡ Some
+        (Entry event.number ends.0.event.place ends.0.event.step) =
         ap (λ r. slice_get (log_of run r) b.index) near.0
         ∙ ap (λ (i : Id). slice_get (log_of run i.rank) i.index) (sym ends.4) ∙ event.logged in
         inr (Across (InLog Same (
@@ -122,23 +132,28 @@ module _ (script : Script) (delay : Delay) (run : Run) (formed : IsWellFormed sc
   module _ (before : Id → Id → Bool) (order : IsOrder script run before) where
     -- each touch of the access is before the points
     abbrev AreAfter : IssuedAccess → List Id → Type 0
-    AreAfter a points = (point : Id) → In point points → (u : Touching) → IsTouchBy script run a u → Before script run u.id point
+    AreAfter a points = (point : Id) → In point points → (u : Touching) → IsTouchBy script run a u →
+        Before script run u.id point
 
-    after_done : (a : IssuedAccess) → IsAccess script run a → (is_rma_read (role_of a.issued.access.kind) ≡ true → a.issued.fetches ≡ true) →
+    after_done : (a : IssuedAccess) → IsAccess script run a →
+        (is_rma_read (role_of a.issued.access.kind) ≡ true → a.issued.fetches ≡ true) →
         AreAfter a (done_points (timeline_of script run) a)
     after_done a access fetches point m u by =
-        let x = map_in (λ (x : CallStep). x.id) (filter (is_done_at (timeline_of script run) a) (steps_in script run)) m in
+        let x = map_in (λ (x : CallStep). x.id) (filter (is_done_at (timeline_of script run) a) (steps_in script run))
+        m in
         let is = filter_in (is_done_at (timeline_of script run) a) (steps_in script run) x.1 in
         subst (Before script run u.id) x.2
         (before_done script delay run formed lawful a u x.0 access by (step_is script run is.0) fetches is.1)
 
-    after_taken : (a : IssuedAccess) → IsAccess script run a → (is_rma_read (role_of a.issued.access.kind) ≡ true → a.issued.fetches ≡ true) →
+    after_taken : (a : IssuedAccess) → IsAccess script run a →
+        (is_rma_read (role_of a.issued.access.kind) ≡ true → a.issued.fetches ≡ true) →
         AreAfter a (separate_points before (timeline_of script run) a RmaUpdate)
     after_taken a access fetches point m u by =
         let done = done_points (timeline_of script run) a in
         let x = map_in (λ (x : CallStep). x.id) (filter (is_taken_in_at before a done) (steps_in script run)) m in
         let is = filter_in (is_taken_in_at before a done) (steps_in script run) x.1 in
-        let parts = and_parts (x.0.id.rank == a.issued.access.target && is_step_on a.issued.access.window x.0 && takes_in x.0.step (action_of x.0.call))
+        let parts = and_parts (x.0.id.rank == a.issued.access.target && is_step_on a.issued.access.window x.0 &&
+        takes_in x.0.step (action_of x.0.call))
         (list_any (λ q. before q x.0.id) done) is.1 in
         let q = any_in (λ q. before q x.0.id) done parts.1 in
         subst (Before script run u.id) x.2
@@ -164,36 +179,47 @@ module _ (script : Script) (delay : Delay) (run : Run) (formed : IsWellFormed sc
     IsPoint a point = ((a.id ≡ point) × (is_local a.issued.access.kind ≡ true))
         ⊎ ((u : Touching) → IsTouchBy script run a u → Before script run u.id point)
 
-    own_point : (a : IssuedAccess) {point : Id} → is_local a.issued.access.kind ≡ true → In point (a.id ∷ []) → IsPoint a point
+    own_point : (a : IssuedAccess) {point : Id} → is_local a.issued.access.kind ≡ true → In point (a.id ∷ []) →
+        IsPoint a point
     own_point a local here = inl (refl, local)
     own_point a local (there m) = elim m [ ]
 
     visible_by : (a : IssuedAccess) (role : Role) → role_of a.issued.access.kind ≡ role →
-        visible_points Separate before (timeline_of script run) a ≡ separate_points before (timeline_of script run) a role
+        visible_points Separate before (timeline_of script run) a ≡ separate_points before
+        (timeline_of script run) a role
     visible_by a role is = ap (separate_points before (timeline_of script run) a) is
 
     point_is : (a : IssuedAccess) (role other : Role) (point : Id) → IsAccess script run a →
-        (is_rma_read (role_of a.issued.access.kind) ≡ true → a.issued.fetches ≡ true) → role_of a.issued.access.kind ≡ role →
+        (is_rma_read (role_of a.issued.access.kind) ≡ true → a.issued.fetches ≡ true) →
+        role_of a.issued.access.kind ≡ role →
         In point (points_for (judged Separate before (timeline_of script run) a) role other) → IsPoint a point
     point_is a RmaUpdate RmaUpdate point access fetches is m = inr (after_done a access fetches point m)
     point_is a RmaUpdate RmaRead point access fetches is m = inr (after_done a access fetches point m)
-    point_is a RmaUpdate Store point access fetches is m = inr (after_taken a access fetches point (subst (In point) (visible_by a RmaUpdate is) m))
-    point_is a RmaUpdate Load point access fetches is m = inr (after_taken a access fetches point (subst (In point) (visible_by a RmaUpdate is) m))
+    point_is a RmaUpdate Store point access fetches is m =
+        inr (after_taken a access fetches point (subst (In point) (visible_by a RmaUpdate is) m))
+    point_is a RmaUpdate Load point access fetches is m =
+        inr (after_taken a access fetches point (subst (In point) (visible_by a RmaUpdate is) m))
     point_is a RmaRead other point access fetches is m = inr (after_done a access fetches point m)
     point_is a Store RmaUpdate point access fetches is m =
-        inr (after_given a access (local_role a.issued.access.kind Store is (inl refl)) point (subst (In point) (visible_by a Store is) m))
+        inr (after_given a access (local_role a.issued.access.kind Store is (inl refl)) point
+        (subst (In point) (visible_by a Store is) m))
     point_is a Store RmaRead point access fetches is m =
-        inr (after_given a access (local_role a.issued.access.kind Store is (inl refl)) point (subst (In point) (visible_by a Store is) m))
-    point_is a Store Store point access fetches is m = own_point a (local_role a.issued.access.kind Store is (inl refl)) m
-    point_is a Store Load point access fetches is m = own_point a (local_role a.issued.access.kind Store is (inl refl)) m
+        inr (after_given a access (local_role a.issued.access.kind Store is (inl refl)) point
+        (subst (In point) (visible_by a Store is) m))
+    point_is a Store Store point access fetches is m =
+        own_point a (local_role a.issued.access.kind Store is (inl refl)) m
+    point_is a Store Load point access fetches is m =
+        own_point a (local_role a.issued.access.kind Store is (inl refl)) m
     point_is a Load other point access fetches is m = own_point a (local_role a.issued.access.kind Load is (inr refl)) m
 
     -- ---- ordered accesses
 
     -- each touch of the first is before the Issue of the second
-    pub before_issue : (a b : IssuedAccess) (u : Touching) → IsAccess script run a → IsAccess script run b → a.id ≢ b.id →
+    pub before_issue : (a b : IssuedAccess) (u : Touching) → IsAccess script run a → IsAccess script run b →
+        a.id ≢ b.id →
         (is_rma_read (role_of a.issued.access.kind) ≡ true → a.issued.fetches ≡ true) →
-        is_ordered before (judged Separate before (timeline_of script run) a) (judged Separate before (timeline_of script run) b) ≡ true →
+        is_ordered before (judged Separate before (timeline_of script run) a)
+        (judged Separate before (timeline_of script run) b) ≡ true →
         IsTouchBy script run a u → Before script run u.id b.id
     before_issue a b u access other apart fetches ordered by =
         let role = role_of a.issued.access.kind in
@@ -202,16 +228,19 @@ module _ (script : Script) (delay : Delay) (run : Run) (formed : IsWellFormed sc
         let reaches = (order q.0 b.id).0 q.2 in
         elim (point_is a role (role_of b.issued.access.kind) q.0 access fetches refl q.1) [
           | inr after ↦ transitive script run u.id q.0 b.id (after u by) reaches
-          | inl own ↦ elim (local_before a u b.id access by own.1 (subst (λ i. Before script run i b.id) (sym own.0) reaches)) [
-            | inr far ↦ far
-            | inl near ↦ InLog Same (
-              by.rank ∙ near.0,
-              directly a u b.id.index other.item access by own.1
-                  (ap (λ r. slice_get (log_of run r) b.id.index) near.0 ∙ ap (slice_get (log_of run b.id.rank)) (sym other.index) ∙ other.logged)
-                  (ap is_touch (issued_is (calls_of script b.id.rank) b.issued.index other.item b.issued other.issued).is)
-                  (later near.0 near.1),
-            )
-          ]
+          | inl own ↦ elim (local_before a u b.id access by own.1
+              (subst (λ i. Before script run i b.id) (sym own.0) reaches)) [
+                | inr far ↦ far
+                | inl near ↦ InLog Same (
+                  by.rank ∙ near.0,
+                  directly a u b.id.index other.item access by own.1
+                      (ap (λ r. slice_get (log_of run r) b.id.index) near.0
+                      ∙ ap (slice_get (log_of run b.id.rank)) (sym other.index) ∙ other.logged)
+                      (ap is_touch (issued_is (calls_of script b.id.rank) b.issued.index other.item b.issued
+                      other.issued).is)
+                      (later near.0 near.1),
+                )
+              ]
         ]
       where
         later : a.id.rank ≡ b.id.rank → a.id.index ≤ b.id.index → a.id.index < b.id.index
@@ -221,12 +250,14 @@ module _ (script : Script) (delay : Delay) (run : Run) (formed : IsWellFormed sc
         ]
 
   -- a touch stands after the Issue of its access
-  pub after_issue : (b : IssuedAccess) (v : Touching) → IsAccess script run b → IsTouchBy script run b v → Before script run b.id v.id
+  pub after_issue : (b : IssuedAccess) (v : Touching) → IsAccess script run b → IsTouchBy script run b v →
+      Before script run b.id v.id
   after_issue b v access by =
       let log = log_of run b.id.rank in
       let here = rank_in script delay run b.id.rank in
       let logged = touch_logged script run b v by in
-      let law = each_in (HasItsIssue here log) (numbers_from 0 (length log)) (lawful.logs b.id.rank access.within).issues
+      let law = each_in (HasItsIssue here log) (numbers_from 0 (length log))
+      (lawful.logs b.id.rank access.within).issues
       (in_numbers 0 (length log) v.id.index (omega arith) (omega (arith, slice_get_within log v.id.index _ logged))) in
       let is : HasIssueBefore here log v.id.index (Touch b.issued.index v.element v.cell v.place v.bits) =
       subst (λ o. IfSome o (HasIssueBefore here log v.id.index)) logged law in

@@ -33,20 +33,25 @@ all_members : {X : Type 0} (P : X → Type 0) (xs : List X) → ((x : X) → In 
 all_members P [] each = tt
 all_members P (x ∷ xs) each = (each x here, all_members P xs (λ y m. each y (there m)))
 
-module _ (script : Script) (delay : Delay) (run : Run) (formed : IsWellFormed script) (lawful : IsLawful script delay run)
+module _ (script : Script) (delay : Delay) (run : Run) (formed : IsWellFormed script)
+    (lawful : IsLawful script delay run)
     (agree : TouchesAgree script run) (before : Id → Id → Bool) (order : IsOrder script run before)
     (none : findings script run Separate before ≡ []) (each : AreOfTransfers script run) where
   -- a touch of a get or a load, and its piece
-  one_element : (f : IssuedAccess) → In f (accesses_in script run) → is_get_or_load f.issued.access.kind ≡ true → (t : Transfer) →
+  one_element : (f : IssuedAccess) → In f (accesses_in script run) → is_get_or_load f.issued.access.kind ≡ true →
+      (t : Transfer) →
       IsOfTransfer script f t → (k : ℕ) (piece : Piece) (touch : Touching) →
-      slice_get (pieces (layout script) f.issued.access t.dtype) k ≡ Some piece → In touch (touches_by script run f) → touch.element ≡ 0 + k →
-      touch.cell ≡ piece.cell → element_in touch.bits piece.first_byte t.dtype ≡ element_before script run before f.id t.dtype piece
+      slice_get (pieces (layout script) f.issued.access t.dtype) k ≡ Some piece → In touch (touches_by script run f) →
+      touch.element ≡ 0 + k →
+      touch.cell ≡ piece.cell →
+      element_in touch.bits piece.first_byte t.dtype ≡ element_before script run before f.id t.dtype piece
   one_element f of_run reads t is k piece touch at m element cell =
       let access = access_is script run of_run in
       let one = filter_in (λ (x : Touching). x.issue == f.id.index) (touches_of script run f.id.rank) m in
       let touched = touch_of_rank script run f.id.rank access.within one.0 in
       let issue : touch.issue ≡ f.issued.index = eqb-true touch.issue f.id.index one.1 ∙ sym access.index in
-      let part = part_of script delay run lawful f t touch access is.moves (record { touch = touched.1; rank = touched.0; issue = issue }) in
+      let part = part_of script delay run lawful f t touch access is.moves
+      (record { touch = touched.1; rank = touched.0; issue = issue }) in
       let same_index : touch.element ≡ k = omega (arith, element) in
       let both : Some part.piece ≡ Some piece =
       sym part.element ∙ ap (slice_get (pieces (layout script) f.issued.access t.dtype)) same_index ∙ at in
@@ -60,7 +65,8 @@ module _ (script : Script) (delay : Delay) (run : Run) (formed : IsWellFormed sc
         part = part;
       }) in
       ap (λ (p : Piece). element_in touch.bits p.first_byte t.dtype) (sym same) ∙ left
-      ∙ ap (λ (p : Piece). element_in (left_before before f.id (updates_of script run touch.cell)) p.first_byte t.dtype) same
+      ∙ ap (λ (p : Piece). element_in (left_before before f.id (updates_of script run touch.cell)) p.first_byte
+      t.dtype) same
       ∙ ap (λ c. element_in (left_before before f.id (updates_of script run c)) piece.first_byte t.dtype) cell
 
   in_order : (f : IssuedAccess) → In f (accesses_in script run) → is_get_or_load f.issued.access.kind ≡ true →
@@ -75,17 +81,21 @@ module _ (script : Script) (delay : Delay) (run : Run) (formed : IsWellFormed sc
       ap (λ i. map pair_of (filter (is_by i) (touches_of script run f.id.rank))) (sym access.index)
       ∙ pairs_are (layout script) calls log f.issued.index f.id.rank 0 log
       ∙ touched_whole script delay run lawful f t.0 access t.1.moves in
-      let middle = each_read t.0.dtype (element_before script run before f.id t.0.dtype) 0 places (touches_by script run f) pairs
+      let middle = each_read t.0.dtype (element_before script run before f.id t.0.dtype) 0 places
+      (touches_by script run f) pairs
       (one_element f of_run reads t.0 t.1) in
       read_by t.0 t.1.moves ∙ middle ∙ sym (left_by t.0 t.1.moves)
     where
       read_by : (t : Transfer) → transfer_at (calls_of script f.id.rank) f.issued.number ≡ Some t →
-          elements_read script run f ≡ map (element_touched t.dtype) (zip (pieces (layout script) f.issued.access t.dtype) (touches_by script run f))
+          elements_read script run f ≡ map (element_touched t.dtype)
+          (zip (pieces (layout script) f.issued.access t.dtype) (touches_by script run f))
       read_by t moves = ap (λ o. option_map_or (λ (t : Transfer). map (element_touched t.dtype)
-          (zip (option_map_or (λ (t : Transfer). pieces (layout script) f.issued.access t.dtype) o []) (touches_by script run f))) o []) moves
+          (zip (option_map_or (λ (t : Transfer). pieces (layout script) f.issued.access t.dtype) o [])
+          (touches_by script run f))) o []) moves
 
       left_by : (t : Transfer) → transfer_at (calls_of script f.id.rank) f.issued.number ≡ Some t →
-          ordered_read script run before f ≡ map (element_before script run before f.id t.dtype) (pieces (layout script) f.issued.access t.dtype)
+          ordered_read script run before f ≡ map (element_before script run before f.id t.dtype)
+          (pieces (layout script) f.issued.access t.dtype)
       left_by t moves = ap (λ o. option_map_or (λ (t : Transfer). map (element_before script run before f.id t.dtype)
           (option_map_or (λ (t : Transfer). pieces (layout script) f.issued.access t.dtype) o [])) o []) moves
 

@@ -40,7 +40,8 @@ pub record IsOfTransfer (script : Script) (a : IssuedAccess) (t : Transfer) : Ty
 
 -- each access of a run is of a transfer, and lies in memory
 abbrev pub AreOfTransfers : Script → Run → Type 0
-AreOfTransfers script run = (a : IssuedAccess) → In a (accesses_in script run) → (t : Transfer) × IsOfTransfer script a t
+AreOfTransfers script run = (a : IssuedAccess) → In a (accesses_in script run) →
+    (t : Transfer) × IsOfTransfer script a t
 
 -- ---- the access of a touch
 
@@ -48,7 +49,8 @@ is_some_and : {X : Type 0} (o : Option X) → IsSome o → (x : X) × (o ≡ Som
 is_some_and None h = absurd (cc h)
 is_some_and (Some x) h = (x, refl)
 
-item_of : (calls : List Call) (log : List Item) (index : ℕ) (one : PendingAccess) (o : Option Item) → slice_get log index ≡ o →
+item_of : (calls : List Call) (log : List Item) (index : ℕ) (one : PendingAccess) (o : Option Item) →
+    slice_get log index ≡ o →
     option_map_or (issued_by calls index) o None ≡ Some one →
     (item : Item) × (slice_get log index ≡ Some item) × (issued_by calls index item ≡ Some one)
 item_of calls log index one None e h = absurd (cc h)
@@ -60,7 +62,8 @@ pub record HasAccess (script : Script) (run : Run) (x : Touching) : Type 0 where
   pub listed : In access (accesses_in script run)
   pub by : IsTouchBy script run access x
 
-pub access_of_touch : (script : Script) (delay : Delay) (run : Run) → IsLawful script delay run → (x : Touching) → IsTouch script run x →
+pub access_of_touch : (script : Script) (delay : Delay) (run : Run) → IsLawful script delay run → (x : Touching) →
+    IsTouch script run x →
     HasAccess script run x
 access_of_touch script delay run lawful x touch =
     let rank = x.id.rank in
@@ -68,7 +71,8 @@ access_of_touch script delay run lawful x touch =
     let calls = calls_of script rank in
     let here = rank_in script delay run rank in
     let law = each_in (HasItsIssue here log) (numbers_from 0 (length log)) (lawful.logs rank touch.within).issues
-    (in_numbers 0 (length log) x.id.index (omega arith) (omega (arith, slice_get_within log x.id.index _ touch.item.logged))) in
+    (in_numbers 0 (length log) x.id.index (omega arith)
+    (omega (arith, slice_get_within log x.id.index _ touch.item.logged))) in
     let is : HasIssueBefore here log x.id.index (Touch x.issue x.element x.cell x.place x.bits) =
     subst (λ o. IfSome o (HasIssueBefore here log x.id.index)) touch.item.logged law in
     let one = is_some_and (issued_at calls log x.issue) is.1 in
@@ -77,7 +81,8 @@ access_of_touch script delay run lawful x touch =
     let zero_plus : x.issue ≡ 0 + x.issue = omega arith in
     record {
       access = issued_access script run rank one.0;
-      listed = in_flat_map (accesses_of script run) (in_numbers 0 script.ranks rank (omega arith) (omega (arith, touch.within)))
+      listed = in_flat_map (accesses_of script run)
+          (in_numbers 0 script.ranks rank (omega arith) (omega (arith, touch.within)))
           (in_map (issued_access script run rank) (in_issued calls 0 log x.issue item.0 one.0 item.1
           (subst (λ n. issued_by calls n item.0 ≡ Some one.0) zero_plus item.2)));
       by = record { touch = touch; rank = refl; issue = sym issued.at };
@@ -92,24 +97,31 @@ pub record IsPart (script : Script) (run : Run) (a : IssuedAccess) (t : Transfer
   pub cell : piece.cell ≡ x.cell
   pub change : x.change ≡ change_of t x.element piece.first_byte
 
-pieces_are : (script : Script) (a : IssuedAccess) (t : Transfer) → transfer_at (calls_of script a.id.rank) a.issued.number ≡ Some t →
-    option_map_or (λ (t : Transfer). pieces (layout script) a.issued.access t.dtype) (transfer_at (calls_of script a.id.rank) a.issued.number) []
+pieces_are : (script : Script) (a : IssuedAccess) (t : Transfer) →
+    transfer_at (calls_of script a.id.rank) a.issued.number ≡ Some t →
+    option_map_or (λ (t : Transfer). pieces (layout script) a.issued.access t.dtype)
+    (transfer_at (calls_of script a.id.rank) a.issued.number) []
     ≡ pieces (layout script) a.issued.access t.dtype
-pieces_are script a t moves = ap (λ o. option_map_or (λ (t : Transfer). pieces (layout script) a.issued.access t.dtype) o []) moves
+pieces_are script a t moves =
+    ap (λ o. option_map_or (λ (t : Transfer). pieces (layout script) a.issued.access t.dtype) o []) moves
 
 -- the elements of an access are touched whole
-pub touched_whole : (script : Script) (delay : Delay) (run : Run) → IsLawful script delay run → (a : IssuedAccess) (t : Transfer) →
+pub touched_whole : (script : Script) (delay : Delay) (run : Run) → IsLawful script delay run →
+    (a : IssuedAccess) (t : Transfer) →
     IsAccess script run a → transfer_at (calls_of script a.id.rank) a.issued.number ≡ Some t →
     touched_by a.issued.index (log_of run a.id.rank) ≡ elements_from 0 (pieces (layout script) a.issued.access t.dtype)
 touched_whole script delay run lawful a t access moves =
     let here = rank_in script delay run a.id.rank in
     let log = log_of run a.id.rank in
-    let law : IsTouchedWhole here log a.issued = each_in (IsTouchedWhole here log) (issued_in here log) (lawful.logs a.id.rank access.within).touches
+    let law : IsTouchedWhole here log a.issued = each_in (IsTouchedWhole here log) (issued_in here log)
+    (lawful.logs a.id.rank access.within).touches
     (issued_among here log a.issued (record { item = access.item; logged = access.logged; issued = access.issued })) in
     law ∙ ap (elements_from 0) (pieces_are script a t moves)
 
-pub part_of : (script : Script) (delay : Delay) (run : Run) → IsLawful script delay run → (a : IssuedAccess) (t : Transfer) (x : Touching) →
-    IsAccess script run a → transfer_at (calls_of script a.id.rank) a.issued.number ≡ Some t → IsTouchBy script run a x → IsPart script run a t x
+pub part_of : (script : Script) (delay : Delay) (run : Run) → IsLawful script delay run →
+    (a : IssuedAccess) (t : Transfer) (x : Touching) →
+    IsAccess script run a → transfer_at (calls_of script a.id.rank) a.issued.number ≡ Some t →
+    IsTouchBy script run a x → IsPart script run a t x
 part_of script delay run lawful a t x access moves by =
     let log = log_of run a.id.rank in
     let calls = calls_of script a.id.rank in
@@ -129,9 +141,11 @@ part_of script delay run lawful a t x access moves by =
       element = element;
       cell = one.4;
       change = by.touch.item.change
-          ∙ ap (λ o. option_map_or (λ p. change_made (layout script) (calls_of script x.id.rank) p x.element) o None) issue
+          ∙ ap (λ o. option_map_or (λ p. change_made (layout script) (calls_of script x.id.rank) p x.element) o None)
+          issue
           ∙ ap (λ r. change_made (layout script) (calls_of script r) a.issued x.element) by.rank
-          ∙ ap (λ o. option_map_or (λ (t : Transfer). option_map_or (λ (piece : Piece). change_of t x.element piece.first_byte)
+          ∙ ap (λ o. option_map_or (λ (t : Transfer). option_map_or
+          (λ (piece : Piece). change_of t x.element piece.first_byte)
           (slice_get (pieces (layout script) a.issued.access t.dtype) x.element) None) o None) moves
           ∙ ap (λ o. option_map_or (λ (piece : Piece). change_of t x.element piece.first_byte) o None) element;
     }
@@ -159,9 +173,14 @@ change_by t element piece change false is e =
       operand = slice_index t.operands element;
       compare = t.compare;
     } ≡ change = cc e in
-    record { first = ap (λ (c : Change). c.first_byte) (sym same); dtype_is = ap (λ (c : Change). c.dtype) (sym same); updates = is }
+    record {
+      first = ap (λ (c : Change). c.first_byte) (sym same);
+      dtype_is = ap (λ (c : Change). c.dtype) (sym same);
+      updates = is;
+    }
 
-pub change_is : (t : Transfer) (element : ℕ) (piece : Piece) (change : Change) → change_of t element piece.first_byte ≡ Some change →
+pub change_is : (t : Transfer) (element : ℕ) (piece : Piece) (change : Change) →
+    change_of t element piece.first_byte ≡ Some change →
     IsUpdateOf t piece change
 change_is t element piece change e = change_by t element piece change (is_no_op t.op) refl e
 

@@ -40,7 +40,8 @@ own_is_cells Dynamic bytes = (0, refl)
 call_is_cells : (call : Call) → AreCells (call_bytes call)
 call_is_cells call = by_creation (creation_of call)
   where
-    by_creation : (o : Option Creation) → AreCells (option_map_or (λ (creation : Creation). own_bytes creation.flavor creation.bytes) o 0)
+    by_creation : (o : Option Creation) →
+        AreCells (option_map_or (λ (creation : Creation). own_bytes creation.flavor creation.bytes) o 0)
     by_creation None = (0, refl)
     by_creation (Some creation) = own_is_cells creation.flavor creation.bytes
 
@@ -54,7 +55,8 @@ calls_are_cells (call ∷ calls) =
     (more_cells (call_bytes call) (sum_by call_bytes calls) (call_is_cells call) (calls_are_cells calls))
 
 memory_is_cells : (space : ℕ) (calls : List Call) → AreCells (memory_bytes space calls)
-memory_is_cells space calls = more_cells (rounded space) (sum_by call_bytes calls) (rounded_is_cells space) (calls_are_cells calls)
+memory_is_cells space calls = more_cells (rounded space) (sum_by call_bytes calls) (rounded_is_cells space)
+    (calls_are_cells calls)
 
 -- the memory at a place among parts, and where it begins
 abbrev bytes_in : List MemoryPart → ℕ → ℕ
@@ -71,7 +73,8 @@ not_before : (ranks : List (ℕ × List Call)) (cell rank address : ℕ) → add
 not_before [] cell rank address h = absurd (omega arith)
 not_before (one ∷ ranks) cell zero address h = omega arith
 not_before (one ∷ ranks) cell (suc rank) address h =
-    let rest = not_before ranks (cell + memory_bytes one.0 one.1 / 4) rank address h in low cell (memory_bytes one.0 one.1 / 4) _ rest
+    let rest = not_before ranks (cell + memory_bytes one.0 one.1 / 4) rank address h in
+    low cell (memory_bytes one.0 one.1 / 4) _ rest
   where
     low : (a b c : ℕ) → a + b ≤ c → a ≤ c
     low a b c h = omega arith
@@ -79,7 +82,8 @@ not_before (one ∷ ranks) cell (suc rank) address h =
 apart : (a b c d e : ℕ) → a < b → c + b ≤ d → c + a ≡ d + e → ⊥
 apart a b c d e h k same = omega arith
 
-one_rank : (ranks : List (ℕ × List Call)) (cell r s a b : ℕ) → a < bytes_in (parts_from cell ranks) r → b < bytes_in (parts_from cell ranks) s →
+one_rank : (ranks : List (ℕ × List Call)) (cell r s a b : ℕ) → a < bytes_in (parts_from cell ranks) r →
+    b < bytes_in (parts_from cell ranks) s →
     first_in (parts_from cell ranks) r + a / 4 ≡ first_in (parts_from cell ranks) s + b / 4 → r ≡ s
 one_rank [] cell r s a b h k same = absurd (omega arith)
 one_rank (one ∷ ranks) cell zero zero a b h k same = refl
@@ -121,7 +125,8 @@ pub record IsAligned (first : ℕ) (dtype : Dtype) : Type 0 where
   pub multiple : first % size_of dtype ≡ 0
   pub inside : first + size_of dtype ≤ 4
 
-aligned_at : (dtype : Dtype) (lo element : ℕ) → lo % size_of dtype ≡ 0 → IsAligned ((lo + element * size_of dtype) % 4) dtype
+aligned_at : (dtype : Dtype) (lo element : ℕ) → lo % size_of dtype ≡ 0 →
+    IsAligned ((lo + element * size_of dtype) % 4) dtype
 aligned_at Int8 lo element h = record { multiple = omega arith; inside = omega arith }
 aligned_at Int16 lo element h = record { multiple = omega arith; inside = omega arith }
 aligned_at Int32 lo element h = record { multiple = omega arith; inside = omega arith }
@@ -130,7 +135,8 @@ aligned_at Uint16 lo element h = record { multiple = omega arith; inside = omega
 aligned_at Uint32 lo element h = record { multiple = omega arith; inside = omega arith }
 aligned_at Byte lo element h = record { multiple = omega arith; inside = omega arith }
 
-mapped_number : {X : Type 0} (f : ℕ → X) (first count k : ℕ) (x : X) → slice_get (map f (numbers_from first count)) k ≡ Some x →
+mapped_number : {X : Type 0} (f : ℕ → X) (first count k : ℕ) (x : X) →
+    slice_get (map f (numbers_from first count)) k ≡ Some x →
     (x ≡ f (first + k)) × (k < count)
 mapped_number f first zero k x e = absurd (cc e)
 mapped_number f first (suc count) zero x e =
@@ -149,7 +155,8 @@ pub record IsElement (memory : Layout) (access : Access) (dtype : Dtype) (elemen
 pub element_of : (memory : Layout) (access : Access) (dtype : Dtype) (element : ℕ) (piece : Piece) →
     slice_get (pieces memory access dtype) element ≡ Some piece → IsElement memory access dtype element piece
 element_of memory access dtype element piece e =
-    let one = mapped_number (λ k. piece_at memory access.target (element_address access dtype k)) 0 (access.len / size_of dtype) element piece e in
+    let one = mapped_number (λ k. piece_at memory access.target (element_address access dtype k)) 0
+    (access.len / size_of dtype) element piece e in
     let same : 0 + element ≡ element = omega arith in
     record { is = one.0 ∙ ap (λ k. piece_at memory access.target (element_address access dtype k)) same; below = one.1 }
 
@@ -195,7 +202,8 @@ nested_sizes a b m n ha hb ia ib l k (inr (inl two)) (inr (inr four)) = inl (ome
 pub nested : (d e : Dtype) (a b : ℕ) → IsAligned a d → IsAligned b e → a < b + size_of e → b < a + size_of d →
     AreNested a (size_of d) b (size_of e)
 nested d e a b first second low high =
-    nested_sizes a b (size_of d) (size_of e) first.multiple second.multiple first.inside second.inside low high (sizes d) (sizes e)
+    nested_sizes a b (size_of d) (size_of e) first.multiple second.multiple first.inside second.inside low high
+    (sizes d) (sizes e)
 
 -- of one datatype they are one
 pub one_element : (d : Dtype) (a b : ℕ) → IsAligned a d → IsAligned b d → a < b + size_of d → b < a + size_of d → a ≡ b
@@ -213,7 +221,8 @@ pub record DoMeet (a b : Access) : Type 0 where
   pub some_b : nat_lt 0 b.len ≡ true
   pub overlap : do_overlap (bytes_reached a) (bytes_reached b) ≡ true
 
-meet_numbers : (lo len at size lo' len' at' size' : ℕ) → lo ≤ at → at + size ≤ lo + len → lo' ≤ at' → at' + size' ≤ lo' + len' →
+meet_numbers : (lo len at size lo' len' at' size' : ℕ) → lo ≤ at → at + size ≤ lo + len → lo' ≤ at' →
+    at' + size' ≤ lo' + len' →
     at / 4 ≡ at' / 4 → at % 4 < at' % 4 + size' → at' % 4 < at % 4 + size → (lo < lo' + len') × (lo' < lo + len)
 meet_numbers lo len at size lo' len' at' size' a b c d e f g = (omega arith, omega arith)
 
@@ -233,11 +242,13 @@ share_byte script a b d e i j p q lies lies' is is' cell low high =
     let same : first_cell (layout script) a.target + at / 4 ≡ first_cell (layout script) b.target + at' / 4 =
     sym (ap (λ (x : Piece). x.cell) is.is) ∙ cell ∙ ap (λ (x : Piece). x.cell) is'.is in
     let target : a.target ≡ b.target = one_rank (ranks_of script) 0 a.target b.target at at' inside inside' same in
-    let first : first_cell (layout script) a.target ≡ first_cell (layout script) b.target = ap (first_cell (layout script)) target in
+    let first : first_cell (layout script) a.target ≡ first_cell (layout script) b.target =
+    ap (first_cell (layout script)) target in
     let rows : at / 4 ≡ at' / 4 = omega (arith, same, first) in
     let byte : p.first_byte ≡ at % 4 = ap (λ (x : Piece). x.first_byte) is.is in
     let byte' : q.first_byte ≡ at' % 4 = ap (λ (x : Piece). x.first_byte) is'.is in
-    let meet = meet_numbers a.lo a.len at (size_of d) b.lo b.len at' (size_of e) (omega arith) ends (omega arith) ends' rows
+    let meet = meet_numbers a.lo a.len at (size_of d) b.lo b.len at' (size_of e) (omega arith) ends
+    (omega arith) ends' rows
     (omega (arith, low, byte, byte')) (omega (arith, high, byte, byte')) in
     let some_a : nat_lt 0 a.len ≡ true = lt-ltb 0 a.len (omega (arith, ends, some)) in
     let some_b : nat_lt 0 b.len ≡ true = lt-ltb 0 b.len (omega (arith, ends', some')) in

@@ -51,7 +51,8 @@ pub record IsAccess (script : Script) (run : Run) (a : IssuedAccess) : Type 0 wh
   pub issued : issued_by (calls_of script a.id.rank) a.issued.index item ≡ Some a.issued
 
 one_access : (script : Script) (run : Run) (rank : ℕ) (one : PendingAccess) → rank < script.ranks →
-    In one (issued_from (calls_of script rank) 0 (log_of run rank)) → IsAccess script run (issued_access script run rank one)
+    In one (issued_from (calls_of script rank) 0 (log_of run rank)) →
+    IsAccess script run (issued_access script run rank one)
 one_access script run rank one within m =
     let at = issued_at_some (calls_of script rank) 0 (log_of run rank) one m in
     let is = issued_is (calls_of script rank) (0 + at.0) at.1 one at.3 in
@@ -68,7 +69,8 @@ pub access_is : (script : Script) (run : Run) {a : IssuedAccess} → In a (acces
 access_is script run m =
     let rank = flat_map_in (accesses_of script run) (numbers_from 0 script.ranks) m in
     let below = numbers_in 0 script.ranks rank.0 rank.1 in
-    let one = map_in (issued_access script run rank.0) (issued_from (calls_of script rank.0) 0 (log_of run rank.0)) rank.2 in
+    let one = map_in (issued_access script run rank.0) (issued_from (calls_of script rank.0) 0 (log_of run rank.0))
+    rank.2 in
     subst (IsAccess script run) one.2 (one_access script run rank.0 one.0 (omega (arith, below.1)) one.1)
 
 -- a touch of an access
@@ -81,7 +83,8 @@ pub record IsTouchBy (script : Script) (run : Run) (a : IssuedAccess) (u : Touch
 pub touch_logged : (script : Script) (run : Run) (a : IssuedAccess) (u : Touching) → IsTouchBy script run a u →
     slice_get (log_of run a.id.rank) u.id.index ≡ Some (Touch a.issued.index u.element u.cell u.place u.bits)
 touch_logged script run a u by =
-    subst (λ r. slice_get (log_of run r) u.id.index ≡ Some (Touch a.issued.index u.element u.cell u.place u.bits)) by.rank
+    subst (λ r. slice_get (log_of run r) u.id.index ≡ Some (Touch a.issued.index u.element u.cell u.place u.bits))
+    by.rank
     (by.touch.item.logged ∙ ap (λ i. Some (Touch i u.element u.cell u.place u.bits)) by.issue)
 
 -- a step of a run, with its item
@@ -99,7 +102,12 @@ listed_step script run one {x} m logged = by_step (step_by one.item) refl m
   where
     by_call : (number : ℕ) (step : Step) (o : Option Call) → step_by one.item ≡ Some (number, step) →
         slice_get (calls_of script one.id.rank) number ≡ o →
-        In x (option_map_or (λ call. record { id = one.id; call = call; step = step; known = known_before script run one.id } ∷ []) o []) →
+        In x (option_map_or (λ call. record {
+          id = one.id;
+          call = call;
+          step = step;
+          known = known_before script run one.id;
+        } ∷ []) o []) →
         IsStep script run x
     by_call number step None e of m = elim m [ ]
     by_call number step (Some call) e of m = subst (IsStep script run) (only m) (record {
@@ -115,7 +123,8 @@ listed_step script run one {x} m logged = by_step (step_by one.item) refl m
         only here = refl
         only (there k) = elim k [ ]
 
-    by_step : (o : Option (ℕ × Step)) → step_by one.item ≡ o → In x (option_map_or (call_step script run one.id) o []) → IsStep script run x
+    by_step : (o : Option (ℕ × Step)) → step_by one.item ≡ o →
+        In x (option_map_or (call_step script run one.id) o []) → IsStep script run x
     by_step None e m = elim m [ ]
     by_step (Some (number, step)) e m = by_call number step (slice_get (calls_of script one.id.rank) number) e refl m
 
@@ -179,13 +188,17 @@ apart_from_all call s e other known course =
 request_apart : (call : Call) (req : ℕ) → request_ended (action_of call) ≡ Some req →
     (known : RankWindows) → course_of known call ≡ ArriveAndLeave → ⊥
 request_apart call req e known course =
-    let is : OneRequest ≡ ArriveAndLeave = sym (ap (course_of_action known) (ends_request (action_of call) req e)) ∙ course in cc is
+    let is : OneRequest ≡ ArriveAndLeave = sym (ap (course_of_action known) (ends_request (action_of call) req e))
+    ∙ course in cc is
 
 -- ---- the touches of an access before a step
 
-module _ (script : Script) (delay : Delay) (run : Run) (formed : IsWellFormed script) (lawful : IsLawful script delay run) where
-  before_step : (a : IssuedAccess) (u : Touching) (y : CallStep) → IsAccess script run a → IsTouchBy script run a u → IsStep script run y →
-      is_later_at_origin a y ≡ true → begins_with_step y.step ≡ true → must_wait y.known.requests y.call a.issued ≡ true → Before script run u.id y.id
+module _ (script : Script) (delay : Delay) (run : Run) (formed : IsWellFormed script)
+    (lawful : IsLawful script delay run) where
+  before_step : (a : IssuedAccess) (u : Touching) (y : CallStep) → IsAccess script run a → IsTouchBy script run a u →
+      IsStep script run y →
+      is_later_at_origin a y ≡ true → begins_with_step y.step ≡ true →
+      must_wait y.known.requests y.call a.issued ≡ true → Before script run u.id y.id
   before_step a u y access by step later begins waits =
       let parts = and_parts (y.id.rank == a.id.rank) (nat_lt a.id.index y.id.index) later in
       let rank : y.id.rank ≡ a.id.rank = eqb-true y.id.rank a.id.rank parts.0 in
@@ -204,26 +217,33 @@ module _ (script : Script) (delay : Delay) (run : Run) (formed : IsWellFormed sc
         initial = first.0;
         of_call = first.1;
         call_is = subst (λ r. slice_get (calls_of script r) step.number ≡ Some y.call) rank step.call_is;
-        waits = subst (λ r. must_wait (known_at (rank_in script Seeded run r) (take y.id.index (log_of run r))).requests y.call a.issued ≡ true)
+        waits = subst (λ r. must_wait
+            (known_at (rank_in script Seeded run r) (take y.id.index (log_of run r))).requests y.call a.issued ≡ true)
             rank (sym known ∙ waits);
       })
       u.id.index u.element u.cell u.place u.bits (touch_logged script run a u by) in
       InLog Same (by.rank ∙ sym rank, below)
 
   -- the step is on the window of the access by its name
-  on_window : (a : IssuedAccess) (y : CallStep) (win : ℕ) → IsStep script run y → is_step_on a.issued.access.window y ≡ true →
+  on_window : (a : IssuedAccess) (y : CallStep) (win : ℕ) → IsStep script run y →
+      is_step_on a.issued.access.window y ≡ true →
       window_named y.call ≡ Some win → is_on win a.issued ≡ true
   on_window a y win step on named =
       let numbered : is_numbered y.known a.issued.access.window win ≡ true =
       sym (ap (λ o. option_map_or (is_numbered y.known a.issued.access.window) o false) named) ∙ on in
-      let window = some_of (λ (w : Window). w.number == a.issued.access.window) (window_of_name y.known.windows win) numbered in
-      let name = name_of_window (rank_in script Seeded run y.id.rank) (take y.id.index (log_of run y.id.rank)) win window.0 formed
+      let window = some_of (λ (w : Window). w.number == a.issued.access.window)
+      (window_of_name y.known.windows win) numbered in
+      let name = name_of_window (rank_in script Seeded run y.id.rank)
+      (take y.id.index (log_of run y.id.rank)) win window.0 formed
       (sym (ap (λ k. window_of_name k.windows win) step.known_is) ∙ window.1) in
-      let number : window.0.number ≡ a.issued.access.window = eqb-true window.0.number a.issued.access.window window.2 in
+      let number : window.0.number ≡ a.issued.access.window =
+      eqb-true window.0.number a.issued.access.window window.2 in
       eq-eqb (a.issued.access.window % 32) win (sym (ap (λ n. n % 32) number) ∙ name)
 
-  waits_by : (a : IssuedAccess) (y : CallStep) (s : Synchronisation) → IsStep script run y → is_step_on a.issued.access.window y ≡ true →
-      synchronisation_of y.call ≡ Some s → completes_access s a.issued ≡ true → must_wait y.known.requests y.call a.issued ≡ true
+  waits_by : (a : IssuedAccess) (y : CallStep) (s : Synchronisation) → IsStep script run y →
+      is_step_on a.issued.access.window y ≡ true →
+      synchronisation_of y.call ≡ Some s → completes_access s a.issued ≡ true →
+      must_wait y.known.requests y.call a.issued ≡ true
   waits_by a y s step on e completes =
       let is = synchronises (action_of y.call) s e in
       let named : window_named y.call ≡ Some is.0 = ap window_in_action is.1 in
@@ -231,7 +251,8 @@ module _ (script : Script) (delay : Delay) (run : Run) (formed : IsWellFormed sc
       ∙ and_from (is_on is.0 a.issued) (completes_access s a.issued) (on_window a y is.0 step on named) completes
 
   -- a synchronisation that completes the access, and is no fence, comes after its touches
-  before_completing : (a : IssuedAccess) (u : Touching) (y : CallStep) (s : Synchronisation) → IsAccess script run a → IsTouchBy script run a u →
+  before_completing : (a : IssuedAccess) (u : Touching) (y : CallStep) (s : Synchronisation) → IsAccess script run a →
+      IsTouchBy script run a u →
       IsStep script run y → is_later_on_window a y ≡ true → synchronisation_of y.call ≡ Some s → is_fence s ≡ false →
       completes_access s a.issued ≡ true → Before script run u.id y.id
   before_completing a u y s access by step later e other completes =
@@ -239,23 +260,29 @@ module _ (script : Script) (delay : Delay) (run : Run) (formed : IsWellFormed sc
       let same = and_parts (y.id.rank == a.id.rank) (nat_lt a.id.index y.id.index) parts.0 in
       let rank : y.id.rank ≡ a.id.rank = eqb-true y.id.rank a.id.rank same.0 in
       let leaves = each_get (LeavesCollective (calls_of script a.id.rank)) (log_of run a.id.rank) y.id.index step.item
-      (leaves_are (rank_in script delay run a.id.rank) (log_of run a.id.rank) (lawful.logs a.id.rank access.within).calls)
+      (leaves_are (rank_in script delay run a.id.rank) (log_of run a.id.rank)
+      (lawful.logs a.id.rank access.within).calls)
       (subst (λ r. slice_get (log_of run r) y.id.index ≡ Some step.item) rank step.logged) in
       let begins = step_begins (calls_of script a.id.rank) step.item step.number y.step y.call step.step_is leaves
-      (subst (λ r. slice_get (calls_of script r) step.number ≡ Some y.call) rank step.call_is) (apart_from_all y.call s e other) in
+      (subst (λ r. slice_get (calls_of script r) step.number ≡ Some y.call) rank step.call_is)
+      (apart_from_all y.call s e other) in
       before_step a u y access by step parts.0 begins (waits_by a y s step parts.1 e completes)
 
-  before_request : (a : IssuedAccess) (u : Touching) (y : CallStep) (req : ℕ) → IsAccess script run a → IsTouchBy script run a u →
-      IsStep script run y → is_later_at_origin a y ≡ true → request_ended (action_of y.call) ≡ Some req → a.issued.fetches ≡ true →
+  before_request : (a : IssuedAccess) (u : Touching) (y : CallStep) (req : ℕ) → IsAccess script run a →
+      IsTouchBy script run a u →
+      IsStep script run y → is_later_at_origin a y ≡ true → request_ended (action_of y.call) ≡ Some req →
+      a.issued.fetches ≡ true →
       is_requested_by y.known.requests req a.issued ≡ true → Before script run u.id y.id
   before_request a u y req access by step later e fetches requested =
       let same = and_parts (y.id.rank == a.id.rank) (nat_lt a.id.index y.id.index) later in
       let rank : y.id.rank ≡ a.id.rank = eqb-true y.id.rank a.id.rank same.0 in
       let leaves = each_get (LeavesCollective (calls_of script a.id.rank)) (log_of run a.id.rank) y.id.index step.item
-      (leaves_are (rank_in script delay run a.id.rank) (log_of run a.id.rank) (lawful.logs a.id.rank access.within).calls)
+      (leaves_are (rank_in script delay run a.id.rank) (log_of run a.id.rank)
+      (lawful.logs a.id.rank access.within).calls)
       (subst (λ r. slice_get (log_of run r) y.id.index ≡ Some step.item) rank step.logged) in
       let begins = step_begins (calls_of script a.id.rank) step.item step.number y.step y.call step.step_is leaves
-      (subst (λ r. slice_get (calls_of script r) step.number ≡ Some y.call) rank step.call_is) (request_apart y.call req e) in
+      (subst (λ r. slice_get (calls_of script r) step.number ≡ Some y.call) rank step.call_is)
+      (request_apart y.call req e) in
       before_step a u y access by step later begins
       (ap (λ x. waits_for y.known.requests x a.issued) (ends_request (action_of y.call) req e)
       ∙ and_from a.issued.fetches (is_requested_by y.known.requests req a.issued) fetches requested)
@@ -263,11 +290,13 @@ module _ (script : Script) (delay : Delay) (run : Run) (formed : IsWellFormed sc
   -- ---- the done points
 
   -- the next step of the origin that passes a test, from which an edge leads to a step
-  follows : (a : IssuedAccess) (x : CallStep) (test : CallStep → Bool) → follows_next (timeline_of script run) test a x ≡ true →
+  follows : (a : IssuedAccess) (x : CallStep) (test : CallStep → Bool) →
+      follows_next (timeline_of script run) test a x ≡ true →
       (y : CallStep) × In y (steps_in script run) × (is_later_on_window a y ≡ true) × (test y ≡ true)
       × (leads_to (events_in script run) y.id x.id ≡ true)
   follows a x test h =
-      let next = some_of (λ (y : CallStep). leads_to (events_in script run) y.id x.id) (next_step (timeline_of script run) test a) h in
+      let next = some_of (λ (y : CallStep). leads_to (events_in script run) y.id x.id)
+      (next_step (timeline_of script run) test a) h in
       let is = find_in (λ y. is_later_on_window a y && test y) (steps_in script run) next.0 next.1 in
       let parts = and_parts (is_later_on_window a next.0) (test next.0) is.1 in
       (next.0, is.0, parts.0, parts.1, next.2)
@@ -331,15 +360,18 @@ module _ (script : Script) (delay : Delay) (run : Run) (formed : IsWellFormed sc
       complete_is (Flushes target local) h = absurd (cc h)
       complete_is Syncs h = absurd (cc h)
 
-  at_target : (a : IssuedAccess) (u : Touching) (x : CallStep) → IsAccess script run a → IsTouchBy script run a u → IsStep script run x →
+  at_target : (a : IssuedAccess) (u : Touching) (x : CallStep) → IsAccess script run a → IsTouchBy script run a u →
+      IsStep script run x →
       is_completed_at_target a x ≡ true → Before script run u.id x.id
   at_target a u x access by step h =
-      let parts = and_parts (is_later_on_window a x) (option_map_or (completes_at_target a.issued) (synchronisation_of x.call) false) h in
+      let parts = and_parts (is_later_on_window a x)
+      (option_map_or (completes_at_target a.issued) (synchronisation_of x.call) false) h in
       let s = some_of (completes_at_target a.issued) (synchronisation_of x.call) parts.1 in
       let is = completes s.0 s.2 in
       before_completing a u x s.0 access by step parts.0 s.1 is.0 is.1
     where
-      completes : (s : Synchronisation) → completes_at_target a.issued s ≡ true → (is_fence s ≡ false) × (completes_access s a.issued ≡ true)
+      completes : (s : Synchronisation) → completes_at_target a.issued s ≡ true →
+          (is_fence s ≡ false) × (completes_access s a.issued ≡ true)
       completes (Fences asserts) h = absurd (cc h)
       completes (Posts group asserts) h = absurd (cc h)
       completes (Starts group asserts) h = absurd (cc h)
@@ -351,15 +383,18 @@ module _ (script : Script) (delay : Delay) (run : Run) (formed : IsWellFormed sc
       completes (Flushes target false) h = (refl, h)
       completes Syncs h = absurd (cc h)
 
-  at_origin : (a : IssuedAccess) (u : Touching) (x : CallStep) → IsAccess script run a → IsTouchBy script run a u → IsStep script run x →
+  at_origin : (a : IssuedAccess) (u : Touching) (x : CallStep) → IsAccess script run a → IsTouchBy script run a u →
+      IsStep script run x →
       a.issued.fetches ≡ true → is_completed_at_origin a x ≡ true → Before script run u.id x.id
   at_origin a u x access by step fetches h =
-      let parts = and_parts (is_later_on_window a x) (option_map_or (completes_at_origin a.issued) (synchronisation_of x.call) false) h in
+      let parts = and_parts (is_later_on_window a x)
+      (option_map_or (completes_at_origin a.issued) (synchronisation_of x.call) false) h in
       let s = some_of (completes_at_origin a.issued) (synchronisation_of x.call) parts.1 in
       let is = completes s.0 s.2 in
       before_completing a u x s.0 access by step parts.0 s.1 is.0 is.1
     where
-      completes : (s : Synchronisation) → completes_at_origin a.issued s ≡ true → (is_fence s ≡ false) × (completes_access s a.issued ≡ true)
+      completes : (s : Synchronisation) → completes_at_origin a.issued s ≡ true →
+          (is_fence s ≡ false) × (completes_access s a.issued ≡ true)
       completes (Fences asserts) h = absurd (cc h)
       completes (Posts group asserts) h = absurd (cc h)
       completes (Starts group asserts) h = absurd (cc h)
@@ -371,18 +406,21 @@ module _ (script : Script) (delay : Delay) (run : Run) (formed : IsWellFormed sc
       completes (Flushes target false) h = absurd (cc h)
       completes Syncs h = absurd (cc h)
 
-  by_epoch : (a : IssuedAccess) (u : Touching) (x : CallStep) (epoch : AccessEpoch) → IsAccess script run a → IsTouchBy script run a u →
+  by_epoch : (a : IssuedAccess) (u : Touching) (x : CallStep) (epoch : AccessEpoch) → IsAccess script run a →
+      IsTouchBy script run a u →
       IsStep script run x → is_done_by_epoch (timeline_of script run) a epoch x ≡ true → Before script run u.id x.id
   by_epoch a u x Idle access by step h = absurd (cc h)
   by_epoch a u x FenceUnused access by step h = after_fence a u x access by h
   by_epoch a u x FenceUsed access by step h = after_fence a u x access by h
   by_epoch a u x (StartTo group) access by step h =
-      after_complete a u x access by (and_parts (follows_next (timeline_of script run) completes_start a x) (x.id.rank == a.issued.access.target) h).0
+      after_complete a u x access by (and_parts (follows_next (timeline_of script run) completes_start a x)
+      (x.id.rank == a.issued.access.target) h).0
   by_epoch a u x (LocksAt targets) access by step h = at_target a u x access by step h
   by_epoch a u x LockAll access by step h = at_target a u x access by step h
 
   -- each touch of an access is before its done points; a read that is asked for fetches
-  pub before_done : (a : IssuedAccess) (u : Touching) (x : CallStep) → IsAccess script run a → IsTouchBy script run a u → IsStep script run x →
+  pub before_done : (a : IssuedAccess) (u : Touching) (x : CallStep) → IsAccess script run a →
+      IsTouchBy script run a u → IsStep script run x →
       (is_rma_read (role_of a.issued.access.kind) ≡ true → a.issued.fetches ≡ true) →
       is_done_at (timeline_of script run) a x ≡ true → Before script run u.id x.id
   before_done a u x access by step fetches h =
@@ -390,13 +428,16 @@ module _ (script : Script) (delay : Delay) (run : Run) (formed : IsWellFormed sc
       (is_rma_read (role_of a.issued.access.kind) && (is_completed_at_origin a x || ends_its_request a x)) h) [
         | inl epoch ↦ by_epoch a u x a.epoch access by step epoch
         | inr read ↦
-            let parts = and_parts (is_rma_read (role_of a.issued.access.kind)) (is_completed_at_origin a x || ends_its_request a x) read in
+            let parts = and_parts (is_rma_read (role_of a.issued.access.kind))
+            (is_completed_at_origin a x || ends_its_request a x) read in
             elim (or_cases (is_completed_at_origin a x) (ends_its_request a x) parts.1) [
               | inl origin ↦ at_origin a u x access by step (fetches parts.0) origin
               | inr request ↦
                   let later = and_parts (is_later_at_origin a x)
-                  (option_map_or (λ req. is_requested_by x.known.requests req a.issued) (request_ended (action_of x.call)) false) request in
-                  let req = some_of (λ req. is_requested_by x.known.requests req a.issued) (request_ended (action_of x.call)) later.1 in
+                  (option_map_or (λ req. is_requested_by x.known.requests req a.issued)
+                  (request_ended (action_of x.call)) false) request in
+                  let req = some_of (λ req. is_requested_by x.known.requests req a.issued)
+                  (request_ended (action_of x.call)) later.1 in
                   before_request a u x req.0 access by step later.0 req.1 (fetches parts.0) req.2
             ]
       ]

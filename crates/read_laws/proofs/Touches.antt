@@ -29,21 +29,24 @@ use Rattle.order_laws.proofs.Members.{In, here, there, append_in, in_append_left
 
 -- ---- lists
 
-pub in_flat_map : {X Y : Type 0} (f : X → List Y) {x : X} {y : Y} {xs : List X} → In x xs → In y (f x) → In y (flat_map f xs)
+pub in_flat_map : {X Y : Type 0} (f : X → List Y) {x : X} {y : Y} {xs : List X} → In x xs → In y (f x) →
+    In y (flat_map f xs)
 in_flat_map f {x} {y} {xs} here m = in_append_left _ m
 in_flat_map f (there {y = z} n) m = in_append_right (f z) (in_flat_map f n m)
 
 pub numbers_in : (first count n : ℕ) → In n (numbers_from first count) → (first ≤ n) × (n < first + count)
 numbers_in first zero n m = elim m [ ]
 numbers_in first (suc count) n here = (omega arith, omega arith)
-numbers_in first (suc count) n (there m) = let rest = numbers_in (first + 1) count n m in (omega (arith, rest.0), omega (arith, rest.1))
+numbers_in first (suc count) n (there m) = let rest = numbers_in (first + 1) count n m in
+    (omega (arith, rest.0), omega (arith, rest.1))
 
 -- ---- the item of a touch
 
 -- the touch is this item of a log with these calls
 pub record IsTouchIn (memory : Layout) (calls : List Call) (log : List Item) (x : Touching) : Type 0 where
   pub logged : slice_get log x.id.index ≡ Some (Touch x.issue x.element x.cell x.place x.bits)
-  pub change : x.change ≡ option_map_or (λ one. change_made memory calls one x.element) (issued_at calls log x.issue) None
+  pub change : x.change ≡ option_map_or (λ one. change_made memory calls one x.element)
+      (issued_at calls log x.issue) None
 
 touch_item : (memory : Layout) (calls : List Call) (log : List Item) (id : Id) (item : Item) {x : Touching} →
     In x (touching_by memory calls log id item) →
@@ -106,13 +109,15 @@ touch_is script run {x} m =
 
 pub touch_of_all : (script : Script) (run : Run) (rank : ℕ) {x : Touching} → rank < script.ranks →
     In x (touches_of script run rank) → In x (all_touches script run)
-touch_of_all script run rank within m = in_flat_map (touches_of script run) (in_numbers 0 script.ranks rank (omega arith) (omega (arith, within))) m
+touch_of_all script run rank within m = in_flat_map (touches_of script run)
+    (in_numbers 0 script.ranks rank (omega arith) (omega (arith, within))) m
 
 -- ---- the access of a touch
 
 abbrev pending_by : ℕ → ℕ → Access → Option Transfer → Option PendingAccess
 pending_by index number access o =
-    option_map_or (λ (t : Transfer). Some (record { index = index; number = number; access = access; fetches = t.fetches })) o None
+    option_map_or (λ (t : Transfer). Some
+    (record { index = index; number = number; access = access; fetches = t.fetches })) o None
 
 -- what an item issues: the access of an Issue, whose call makes a transfer
 pub record IsIssuedBy (calls : List Call) (index : ℕ) (item : Item) (one : PendingAccess) : Type 0 where
@@ -123,15 +128,19 @@ pub record IsIssuedBy (calls : List Call) (index : ℕ) (item : Item) (one : Pen
   pub fetches : one.fetches ≡ t.fetches
 
 issue_is : (calls : List Call) (index number : ℕ) (access : Access) (one : PendingAccess) (o : Option Transfer) →
-    transfer_at calls number ≡ o → pending_by index number access o ≡ Some one → IsIssuedBy calls index (Issue number access) one
+    transfer_at calls number ≡ o → pending_by index number access o ≡ Some one →
+    IsIssuedBy calls index (Issue number access) one
 issue_is calls index number access one None moves e = absurd (cc e)
 issue_is calls index number access one (Some t) moves e =
     let same : record { index = index; number = number; access = access; fetches = t.fetches } ≡ one = cc e in
-    subst (IsIssuedBy calls index (Issue number access)) same (record { is = refl; at = refl; t = t; moves = moves; fetches = refl })
+    subst (IsIssuedBy calls index (Issue number access)) same
+    (record { is = refl; at = refl; t = t; moves = moves; fetches = refl })
 
-pub issued_is : (calls : List Call) (index : ℕ) (item : Item) (one : PendingAccess) → issued_by calls index item ≡ Some one →
+pub issued_is : (calls : List Call) (index : ℕ) (item : Item) (one : PendingAccess) →
+    issued_by calls index item ≡ Some one →
     IsIssuedBy calls index item one
-issued_is calls index (Issue number access) one e = issue_is calls index number access one (transfer_at calls number) refl e
+issued_is calls index (Issue number access) one e = issue_is calls index number access one
+    (transfer_at calls number) refl e
 issued_is calls index (Null number) one e = absurd (cc e)
 issued_is calls index (Touch issue element cell place bits) one e = absurd (cc e)
 issued_is calls index (Flush number) one e = absurd (cc e)
@@ -147,14 +156,20 @@ listed (Some x) one here = refl
 listed (Some x) one (there m) = elim m [ ]
 
 -- an access of some items of a log is what one of them issues
-pub issued_at_some : (calls : List Call) (first : ℕ) (items : List Item) (one : PendingAccess) → In one (issued_from calls first items) →
+pub issued_at_some : (calls : List Call) (first : ℕ) (items : List Item) (one : PendingAccess) →
+    In one (issued_from calls first items) →
     (k : ℕ) × (item : Item) × (slice_get items k ≡ Some item) × (issued_by calls (first + k) item ≡ Some one)
 issued_at_some calls first [] one m = elim m [ ]
 issued_at_some calls first (item ∷ items) one m =
     elim (append_in (option_map_or (λ x. x ∷ []) (issued_by calls first item) []) m) [
       | inl now ↦
-          let same : first ≡ first + 0 = omega arith in
-          (0, item, refl, subst (λ n. issued_by calls n item ≡ Some one) same (listed (issued_by calls first item) one now))
+          let same : first ≡ first + 0 = omega arith in (
+            0,
+            item,
+            refl,
+            subst (λ n. issued_by calls n item ≡ Some one) same
+                (listed (issued_by calls first item) one now),
+          )
       | inr later ↦
           let rest = issued_at_some calls (first + 1) items one later in
           let same : first + 1 + rest.0 ≡ first + suc rest.0 = omega arith in
@@ -177,13 +192,16 @@ in_issued calls first (x ∷ items) (suc k) item one e h =
 
 -- ---- what of a log touches an access
 
-pub touched_joined : (index : ℕ) (xs ys : List Item) → touched_by index (xs ++ ys) ≡ touched_by index xs ++ touched_by index ys
+pub touched_joined : (index : ℕ) (xs ys : List Item) →
+    touched_by index (xs ++ ys) ≡ touched_by index xs ++ touched_by index ys
 touched_joined index [] ys = refl
 touched_joined index (x ∷ xs) ys =
-    ap (λ l. touch_of index x ++ l) (touched_joined index xs ys) ∙ sym (append_assoc (touch_of index x) (touched_by index xs) (touched_by index ys))
+    ap (λ l. touch_of index x ++ l) (touched_joined index xs ys)
+    ∙ sym (append_assoc (touch_of index x) (touched_by index xs) (touched_by index ys))
 
 -- a touch of an access is one of what touches it
-pub touch_counts : (index element cell place bits : ℕ) → touch_of index (Touch index element cell place bits) ≡ (element, cell) ∷ []
+pub touch_counts : (index element cell place bits : ℕ) →
+    touch_of index (Touch index element cell place bits) ≡ (element, cell) ∷ []
 touch_counts index element cell place bits = ap (λ b. cond b ((element, cell) ∷ []) []) (eq-eqb index index refl)
 
 pub touch_among : (index : ℕ) (items : List Item) (k element cell place bits : ℕ) →
@@ -246,7 +264,8 @@ touched_fewer index (x ∷ items) (suc k) item e none =
     omega arith
 
 -- no touch is among items that do not touch
-pub untouched_have_none : (index : ℕ) (items : List Item) (k element cell place bits : ℕ) → length (touched_by index items) ≡ 0 →
+pub untouched_have_none : (index : ℕ) (items : List Item) (k element cell place bits : ℕ) →
+    length (touched_by index items) ≡ 0 →
     slice_get items k ≡ Some (Touch index element cell place bits) → ⊥
 untouched_have_none index items k element cell place bits none e = no_member (touched_by index items) none
     (touch_among index items k element cell place bits e)
@@ -292,7 +311,8 @@ item_pairs memory calls log index id Ended = refl
 
 -- the touches of an access have the elements and the cells that the law of touches speaks of
 pub pairs_are : (memory : Layout) (calls : List Call) (log : List Item) (index rank first : ℕ) (items : List Item) →
-    map pair_of (filter (is_by index) (touches_among memory calls log (named_from rank first items))) ≡ touched_by index items
+    map pair_of (filter (is_by index) (touches_among memory calls log (named_from rank first items)))
+    ≡ touched_by index items
 pairs_are memory calls log index rank first [] = refl
 pairs_are memory calls log index rank first (item ∷ items) =
     let id : Id = record { rank = rank; index = first } in
@@ -300,14 +320,16 @@ pairs_are memory calls log index rank first (item ∷ items) =
     (touches_among memory calls log (named_from rank (first + 1) items)))
     ∙ map-append pair_of (filter (is_by index) (touching_by memory calls log id item))
     (filter (is_by index) (touches_among memory calls log (named_from rank (first + 1) items)))
-    ∙ ap (λ l. l ++ map pair_of (filter (is_by index) (touches_among memory calls log (named_from rank (first + 1) items))))
+    ∙ ap (λ l. l ++ map pair_of
+    (filter (is_by index) (touches_among memory calls log (named_from rank (first + 1) items))))
     (item_pairs memory calls log index id item)
     ∙ ap (λ l. touch_of index item ++ l) (pairs_are memory calls log index rank (first + 1) items)
 
 -- what each element that was touched gives, it gives in the order of the elements
 pub each_read : (dtype : Dtype) (read : Piece → ℕ) (first : ℕ) (pieces : List Piece) (touches : List Touching) →
     map pair_of touches ≡ elements_from first pieces →
-    ((k : ℕ) (piece : Piece) (touch : Touching) → slice_get pieces k ≡ Some piece → In touch touches → touch.element ≡ first + k →
+    ((k : ℕ) (piece : Piece) (touch : Touching) → slice_get pieces k ≡ Some piece → In touch touches →
+    touch.element ≡ first + k →
     touch.cell ≡ piece.cell → element_in touch.bits piece.first_byte dtype ≡ read piece) →
     map (element_touched dtype) (zip pieces touches) ≡ map read pieces
 each_read dtype read first [] touches pairs each = refl

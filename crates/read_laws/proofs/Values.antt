@@ -42,14 +42,16 @@ at_most_one : (b : Bool) (n : ℕ) → n ≡ (if b then 1 else 0) → n ≤ 1
 at_most_one true n e = omega arith
 at_most_one false n e = omega arith
 
-share_moved : (a b m n a' b' m' n' : ℕ) → a ≡ a' → b ≡ b' → m ≡ m' → n ≡ n' → a < b + n → b < a + m → (a' < b' + n') × (b' < a' + m')
+share_moved : (a b m n a' b' m' n' : ℕ) → a ≡ a' → b ≡ b' → m ≡ m' → n ≡ n' → a < b + n → b < a + m →
+    (a' < b' + n') × (b' < a' + m')
 share_moved a b m n a' b' m' n' p q r s h k = (omega arith, omega arith)
 
 same_eq : (b : Bool) → (b ≡ true → ⊥) → b ≡ false
 same_eq true h = absurd (h refl)
 same_eq false h = refl
 
-module _ (script : Script) (delay : Delay) (run : Run) (formed : IsWellFormed script) (lawful : IsLawful script delay run)
+module _ (script : Script) (delay : Delay) (run : Run) (formed : IsWellFormed script)
+    (lawful : IsLawful script delay run)
     (agree : TouchesAgree script run) (before : Id → Id → Bool) (order : IsOrder script run before)
     (none : findings script run Separate before ≡ []) (each : AreOfTransfers script run) where
   -- a touch of a get or a load
@@ -81,7 +83,8 @@ module _ (script : Script) (delay : Delay) (run : Run) (formed : IsWellFormed sc
     element = element_of (layout script) f.issued.access read.t.dtype touch.element read.part.piece read.part.element
 
     aligned : IsAligned read.part.piece.first_byte read.t.dtype
-    aligned = piece_aligned (layout script) f.issued.access read.t.dtype touch.element read.part.piece read.is.lies element
+    aligned = piece_aligned (layout script) f.issued.access read.t.dtype touch.element read.part.piece read.is.lies
+        element
 
     fetches : f.issued.fetches ≡ true
     fetches = read.is.fetches ∙ (read.is.facts.reads (sym (ap is_get_or_load read.is.kind) ∙ read.reads)).0
@@ -92,12 +95,14 @@ module _ (script : Script) (delay : Delay) (run : Run) (formed : IsWellFormed sc
 
     -- what is before the read's Issue is before its touch
     reaches : (v : Touching) → Before script run v.id f.id → Before script run v.id touch.id
-    reaches v h = transitive script run v.id f.id touch.id h (after_issue script delay run formed lawful f touch access read.part.by)
+    reaches v h = transitive script run v.id f.id touch.id h
+        (after_issue script delay run formed lawful f touch access read.part.by)
 
     differs : (v : Touching) (change : Change) (u : IsUpdateOn script run touch.cell v change) → u.access.id ≢ f.id
     differs v change u same =
         let issued = same_issued script run u.access f (access_is script run u.of_run) access same in
-        let kinds : is_update_role (role_of u.access.issued.access.kind) ≡ is_update_role (role_of f.issued.access.kind) =
+        let kinds : is_update_role (role_of u.access.issued.access.kind) ≡ is_update_role
+        (role_of f.issued.access.kind) =
         ap (λ p. is_update_role (role_of p.access.kind)) issued in
         cc (
           is_updating script delay run formed lawful agree before order none each touch.cell v change u,
@@ -108,42 +113,57 @@ module _ (script : Script) (delay : Delay) (run : Run) (formed : IsWellFormed sc
     -- an update that is before the read has a smaller place
     passed : (v : Touching) (change : Change) (u : IsUpdateOn script run touch.cell v change) → v.change ≡ Some change →
         Before script run v.id f.id → v.place < touch.place
-    passed v change u some h = update_passed v touch change some (agree v touch (in_contains u.listed) (in_contains read.listed) u.on
-        (λ same. differs v change u (same_access script run u.access f v touch (access_is script run u.of_run) access u.part.by read.part.by same))
+    passed v change u some h = update_passed v touch change some
+        (agree v touch (in_contains u.listed) (in_contains read.listed) u.on
+        (λ same. differs v change u
+        (same_access script run u.access f v touch (access_is script run u.of_run) access u.part.by read.part.by same))
         (reaches v h))
 
     -- an update of a byte that is read is before the read, or it is not and its place is not below
     abbrev IsApart : Touching → Type 0
     IsApart v = ((test v ≡ true) × (v.place < touch.place)) ⊎ ((test v ≡ false) × (touch.place ≤ v.place))
 
-    decided : (v : Touching) (change : Change) → In v updates → v.change ≡ Some change → DoShare change first count → IsApart v
+    decided : (v : Touching) (change : Change) → In v updates → v.change ≡ Some change → DoShare change first count →
+        IsApart v
     decided v change m some shares =
         let u = update_on script delay run formed lawful agree before order none each touch.cell v change m some in
         let other = access_is script run u.of_run in
         let size : size_of change.dtype ≡ size_of u.t.dtype = ap size_of u.makes.dtype_is in
-        let moved = share_moved change.first_byte first (size_of change.dtype) count u.part.piece.first_byte first (size_of u.t.dtype) count
+        let moved = share_moved change.first_byte first (size_of change.dtype) count u.part.piece.first_byte first
+        (size_of u.t.dtype) count
         u.makes.first refl size refl shares.1 shares.0 in
         let cells : u.part.piece.cell ≡ read.part.piece.cell = u.part.cell ∙ u.on ∙ sym read.part.cell in
-        let meet = share_byte script u.access.issued.access f.issued.access u.t.dtype read.t.dtype v.element touch.element u.part.piece
+        let meet = share_byte script u.access.issued.access f.issued.access u.t.dtype read.t.dtype v.element
+        touch.element u.part.piece
         read.part.piece u.is.lies read.is.lies u.element element cells moved.0 moved.1 in
-        let back = share_byte script f.issued.access u.access.issued.access read.t.dtype u.t.dtype touch.element v.element read.part.piece
+        let back = share_byte script f.issued.access u.access.issued.access read.t.dtype u.t.dtype touch.element
+        v.element read.part.piece
         u.part.piece read.is.lies u.is.lies element u.element (sym cells) moved.1 moved.0 in
         let updating = is_updating script delay run formed lawful agree before order none each touch.cell v change u in
-        elim (meeting script run before order none u.access f u.of_run read.of_run (differs v change u) meet back (inl updating)
+        elim (meeting script run before order none u.access f u.of_run read.of_run (differs v change u) meet back
+        (inl updating)
         (own_target script delay run formed lawful agree before order none each u.access u.t u.is)
         (own_target script delay run formed lawful agree before order none each f read.t read.is)) [
           | inl (inl earlier) ↦
-              let h = before_issue script delay run formed lawful before order u.access f v other access (differs v change u)
+              let h = before_issue script delay run formed lawful before order u.access f v other access
+              (differs v change u)
               (λ reads. absurd (no_read (role_of u.access.issued.access.kind) updating reads)) earlier u.part.by in
               inl ((order v.id f.id).1 h, passed v change u some h)
           | inl (inr later) ↦
               let h = transitive script run touch.id u.access.id v.id
-              (before_issue script delay run formed lawful before order f u.access touch access other (λ same. differs v change u (sym same))
+              (before_issue script delay run formed lawful before order f u.access touch access other
+              (λ same. differs v change u (sym same))
               (λ reads. fetches) later read.part.by)
               (after_issue script delay run formed lawful u.access v other u.part.by) in
-              let kept = read_kept touch v changes_none (agree touch v (in_contains read.listed) (in_contains u.listed) (sym u.on)
-              (λ same. differs v change u (sym (same_access script run f u.access touch v access other read.part.by u.part.by same))) h) in
-              inr (same_eq (test v) (λ is. let below = passed v change u some ((order v.id f.id).0 is) in omega (arith, below, kept)), kept)
+              let kept = read_kept touch v changes_none
+              (agree touch v (in_contains read.listed) (in_contains u.listed) (sym u.on)
+              (λ same. differs v change u
+              (sym (same_access script run f u.access touch v access other read.part.by u.part.by same))) h) in
+              inr (
+                same_eq (test v) (λ is. let below = passed v change u some ((order v.id f.id).0 is) in
+                    omega (arith, below, kept)),
+                kept,
+              )
           | inr alike ↦ absurd (cc (alike.of_b, (read_role f.issued.access.kind read.reads).1))
         ]
 
@@ -166,19 +186,27 @@ module _ (script : Script) (delay : Delay) (run : Run) (formed : IsWellFormed sc
       covers : LiesIn first count base whole
       reason : ((base ≡ first) × (whole ≡ count) × (k ≤ touch.place)) ⊎ IsFrom k base whole
 
-    info : (v : Touching) (change : Change) → In v updates → v.change ≡ Some change → IsUpdateOn script run touch.cell v change
-    info v change m some = update_on script delay run formed lawful agree before order none each touch.cell v change m some
+    info : (v : Touching) (change : Change) → In v updates → v.change ≡ Some change →
+        IsUpdateOn script run touch.cell v change
+    info v change m some = update_on script delay run formed lawful agree before order none each touch.cell v change m
+        some
 
     -- an update that passes, and shares a byte of what is read, has a smaller place
-    share_read : (change : Change) (base whole : ℕ) → LiesIn first count base whole → base ≡ change.first_byte → whole ≡ size_of change.dtype → DoShare change first count
+    share_read : (change : Change) (base whole : ℕ) → LiesIn first count base whole → base ≡ change.first_byte →
+        whole ≡ size_of change.dtype → DoShare change first count
     share_read change base whole covers at size =
-        let some = some_bytes read.t.dtype in (omega (arith, covers.1, at, size, some), omega (arith, covers.0, at, some))
+        let some = some_bytes read.t.dtype in
+        (omega (arith, covers.1, at, size, some), omega (arith, covers.0, at, some))
 
-    passes : (v : Touching) (change : Change) (base whole : ℕ) → In v updates → v.change ≡ Some change → NeedsAt (suc v.place) base whole →
+    passes : (v : Touching) (change : Change) (base whole : ℕ) → In v updates → v.change ≡ Some change →
+        NeedsAt (suc v.place) base whole →
         DoShare change base whole → test v ≡ true
     passes v change base whole m some needs shares = elim needs.reason [
       | inl own ↦
-          let moved : DoShare change first count = (omega (arith, shares.0, own.0), omega (arith, shares.1, own.0, own.1)) in
+          let moved : DoShare change first count = (
+            omega (arith, shares.0, own.0),
+            omega (arith, shares.1, own.0, own.1),
+          ) in
           elim (decided v change m some moved) [
             | inl is ↦ is.0
             | inr late ↦ absurd (omega (arith, late.1, own.2))
@@ -187,21 +215,27 @@ module _ (script : Script) (delay : Delay) (run : Run) (formed : IsWellFormed sc
           let u = info v change m some in
           let x = info from.update from.change from.listed from.some in
           let later = (order from.update.id f.id).0 from.passes in
-          elim (earlier_update script delay run formed lawful agree before order none each touch.cell v from.update change from.change u x some from.some
-          (omega (arith, from.late)) (omega (arith, shares.1, from.base_is, from.whole_is)) (omega (arith, shares.0, from.base_is))) [
+          elim (earlier_update script delay run formed lawful agree before order none each touch.cell v from.update
+          change from.change u x some from.some
+          (omega (arith, from.late)) (omega (arith, shares.1, from.base_is, from.whole_is))
+          (omega (arith, shares.0, from.base_is))) [
             | inl before_it ↦ (order v.id f.id).1 (transitive script run v.id from.update.id f.id before_it later)
             | inr same ↦
                 let size : size_of change.dtype ≡ size_of from.change.dtype = ap size_of same.1 in
-                elim (decided v change m some (share_read change base whole needs.covers (from.base_is ∙ sym same.0) (from.whole_is ∙ sym size))) [
+                elim (decided v change m some (share_read change base whole needs.covers (from.base_is
+                ∙ sym same.0) (from.whole_is ∙ sym size))) [
                   | inl is ↦ is.0
                   | inr late ↦
-                      let below = passed from.update from.change x from.some later in absurd (omega (arith, below, late.1, from.late))
+                      let below = passed from.update from.change x from.some later in
+                      absurd (omega (arith, below, late.1, from.late))
                 ]
           ]
     ]
 
-    nested_or : (v : Touching) (change : Change) (base whole : ℕ) (dtype : Dtype) → In v updates → v.change ≡ Some change →
-        LiesIn first count base whole → IsAligned base dtype → whole ≡ size_of dtype → DoShare change base whole → test v ≡ true →
+    nested_or : (v : Touching) (change : Change) (base whole : ℕ) (dtype : Dtype) → In v updates →
+        v.change ≡ Some change →
+        LiesIn first count base whole → IsAligned base dtype → whole ≡ size_of dtype → DoShare change base whole →
+        test v ≡ true →
         ((base ≤ change.first_byte) × (change.first_byte + size_of change.dtype ≤ base + whole))
         ⊎ NeedsAt v.place change.first_byte (size_of change.dtype)
     nested_or v change base whole dtype m some covers is size shares passing =
@@ -224,7 +258,8 @@ module _ (script : Script) (delay : Delay) (run : Run) (formed : IsWellFormed sc
           })
         ]
 
-    widens : (v : Touching) (change : Change) (base whole : ℕ) → In v updates → v.change ≡ Some change → NeedsAt (suc v.place) base whole →
+    widens : (v : Touching) (change : Change) (base whole : ℕ) → In v updates → v.change ≡ Some change →
+        NeedsAt (suc v.place) base whole →
         DoShare change base whole →
         ((base ≤ change.first_byte) × (change.first_byte + size_of change.dtype ≤ base + whole))
         ⊎ NeedsAt v.place change.first_byte (size_of change.dtype)
@@ -234,7 +269,8 @@ module _ (script : Script) (delay : Delay) (run : Run) (formed : IsWellFormed sc
           | inl own ↦ nested_or v change base whole read.t.dtype m some needs.covers
               (subst (λ n. IsAligned n read.t.dtype) (sym own.0) aligned) own.1 shares passing
           | inr from ↦ nested_or v change base whole from.change.dtype m some needs.covers
-              (subst (λ n. IsAligned n from.change.dtype) (sym from.base_is) (info from.update from.change from.listed from.some).aligned)
+              (subst (λ n. IsAligned n from.change.dtype) (sym from.base_is)
+              (info from.update from.change from.listed from.some).aligned)
               from.whole_is shares passing
         ]
 
@@ -258,9 +294,11 @@ module _ (script : Script) (delay : Delay) (run : Run) (formed : IsWellFormed sc
     -- ---- the value
 
     history : IsHistory (on_cell touch.cell (all_touches script run))
-        (map (λ rank. on_cell touch.cell (touches_of script run rank)) (numbers_from 0 script.ranks)) (slice_index run.memory touch.cell)
+        (map (λ rank. on_cell touch.cell (touches_of script run rank)) (numbers_from 0 script.ranks))
+        (slice_index run.memory touch.cell)
     history = lawful.cells.histories touch.cell
-        (each_in (λ (x : Touching). x.cell < cells_of (layout script)) (all_touches script run) lawful.cells.inside read.listed)
+        (each_in (λ (x : Touching). x.cell < cells_of (layout script))
+        (all_touches script run) lawful.cells.inside read.listed)
 
     reads_state : ReadsState updates touch
     reads_state = each_in (ReadsState updates) (on_cell touch.cell (all_touches script run)) history.states
@@ -270,10 +308,12 @@ module _ (script : Script) (delay : Delay) (run : Run) (formed : IsWellFormed sc
         ≡ element_in (left_before before f.id updates) read.part.piece.first_byte read.t.dtype
     element_is_left =
         ap (λ bits. element_in bits first read.t.dtype) reads_state.reads
-        ∙ element_agrees read.t.dtype first (state updates touch.place) (state (filter test updates) (length updates)) aligned.inside
+        ∙ element_agrees read.t.dtype first (state updates touch.place)
+        (state (filter test updates) (length updates)) aligned.inside
         (folds_agree updates test NeedsAt touch.place (length updates) first count
         (record {
-          once = λ place. at_most_one (nat_lt place (length updates)) (count_by (has_place place) updates) (history.places place);
+          once = λ place. at_most_one (nat_lt place (length updates)) (count_by (has_place place) updates)
+              (history.places place);
           inside = λ update change m some. (info update change m some).aligned.inside;
         })
         (record {
@@ -282,20 +322,26 @@ module _ (script : Script) (delay : Delay) (run : Run) (formed : IsWellFormed sc
           passes = passes_here;
           widens = widens_here;
         })
-        (record { within = aligned.inside; covers = (omega arith, omega arith); reason = inl (refl, refl, omega arith) })
+        (record {
+          within = aligned.inside;
+          covers = (omega arith, omega arith);
+          reason = inl (refl, refl, omega arith);
+        })
         reads_state.within fails)
       where
         passes_here : (v : Touching) (change : Change) (base whole : ℕ) → In v updates → v.change ≡ Some change →
             NeedsAt (suc v.place) base whole → DoShare change base whole → test v ≡ true
         passes_here v change base whole m some needs shares = passes v change base whole m some needs shares
 
-        widens_here : (v : Touching) (change : Change) (base whole : ℕ) → In v updates → v.change ≡ Some change → NeedsAt (suc v.place) base whole →
+        widens_here : (v : Touching) (change : Change) (base whole : ℕ) → In v updates → v.change ≡ Some change →
+            NeedsAt (suc v.place) base whole →
             DoShare change base whole →
             ((base ≤ change.first_byte) × (change.first_byte + size_of change.dtype ≤ base + whole))
             ⊎ NeedsAt v.place change.first_byte (size_of change.dtype)
         widens_here v change base whole m some needs shares = widens v change base whole m some needs shares
 
-        fails : (v : Touching) (change : Change) → In v updates → v.change ≡ Some change → touch.place ≤ v.place → DoShare change first count →
+        fails : (v : Touching) (change : Change) → In v updates → v.change ≡ Some change → touch.place ≤ v.place →
+            DoShare change first count →
             test v ≡ false
         fails v change m some late shares = elim (decided v change m some shares) [
           | inl is ↦ absurd (omega (arith, is.1, late))

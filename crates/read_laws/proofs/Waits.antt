@@ -1,4 +1,5 @@
--- Where the touches of an access stand in a lawful log: before an item that waits for it, and directly after its Issue where it
+-- Where the touches of an access stand in a lawful log: before an item that waits for it, and directly after its
+-- Issue where it
 -- is a load or a store.
 use Rattle.std.proofs.Common.{◌≡◌, ℕ, zero, suc, ◌+◌, ◌-◌, ◌<◌, ◌≤◌, inl, inr, Bool, true, false, not, List, [], ◌∷◌, length, take, drop, Option, Some, refl, ap, sym, ◌∙◌, subst, arith, length-append}
 use Rattle.std.specs.Prelude.{◌&&◌, ◌||◌, slice_get}
@@ -80,15 +81,19 @@ pub record WaitsFor (here : RankOfRun) (log : List Item) (k : ℕ) (one : Pendin
   pub call_is : slice_get (calls_here here) number ≡ Some call
   pub waits : must_wait (known_at here (take k log)).requests call one ≡ true
 
-waits_there : (here : RankOfRun) (log : List Item) (k : ℕ) (one : PendingAccess) → HasItemsOfCalls here (untouched log) →
+waits_there : (here : RankOfRun) (log : List Item) (k : ℕ) (one : PendingAccess) →
+    HasItemsOfCalls here (untouched log) →
     WaitsFor here log k one → waits_at here log k one ≡ true
 waits_there here log k one calls w =
     ap (λ o. option_map_or (is_awaiting here (take k log) one) o false) w.logged
-    ∙ ap (λ b. b || option_map_or (begins_awaiting here (take k log) w.item one) (number_in w.item) false) (initial_waits w.item w.initial).0
+    ∙ ap (λ b. b || option_map_or (begins_awaiting here (take k log) w.item one) (number_in w.item) false)
+    (initial_waits w.item w.initial).0
     ∙ ap (λ o. option_map_or (begins_awaiting here (take k log) w.item one) o false) w.of_call
-    ∙ ap (λ b. (not b && not (list_any (belongs_to w.number) (take k log))) && waits_by (slice_get (calls_here here) w.number))
+    ∙ ap (λ b. (not b && not (list_any (belongs_to w.number) (take k log))) && waits_by
+    (slice_get (calls_here here) w.number))
     (initial_waits w.item w.initial).1
-    ∙ ap (λ b. not b && waits_by (slice_get (calls_here here) w.number)) (is_first here log k w.item w.number calls w.logged w.initial w.of_call)
+    ∙ ap (λ b. not b && waits_by (slice_get (calls_here here) w.number))
+    (is_first here log k w.item w.number calls w.logged w.initial w.of_call)
     ∙ ap waits_by w.call_is
     ∙ w.waits
   where
@@ -101,12 +106,16 @@ pub record IsIssuedAt (here : RankOfRun) (log : List Item) (one : PendingAccess)
   pub logged : slice_get log one.index ≡ Some item
   pub issued : issued_by (calls_here here) one.index item ≡ Some one
 
-pub issued_among : (here : RankOfRun) (log : List Item) (one : PendingAccess) → IsIssuedAt here log one → In one (issued_in here log)
+pub issued_among : (here : RankOfRun) (log : List Item) (one : PendingAccess) → IsIssuedAt here log one →
+    In one (issued_in here log)
 issued_among here log one is = in_issued (calls_here here) 0 log one.index is.item one is.logged
-    (let same : one.index ≡ 0 + one.index = omega arith in subst (λ n. issued_by (calls_here here) n is.item ≡ Some one) same is.issued)
+    (let same : one.index ≡ 0 + one.index = omega arith in
+    subst (λ n. issued_by (calls_here here) n is.item ≡ Some one) same is.issued)
 
-whole : (here : RankOfRun) (log : List Item) (one : PendingAccess) → IsLawfulLog here log → IsIssuedAt here log one → IsTouchedWhole here log one
-whole here log one lawful is = each_in (IsTouchedWhole here log) (issued_in here log) lawful.touches (issued_among here log one is)
+whole : (here : RankOfRun) (log : List Item) (one : PendingAccess) → IsLawfulLog here log → IsIssuedAt here log one →
+    IsTouchedWhole here log one
+whole here log one lawful is = each_in (IsTouchedWhole here log) (issued_in here log) lawful.touches
+    (issued_among here log one is)
 
 -- each touch of the access stands before an item that waits for it
 pub touched_before : (here : RankOfRun) (log : List Item) (one : PendingAccess) (k : ℕ) → IsLawfulLog here log →
@@ -120,10 +129,12 @@ touched_before here log one k lawful is earlier w j element cell place bits e =
       logged = get_taken k one.index log earlier ∙ is.logged;
       issued = is.issued;
     }) in
-    let there : IsTouchedWhole here (take k log) one = each_in (λ other. waits_at here log k other ≡ true → IsTouchedWhole here (take k log) other)
+    let there : IsTouchedWhole here (take k log) one = each_in (λ other. waits_at here log k other ≡ true →
+    IsTouchedWhole here (take k log) other)
     (issued_in here (take k log)) at among (waits_there here log k one lawful.calls w) in
     let all : IsTouchedWhole here log one = whole here log one lawful is in
-    let same : length (touched_by one.index (take k log)) ≡ length (touched_by one.index log) = ap length (there ∙ sym all) in
+    let same : length (touched_by one.index (take k log)) ≡ length (touched_by one.index log) = ap length (there
+    ∙ sym all) in
     let split = touched_split one.index k log in
     let none : length (touched_by one.index (drop k log)) ≡ 0 = omega (arith, same, split) in
     elim (cases_lt j k) [
@@ -133,8 +144,10 @@ touched_before here log one k lawful is earlier w j element cell place bits e =
     ]
 
 -- each touch of an access that is touched directly after its Issue stands before any later item that does not touch it
-pub directly_before : (here : RankOfRun) (log : List Item) (one : PendingAccess) (k : ℕ) (x : Item) → IsLawfulLog here log →
-    IsIssuedAt here log one → FollowsDirectly here log one → one.index < k → slice_get log k ≡ Some x → touch_of one.index x ≡ [] →
+pub directly_before : (here : RankOfRun) (log : List Item) (one : PendingAccess) (k : ℕ) (x : Item) →
+    IsLawfulLog here log →
+    IsIssuedAt here log one → FollowsDirectly here log one → one.index < k → slice_get log k ≡ Some x →
+    touch_of one.index x ≡ [] →
     (j element cell place bits : ℕ) → slice_get log j ≡ Some (Touch one.index element cell place bits) → j < k
 directly_before here log one k x lawful is direct earlier at plain j element cell place bits e =
     let count = length (pieces_here here one) in
@@ -149,7 +162,8 @@ directly_before here log one k x lawful is direct earlier at plain j element cel
       | inr late ↦
           let from = get_dropped count (j - (one.index + 1 + count)) (j - (one.index + 1)) rest (omega (arith, late)) in
           let base = get_dropped (one.index + 1) (j - (one.index + 1)) j log (omega (arith, late)) in
-          absurd (untouched_have_none one.index (drop count rest) (j - (one.index + 1 + count)) element cell place bits none (from ∙ base ∙ e))
+          absurd (untouched_have_none one.index (drop count rest)
+          (j - (one.index + 1 + count)) element cell place bits none (from ∙ base ∙ e))
       | inl soon ↦ elim (cases_lt k (one.index + 1 + count)) [
         | inr past ↦ omega (arith, soon, past)
         | inl within ↦
