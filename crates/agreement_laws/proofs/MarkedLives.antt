@@ -1,5 +1,5 @@
 -- The log of a rank is marked through its whole history.
-use Rattle.std.proofs.Common.{◌≡◌, ℕ, zero, suc, ◌+◌, inl, inr, List, [], ◌∷◌, ◌++◌, length, Option, Some, None, refl, ap, sym, ◌∙◌, subst, arith, append_assoc, length-append}
+use Rattle.std.proofs.Common.{true, ◌≡◌, ℕ, zero, suc, ◌+◌, inl, inr, List, [], ◌∷◌, ◌++◌, length, Option, Some, None, refl, ap, sym, ◌∙◌, subst, arith, append_assoc, length-append}
 use Rattle.std.specs.Prelude.{slice_get, remove}
 use Rattle.std.specs.List.{AllByRecursion}
 use Rattle.std.proofs.lemmas.List.{length-map}
@@ -133,7 +133,7 @@ keeps_touches : (stage : Stage) (seed rank : ℕ) (agent : Agent) (known : List 
     Lives stage seed rank agent known lows →
     KeepsTouches stage agent
 keeps_touches stage seed rank agent known lows life =
-    (life_holds stage seed rank (λ (p : Point). KeepsTouches stage p.agent) (touches_kept stage)
+    (life_holds true stage seed rank (λ (p : Point). KeepsTouches stage p.agent) (touches_kept stage)
     (new_touches stage seed rank) agent known lows life).0
 
 pub life_marked : (stage : Stage) (seed rank : ℕ) (agent : Agent) (known : List Put) (lows : Lows) →
@@ -145,8 +145,8 @@ life_marked stage seed rank _ _ _ (Looks agent known others puts lows after life
     (marked_learns (marking_of stage agent known) others lows (life_marked stage seed rank agent known lows life))
 life_marked stage seed rank _ _ _ (Steps agent next known lows after life tries made) =
     let rows = rows_put known in
-    let path = step_path stage agent next rows lows after made in
-    let kept = path_keeps stage (HasMarksAt stage known (length rows)) (marks_kept stage known (length rows))
+    let path = step_path true stage agent next rows lows after made in
+    let kept = path_keeps true stage (HasMarksAt stage known (length rows)) (marks_kept stage known (length rows))
     (point agent rows lows) (point next rows after)
     (inr (
       refl,
