@@ -4,4 +4,5 @@ pub mod Marks
 pub mod MarkMoves
 pub mod MarkedLives
 pub mod OneEdge
+pub mod Splits
 pub mod Agreement

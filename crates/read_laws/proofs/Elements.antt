@@ -37,7 +37,7 @@ use Rattle.read_laws.proofs.Meetings.{is_local_role, meeting}
 use Rattle.read_laws.proofs.Ordered.{before_issue, after_issue}
 use Rattle.read_laws.proofs.Parts.{IsOfTransfer, AreOfTransfers, access_of_touch, IsPart, part_of, IsUpdateOf, change_is}
 use Rattle.read_laws.proofs.Places.{IsAligned, IsElement, element_of, piece_aligned, one_element, share_byte}
-use Rattle.read_laws.proofs.Points.{IsAccess, IsTouchBy, access_is, touch_logged}
+use Rattle.read_laws.proofs.Steps.{IsAccess, IsTouchBy, access_is, touch_logged}
 use Rattle.read_laws.proofs.Touches.{touch_is}
 
 -- ---- kinds

@@ -1,19 +1,16 @@
 -- Each access of a lawful run is of a transfer, and lies in the memory of its target.
-use Rattle.std.proofs.Common.{◌≡◌, ℕ, zero, suc, ◌+◌, ◌<◌, ◌≤◌, inl, inr, Bool, true, false, cond, not, List, [], ◌∷◌, ◌++◌, Option, Some, None, refl, ap, sym, ◌∙◌, subst, append_assoc}
+use Rattle.std.proofs.Common.{◌≡◌, ℕ, zero, suc, ◌<◌, inl, inr, Bool, true, false, List, [], ◌∷◌, ◌++◌, Option, Some, None, refl, ap, sym, ◌∙◌, subst, append_assoc}
 use Rattle.std.specs.Prelude.{◌==◌, slice_get}
-use Rattle.std.specs.List.{count_by, flat_map, AllByRecursion}
+use Rattle.std.specs.List.{AllByRecursion}
 use Rattle.std.specs.Option.{option_map_or}
 use Rattle.std.proofs.lemmas.Bool.{not-false}
 use Rattle.std.proofs.lemmas.List.{append-nil}
 use Rattle.rma_types.specs.declared.accesses.Access.{Access}
-use Rattle.rma_types.specs.declared.accesses.Step.{Step}
 use Rattle.rma_types.specs.declared.accesses.Step.TheVariants.{Arrive, One}
 use Rattle.rma_types.specs.declared.calls.Call.{Call}
-use Rattle.rma_types.specs.declared.calls.Flavor.TheVariants.{Dynamic}
 use Rattle.rma_types.specs.declared.classes.Class.{Class}
 use Rattle.rma_types.specs.declared.classes.Class.TheVariants.{Range as RangeClass}
 use Rattle.rma_types.specs.declared.schedules.Delay.{Delay}
-use Rattle.rma_types.specs.declared.scripts.Part.{Part}
 use Rattle.rma_types.specs.declared.scripts.Script.{Script}
 use Rattle.rma_record.specs.declared.items.Item.{Item}
 use Rattle.rma_record.specs.declared.items.Item.TheVariants.{Issue, Null, Flush, Request, Entry, Tested, Refused, Ended}
@@ -22,273 +19,45 @@ use Rattle.board_rules.specs.AttachedRanges.{ranges_attached, reaches_unattached
 use Rattle.board_rules.specs.Board.{Allow, refuse_if, one_refusal, refusal, decision_by, is_allowed_now, decide}
 use Rattle.board_rules.specs.Entries.{Row, acts}
 use Rattle.board_rules.specs.Questions.{Question, question}
-use Rattle.call_rules.specs.Actions.{Moves, Transfer, Own, action_of, transfer_of}
+use Rattle.call_rules.specs.Actions.{Moves, Transfer, Own, transfer_of}
 use Rattle.call_rules.specs.Layout.{layout}
 use Rattle.call_rules.specs.Ranks.{natural}
 use Rattle.call_rules.specs.Transfers.{rank_reached, bytes_of}
 use Rattle.call_rules.specs.WellFormed.{IsWellFormed}
 use Rattle.lawful_runs.specs.BoardLaw.{AreAllowed}
-use Rattle.lawful_runs.specs.CallItems.{untouched, AreItemsOfCourse, AreItemsBy, AreFinished, StandsAt, EndsOrStands, HasItemsOfCalls}
-use Rattle.lawful_runs.specs.Items.{is_touch, number_in}
+use Rattle.lawful_runs.specs.CallItems.{untouched, AreItemsOfCourse, AreFinished, StandsAt, EndsOrStands, HasItemsOfCalls}
+use Rattle.lawful_runs.specs.Items.{is_touch}
 use Rattle.lawful_runs.specs.LawfulRun.{IsLawful, rank_in}
-use Rattle.lawful_runs.specs.Logs.{Named, log_of, calls_of, entries_of, row_by, row_of, rows_of}
-use Rattle.lawful_runs.specs.Stages.{RankOfRun, known_at, shapes_in, first_knowledge, stage_of}
+use Rattle.lawful_runs.specs.Logs.{log_of, calls_of, rows_of}
+use Rattle.lawful_runs.specs.Stages.{known_at}
 use Rattle.rank_rules.specs.Classes.{first_class}
 use Rattle.rank_rules.specs.Courses.{Course, OneNull, OneIssue, LookUpAndIssue, OneFlush, OneRequest, ArriveAndLeave, EntryOrTested, OneEntry, course_of_transfer, course_of_action, course_of, access_on, access_of}
 use Rattle.rank_rules.specs.EpochTests.{epoch_class}
-use Rattle.rank_rules.specs.Knowledge.{Knowledge, own_class, learn, known_after, known_after_call, known_after_number, accepted_by}
+use Rattle.rank_rules.specs.Knowledge.{Knowledge, own_class}
 use Rattle.rank_rules.specs.Ranges.{covers}
 use Rattle.rank_rules.specs.Windows.{Window, window_of_name}
 use Rattle.rank_rules.specs.WindowTests.{place_tests, window_class}
-use Rattle.order_laws.proofs.Events.{AllFrom, IsEntryOf, entries_placed}
-use Rattle.read_laws.proofs.Begun.{IsEntered, entered, rows_in, rows_untouched}
-use Rattle.read_laws.proofs.Firsts.{some_and, AreOfOne, Single, Double, one_call}
+use Rattle.read_laws.proofs.Begun.{IsEntered}
+use Rattle.read_laws.proofs.Firsts.{some_and}
 use Rattle.read_laws.proofs.Known.{AreEntered, IsSound, begun_in, IsOfCallAfter, Refuses, Accepts, of_call_after, known_sound}
 use Rattle.read_laws.proofs.Leaves.{with_touches}
 use Rattle.read_laws.proofs.Lists.{each_append, each_front, each_get, found_is}
 use Rattle.read_laws.proofs.Parts.{IsOfTransfer, AreOfTransfers}
-use Rattle.read_laws.proofs.Points.{access_is}
+use Rattle.read_laws.proofs.Steps.{access_is}
 use Rattle.read_laws.proofs.Touches.{issued_is}
 use Rattle.read_laws.proofs.Transfers.{call_facts}
 use Rattle.step_laws.proofs.CallCourses.{looks_up_dynamic}
-use Rattle.step_laws.proofs.Creations.{HasRoom, IsSoundRow, own_has_room, acts_sound, attached_lie}
+use Rattle.step_laws.proofs.Creations.{IsSoundRow, acts_sound, attached_lie}
 use Rattle.step_laws.proofs.Flavors.{AreRegular}
-use Rattle.step_laws.proofs.Memory.{space_has_memory}
 use Rattle.step_laws.proofs.OwnRoom.{IsRoomyWindow, right_place, access_lies, looked_up_lies}
 use Rattle.step_laws.proofs.OwnTests.{HasIssue, moves_it, transfer_with_issue, access_is as access_on_is, windows_allow, epochs_allow, transfer_passed}
-use Rattle.step_laws.proofs.Sound.{regular_push, space_stays}
-use Rattle.step_laws.specs.Inside.{bytes_at, LiesInMemory}
-
--- ---- the space of a rank
-
-number_space : (shapes : ℕ → List Part) (calls : List Call) (known : Knowledge) (number : ℕ) →
-    (known_after_number shapes calls known number).windows.space ≡ known.windows.space
-number_space shapes calls known number = by_call (slice_get calls number)
-  where
-    by_call : (o : Option Call) →
-        (option_map_or (known_after_call shapes known number) o known).windows.space ≡ known.windows.space
-    by_call None = refl
-    by_call (Some call) = space_stays shapes known.windows (action_of call)
-
-item_space : (shapes : ℕ → List Part) (calls : List Call) (known : Knowledge) (item : Item) →
-    (learn shapes calls known item).windows.space ≡ known.windows.space
-item_space shapes calls known item = by_number (accepted_by calls item)
-  where
-    by_number : (o : Option ℕ) →
-        (option_map_or (known_after_number shapes calls known) o known).windows.space ≡ known.windows.space
-    by_number None = refl
-    by_number (Some number) = number_space shapes calls known number
-
-items_space : (shapes : ℕ → List Part) (calls : List Call) (known : Knowledge) (items : List Item) →
-    (known_after shapes calls known items).windows.space ≡ known.windows.space
-items_space shapes calls known [] = refl
-items_space shapes calls known (item ∷ items) = items_space shapes calls (learn shapes calls known item) items
-    ∙ item_space shapes calls known item
-
--- ---- the entries
-
--- what an entry's call names lies in its rank's memory
-abbrev EntryHasRoom : Script → ℕ → Item → Type 0
-EntryHasRoom script rank item = (number place : ℕ) (step : Step) → item ≡ Entry number place step → (call : Call) →
-    slice_get (calls_of script rank) number ≡ Some call → HasRoom (bytes_at (layout script) rank) (action_of call)
-
-one_room : (script : Script) (rank number : ℕ) (call : Call) (x : Item) →
-    slice_get (calls_of script rank) number ≡ Some call →
-    HasRoom (bytes_at (layout script) rank) (action_of call) → number_in x ≡ Some number → EntryHasRoom script rank x
-one_room script rank number call x of room is other place step e found at =
-    let same : Some number ≡ Some other = sym is ∙ ap number_in e in
-    let number_is : number ≡ other = cc same in
-    let both : Some call ≡ Some found = sym of ∙ ap (slice_get (calls_of script rank)) number_is ∙ at in
-    let call_is : call ≡ found = cc both in
-    subst (λ c. HasRoom (bytes_at (layout script) rank) (action_of c)) call_is room
-
-block_room : (script : Script) (rank number : ℕ) (call : Call) (items : List Item) →
-    slice_get (calls_of script rank) number ≡ Some call →
-    HasRoom (bytes_at (layout script) rank) (action_of call) → AreOfOne number items →
-    AllByRecursion (EntryHasRoom script rank) items
-block_room script rank number call items of room (Single x of_x) = (one_room script rank number call x of room of_x, tt)
-block_room script rank number call items of room (Double x y of_x of_y plain) =
-    (one_room script rank number call x of room of_x, (one_room script rank number call y of room of_y, tt))
-
-no_room : (script : Script) (rank : ℕ) (items : List Item) (x : Item) → items ≡ x ∷ [] →
-    ((number place : ℕ) (step : Step) → x ≡ Entry number place step → ⊥) →
-    AllByRecursion (EntryHasRoom script rank) items
-no_room script rank items x is none =
-    subst (AllByRecursion (EntryHasRoom script rank)) (sym is)
-    (λ number place step e. absurd (none number place step e), tt)
+use Rattle.step_laws.specs.Inside.{LiesInMemory}
+use Rattle.read_laws.proofs.EntriesInMemory.{rows_sound, regular, all_entered}
 
 module _ (script : Script) (delay : Delay) (run : Run) (formed : IsWellFormed script)
     (lawful : IsLawful script delay run) where
-  abbrev here_at : ℕ → RankOfRun
-  here_at rank = rank_in script delay run rank
-
-  space_at : (rank : ℕ) (items : List Item) → rank < script.ranks →
-      (known_at (here_at rank) items).windows.space ≤ bytes_at (layout script) rank
-  space_at rank items within =
-      subst (λ n. n ≤ bytes_at (layout script) rank)
-      (sym (items_space (shapes_in (stage_of script delay) (rows_of script run)) (calls_of script rank)
-      (first_knowledge (stage_of script delay) rank) items))
-      (space_has_memory script rank (subst (λ n. rank < n) (sym formed.spaces) within)
-      (subst (λ n. rank < n) (sym formed.lists) within))
-
-  class_room : (rank : ℕ) (before : List Item) (number : ℕ) (call : Call) (o : Option Class) (items : List Item) →
-      rank < script.ranks →
-      slice_get (calls_of script rank) number ≡ Some call → own_class (known_at (here_at rank) before) call ≡ o →
-      AreItemsBy o (known_at (here_at rank) before) number call items → AreOfOne number items →
-      AllByRecursion (EntryHasRoom script rank) items
-  class_room rank before number call (Some class) items within of own h one =
-      no_room script rank items (Refused number class 0) h (λ n p s e. cc e)
-  class_room rank before number call None items within of own (inl refused) one =
-      no_room script rank items (Refused number refused.1 (suc refused.2)) refused.3 (λ n p s e. cc e)
-  class_room rank before number call None items within of own (inr accepted) one =
-      block_room script rank number call items of
-      (own_has_room (known_at (here_at rank) before) (bytes_at (layout script) rank) call
-      (space_at rank before within) own) one
-
-  finished_room : (rank number : ℕ) (items : List Item) → rank < script.ranks →
-      AreFinished (here_at rank) number items →
-      AllByRecursion (EntryHasRoom script rank) items
-  finished_room rank zero items within h = subst (AllByRecursion (EntryHasRoom script rank)) (sym h) tt
-  finished_room rank (suc number) items within (before, last, is, earlier, of) =
-      let call = some_and (slice_get (calls_of script rank) number) of in
-      subst (AllByRecursion (EntryHasRoom script rank)) (sym is)
-      (each_append (EntryHasRoom script rank) before last (finished_room rank number before within earlier)
-      (class_room rank before number call.0 (own_class (known_at (here_at rank) before) call.0) last within call.1
-      refl call.2
-      (one_call (here_at rank) before number last of)))
-
-  standing_room : (rank : ℕ) (before : List Item) (number : ℕ) (call : Call) (rest : List Item) → rank < script.ranks →
-      slice_get (calls_of script rank) number ≡ Some call → StandsAt (here_at rank) before number call rest →
-      AllByRecursion (EntryHasRoom script rank) rest
-  standing_room rank before number call rest within of (own, inl none) =
-      subst (AllByRecursion (EntryHasRoom script rank)) (sym none.0) tt
-  standing_room rank before number call rest within of (own, inr arrived) =
-      subst (AllByRecursion (EntryHasRoom script rank)) (sym arrived.1)
-      (block_room script rank number call (Entry number arrived.0 Arrive ∷ []) of
-      (own_has_room (known_at (here_at rank) before) (bytes_at (layout script) rank) call
-      (space_at rank before within) own)
-      (Single (Entry number arrived.0 Arrive) refl))
-
-  ending_room : (rank : ℕ) (before : List Item) (number : ℕ) (rest : List Item) → rank < script.ranks →
-      EndsOrStands (here_at rank) before number rest →
-      AllByRecursion (EntryHasRoom script rank) rest
-  ending_room rank before number rest within (inl ended) = no_room script rank rest Ended ended.1 (λ n p s e. cc e)
-  ending_room rank before number rest within (inr stands) =
-      let call = some_and (slice_get (calls_of script rank) number) stands in
-      standing_room rank before number call.0 rest within call.1 call.2
-
-  log_room : (rank : ℕ) → rank < script.ranks → AllByRecursion (EntryHasRoom script rank) (log_of run rank)
-  log_room rank within = with_touches (EntryHasRoom script rank) no_touch (log_of run rank)
-      (by_calls (lawful.logs rank within).calls)
-    where
-      no_touch : (x : Item) → is_touch x ≡ true → EntryHasRoom script rank x
-      no_touch x touch number place step e = absurd (cc (touch, ap is_touch e))
-
-      by_calls : HasItemsOfCalls (here_at rank) (untouched (log_of run rank)) →
-          AllByRecursion (EntryHasRoom script rank) (untouched (log_of run rank))
-      by_calls (number, before, rest, is, finished, end) =
-          subst (AllByRecursion (EntryHasRoom script rank)) (sym is)
-          (each_append (EntryHasRoom script rank) before rest (finished_room rank number before within finished)
-          (ending_room rank before number rest within end))
-
-  entries_sound : (at : ℕ) (xs : List Named) → AllFrom (IsEntryOf script run) at xs →
-      AllByRecursion (IsSoundRow script) (flat_map (row_of script) xs)
-  unfolding AllFrom
-  entries_sound at [] all = tt
-  entries_sound at (x ∷ xs) all =
-      let e = all.0 in
-      let row : row_of script x ≡ record { rank = x.id.rank; number = e.number; call = e.call; step = e.step } ∷ [] =
-      ap (row_by script x.id.rank) e.is
-      ∙ ap (λ o. option_map_or (λ call. record {
-        rank = x.id.rank;
-        number = e.number;
-        call = call;
-        step = e.step;
-      } ∷ []) o []) e.of_rank in
-      subst (λ l. AllByRecursion (IsSoundRow script) (l ++ flat_map (row_of script) xs)) (sym row) (
-        record {
-          inside = e.within;
-          here = e.of_rank;
-          room = each_get (EntryHasRoom script x.id.rank) (log_of run x.id.rank) x.id.index x.item
-              (log_room x.id.rank e.within) e.logged
-              e.number at e.step e.is e.call e.of_rank;
-        },
-        entries_sound (at + 1) xs all.1,
-      )
-
-  rows_sound : AllByRecursion (IsSoundRow script) (rows_of script run)
-  rows_sound = entries_sound 0 (entries_of run) (entries_placed script run lawful.ranks lawful.board.entries)
-
-  regular_all : (before rows : List Row) → AreRegular script before → AllByRecursion (IsSoundRow script) rows →
-      AreAllowed script.ranks before rows →
-      AreRegular script (before ++ rows)
-  regular_all before [] regular sound allowed = subst (AreRegular script) (sym (append-nil before)) regular
-  regular_all before (row ∷ rows) regular sound allowed =
-      subst (AreRegular script) (append_assoc before (row ∷ []) rows)
-      (regular_all (before ++ row ∷ []) rows (regular_push script before row formed regular sound.0 allowed.0) sound.1
-      allowed.1)
-
-  regular : AreRegular script (rows_of script run)
-  regular = regular_all [] (rows_of script run)
-      (record { sound = tt; numbered = tt; flavors = λ window. (Dynamic, tt) }) rows_sound lawful.board.allowed
-
-  -- ---- the entries of a rank without its touches
-
-  split_untouched : (log xs ys : List Item) (item : Item) → is_touch item ≡ false → untouched log ≡ xs ++ item ∷ ys →
-      (front back : List Item) × (log ≡ front ++ item ∷ back) × (untouched front ≡ xs)
-  split_untouched [] [] ys item plain e = absurd (cc e)
-  split_untouched [] (x ∷ xs) ys item plain e = absurd (cc e)
-  split_untouched (z ∷ log) xs ys item plain e =
-      by_test (is_touch z) refl (λ xs' e'. split_untouched log xs' ys item plain e') e
-    where
-      grown : (front back : List Item) → is_touch z ≡ true → log ≡ front ++ item ∷ back → untouched front ≡ xs →
-          (front' back' : List Item) × (z ∷ log ≡ front' ++ item ∷ back') × (untouched front' ≡ xs)
-      grown front back touch is same = (
-        z ∷ front,
-        back,
-        ap (λ l. z ∷ l) is,
-        ap (λ b. cond (not b) (z ∷ untouched front) (untouched front)) touch
-            ∙ same,
-      )
-
-      kept : is_touch z ≡ false → (xs' : List Item) → xs ≡ z ∷ xs' →
-          ((front back : List Item) × (log ≡ front ++ item ∷ back) × (untouched front ≡ xs')) →
-          (front' back' : List Item) × (z ∷ log ≡ front' ++ item ∷ back') × (untouched front' ≡ xs)
-      kept other xs' is (front, back, split, same) = (
-        z ∷ front,
-        back,
-        ap (λ l. z ∷ l) split,
-        ap (λ b. cond (not b) (z ∷ untouched front) (untouched front)) other ∙ ap (λ l. z ∷ l) same ∙ sym is,
-      )
-
-      by_list : (l : List Item) → xs ≡ l → is_touch z ≡ false → z ∷ untouched log ≡ l ++ item ∷ ys →
-          ((xs' : List Item) → untouched log ≡ xs' ++ item ∷ ys →
-          (front back : List Item) × (log ≡ front ++ item ∷ back) × (untouched front ≡ xs')) →
-          (front' back' : List Item) × (z ∷ log ≡ front' ++ item ∷ back') × (untouched front' ≡ xs)
-      by_list [] is other e later = let same : z ≡ item = cc e in ([], log, ap (λ i. i ∷ log) same, sym is)
-      by_list (x ∷ xs') is other e later =
-          let same : z ≡ x = cc e in kept other xs' (is ∙ ap (λ i. i ∷ xs') (sym same)) (later xs' (cc e))
-
-      by_test : (b : Bool) → is_touch z ≡ b →
-          ((xs' : List Item) → untouched log ≡ xs' ++ item ∷ ys →
-          (front back : List Item) × (log ≡ front ++ item ∷ back) × (untouched front ≡ xs')) →
-          cond (not b) (z ∷ untouched log) (untouched log) ≡ xs ++ item ∷ ys →
-          (front' back' : List Item) × (z ∷ log ≡ front' ++ item ∷ back') × (untouched front' ≡ xs)
-      by_test true touch later e = let one = later xs e in grown one.0 one.1 touch one.2 one.3
-      by_test false other later e = by_list xs refl other e later
-
-  all_entered : (rank : ℕ) (within : rank < script.ranks) →
-      AreEntered script delay run formed lawful regular rank within (untouched (log_of run rank))
-  all_entered rank within xs ys number place step call e of =
-      let split = split_untouched (log_of run rank) xs ys (Entry number place step) refl e in
-      let one = entered script delay run lawful rank number place step call split.0 split.1 within split.2 of in
-      record {
-        before = one.before;
-        rest = one.rest;
-        split = one.split;
-        counts = λ p others. one.counts p others
-            ∙ ap (count_by p) (rows_untouched script rank split.0 ∙ ap (rows_in script rank) split.3);
-      }
+  abbrev entries : AreRegular script (rows_of script run)
+  entries = regular script delay run formed lawful
 
   -- ---- accesses
 
@@ -314,7 +83,7 @@ module _ (script : Script) (delay : Delay) (run : Run) (formed : IsWellFormed sc
 
   module _ (rank : ℕ) (within : rank < script.ranks) where
     abbrev Sound : Knowledge → (ℕ → ℕ) → Type 0
-    Sound known begun = IsSound script delay run formed lawful regular rank within known begun
+    Sound known begun = IsSound script delay run formed lawful entries rank within known begun
 
     -- the access of an accepted transfer, given that it lies in memory on its window
     told : (known : Knowledge) (begun : ℕ → ℕ) (call : Call) (access : Access) → Sound known begun →
@@ -394,7 +163,7 @@ module _ (script : Script) (delay : Delay) (run : Run) (formed : IsWellFormed sc
         (attached_lie script (acts entry.before) (rank_reached known.windows.rank t.0.target) q.window
         (acts_sound script entry.before
         (each_front (IsSoundRow script) entry.before _
-        (subst (AllByRecursion (IsSoundRow script)) entry.split rows_sound))))
+        (subst (AllByRecursion (IsSoundRow script)) entry.split (rows_sound script delay run formed lawful)))))
         (subst (λ r. covers (ranges_attached (acts entry.before) (rank_reached r t.0.target) q.window)
         (natural t.0.disp) (bytes_of t.0) ≡ true)
         (sym sound.mine) covered))
@@ -444,8 +213,8 @@ module _ (script : Script) (delay : Delay) (run : Run) (formed : IsWellFormed sc
 
     course_told : (known : Knowledge) (before rest items : List Item) (number : ℕ) (call : Call) (course : Course) →
         Sound known
-        (begun_in script delay run formed lawful regular rank within before) →
-        AreEntered script delay run formed lawful regular rank within (before ++ (items ++ rest)) →
+        (begun_in script delay run formed lawful entries rank within before) →
+        AreEntered script delay run formed lawful entries rank within (before ++ (items ++ rest)) →
         own_class known call ≡ None →
         slice_get (calls_of script rank) number ≡ Some call → course_of known.windows call ≡ course →
         AreItemsOfCourse course known number call items → AllByRecursion (IssueIsTold rank) items
@@ -482,42 +251,43 @@ module _ (script : Script) (delay : Delay) (run : Run) (formed : IsWellFormed sc
     course_told known before rest items number call OneEntry sound enter own of is (place, e) =
         none_issues items (Entry number place One) e (λ n a same. cc same)
 
-    call_told : (before rest items : List Item) (number : ℕ) (call : Call) → Sound (known_at (here_at rank) before)
-        (begun_in script delay run formed lawful regular rank within before) →
-        AreEntered script delay run formed lawful regular rank within (before ++ (items ++ rest)) →
+    call_told : (before rest items : List Item) (number : ℕ) (call : Call) →
+        Sound (known_at (rank_in script delay run rank) before)
+        (begun_in script delay run formed lawful entries rank within before) →
+        AreEntered script delay run formed lawful entries rank within (before ++ (items ++ rest)) →
         slice_get (calls_of script rank) number ≡ Some call →
-        IsOfCallAfter script delay run formed lawful regular rank within
-        (known_at (here_at rank) before) number call items →
+        IsOfCallAfter script delay run formed lawful entries rank within
+        (known_at (rank_in script delay run rank) before) number call items →
         AllByRecursion (IssueIsTold rank) items
     call_told before rest items number call sound enter of (Refuses item class seen is) =
         none_issues items (Refused number class seen) is (λ n a e. cc e)
     call_told before rest items number call sound enter of (Accepts own accepted) =
-        course_told (known_at (here_at rank) before) before rest items number call
-        (course_of (known_at (here_at rank) before).windows call)
+        course_told (known_at (rank_in script delay run rank) before) before rest items number call
+        (course_of (known_at (rank_in script delay run rank) before).windows call)
         sound enter own of refl accepted
 
-    finished_told : (number : ℕ) (items rest : List Item) → AreFinished (here_at rank) number items →
-        AreEntered script delay run formed lawful regular rank within (items ++ rest) →
+    finished_told : (number : ℕ) (items rest : List Item) → AreFinished (rank_in script delay run rank) number items →
+        AreEntered script delay run formed lawful entries rank within (items ++ rest) →
         AllByRecursion (IssueIsTold rank) items
     finished_told zero items rest h enter = subst (AllByRecursion (IssueIsTold rank)) (sym h) tt
     finished_told (suc number) items rest (before, last, is, earlier, of) enter =
-        let enter' = subst (AreEntered script delay run formed lawful regular rank within) (ap (λ l. l ++ rest) is
+        let enter' = subst (AreEntered script delay run formed lawful entries rank within) (ap (λ l. l ++ rest) is
         ∙ append_assoc before last rest) enter in
-        let sound = known_sound script delay run formed lawful regular rank within number before
+        let sound = known_sound script delay run formed lawful entries rank within number before
         (last ++ rest) earlier enter' in
-        let one = of_call_after script delay run formed lawful regular rank within before number last of in
+        let one = of_call_after script delay run formed lawful entries rank within before number last of in
         subst (AllByRecursion (IssueIsTold rank)) (sym is)
         (each_append (IssueIsTold rank) before last (finished_told number before (last ++ rest) earlier enter')
         (call_told before rest last number one.0 sound enter' one.1 one.2))
 
     ending_told : (before : List Item) (number : ℕ) (rest : List Item) →
-        EndsOrStands (here_at rank) before number rest →
+        EndsOrStands (rank_in script delay run rank) before number rest →
         AllByRecursion (IssueIsTold rank) rest
     ending_told before number rest (inl ended) = none_issues rest Ended ended.1 (λ n a e. cc e)
     ending_told before number rest (inr stands) =
         let call = some_and (slice_get (calls_of script rank) number) stands in by_standing call.0 call.2
       where
-        by_standing : (call : Call) → StandsAt (here_at rank) before number call rest →
+        by_standing : (call : Call) → StandsAt (rank_in script delay run rank) before number call rest →
             AllByRecursion (IssueIsTold rank) rest
         by_standing call (own, inl none) = subst (AllByRecursion (IssueIsTold rank)) (sym none.0) tt
         by_standing call (own, inr arrived) = none_issues rest (Entry number arrived.0 Arrive) arrived.1 (λ n a e. cc e)
@@ -528,13 +298,14 @@ module _ (script : Script) (delay : Delay) (run : Run) (formed : IsWellFormed sc
         no_touch : (x : Item) → is_touch x ≡ true → IssueIsTold rank x
         no_touch x touch number access e = absurd (cc (touch, ap is_touch e))
 
-        by_calls : HasItemsOfCalls (here_at rank) (untouched (log_of run rank)) →
+        by_calls : HasItemsOfCalls (rank_in script delay run rank) (untouched (log_of run rank)) →
             AllByRecursion (IssueIsTold rank) (untouched (log_of run rank))
         by_calls (number, before, rest, is, finished, end) =
             subst (AllByRecursion (IssueIsTold rank)) (sym is)
             (each_append (IssueIsTold rank) before rest
             (finished_told number before rest finished
-            (subst (AreEntered script delay run formed lawful regular rank within) is (all_entered rank within)))
+            (subst (AreEntered script delay run formed lawful entries rank within) is
+            (all_entered script delay run formed lawful rank within)))
             (ending_told before number rest end))
 
   call_at : (calls : List Call) (number : ℕ) (t : Transfer) (o : Option Call) → slice_get calls number ≡ o →

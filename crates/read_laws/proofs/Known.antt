@@ -1,11 +1,11 @@
 -- What a rank knows in a lawful run lies in memory: its windows, with the parts that their creations brought, and its
 -- ranges.
-use Rattle.std.proofs.Common.{◌≡◌, ℕ, zero, suc, ◌+◌, ◌<◌, ◌≤◌, ◌⊎◌, inl, inr, Bool, true, false, cond, List, [], ◌∷◌, ◌++◌, Option, Some, None, refl, ap, sym, ◌∙◌, subst, arith, append_assoc}
-use Rattle.std.specs.Prelude.{◌==◌, ◌&&◌, slice_get, is_none, is_some}
+use Rattle.std.proofs.Common.{◌≡◌, ℕ, zero, suc, ◌+◌, ◌<◌, ◌≤◌, ◌⊎◌, inl, inr, true, false, cond, List, [], ◌∷◌, ◌++◌, Option, Some, None, refl, ap, sym, ◌∙◌, subst, arith, append_assoc}
+use Rattle.std.specs.Prelude.{◌==◌, ◌&&◌, slice_get, is_none}
 use Rattle.std.specs.List.{count_by, fold, AllByRecursion}
 use Rattle.std.specs.Option.{option_map_or}
-use Rattle.std.proofs.lemmas.Bool.{eq-eqb, ne_eqb, and_left, and_right}
-use Rattle.std.proofs.lemmas.List.Sums.{sum_by-cons, sum_by-append}
+use Rattle.std.proofs.lemmas.Bool.{ne_eqb, and_left}
+use Rattle.std.proofs.lemmas.List.Sums.{sum_by-append}
 use Rattle.rma_types.specs.declared.accesses.Step.{Step}
 use Rattle.rma_types.specs.declared.accesses.Step.TheVariants.{Arrive, Leave, One}
 use Rattle.rma_types.specs.declared.calls.Call.{Call}
@@ -18,7 +18,7 @@ use Rattle.rma_types.specs.declared.scripts.Script.{Script}
 use Rattle.rma_record.specs.declared.items.Item.{Item}
 use Rattle.rma_record.specs.declared.items.Item.TheVariants.{Null, Flush, Request, Entry, Tested, Refused}
 use Rattle.rma_record.specs.declared.runs.Run.{Run}
-use Rattle.board_rules.specs.Entries.{Row, Act, acts, window_of, is_creation, names_window}
+use Rattle.board_rules.specs.Entries.{Row, Act, acts, window_of, names_window}
 use Rattle.call_rules.specs.Actions.{Creates, Creation, action_of, creation_in, creation_of}
 use Rattle.call_rules.specs.Layout.{layout}
 use Rattle.call_rules.specs.WellFormed.{IsWellFormed}
@@ -36,91 +36,13 @@ use Rattle.read_laws.proofs.Firsts.{some_and}
 use Rattle.step_laws.proofs.CallCourses.{one_entry_moves_none, learns_call}
 use Rattle.step_laws.proofs.Creations.{HasLists, own_has_room, MakesWith, creates_it, parts_fit, parts_by_address}
 use Rattle.step_laws.proofs.EntryMoves.{IsOneEntry}
-use Rattle.step_laws.proofs.Flavors.{AreRegular, begins_by, names_it, is_creation_if, new_number, same_flavor}
+use Rattle.step_laws.proofs.Flavors.{AreRegular, begins_by, is_creation_if, new_number, same_flavor}
 use Rattle.step_laws.proofs.Memory.{space_has_memory}
 use Rattle.step_laws.proofs.OwnRoom.{AreRoomy}
 use Rattle.step_laws.proofs.OwnTests.{HasIssue, transfer_with_issue}
 use Rattle.step_laws.proofs.Sound.{MakesByAddress, windows_stay_roomy, rank_stays, space_stays, name_made, created_grows}
 use Rattle.step_laws.specs.Inside.{bytes_at}
-
--- ---- what one more item teaches
-
-fold_joined : {X Y : Type 0} (f : Y → X → Y) (y : Y) (xs zs : List X) → fold f y (xs ++ zs) ≡ fold f (fold f y xs) zs
-fold_joined f y [] zs = refl
-fold_joined f y (x ∷ xs) zs = fold_joined f (f y x) xs zs
-
--- an accepted call teaches what it does
-accepts : (shapes : ℕ → List Part) (calls : List Call) (known : Knowledge) (number : ℕ) (call : Call) →
-    slice_get calls number ≡ Some call →
-    known_after_number shapes calls known number ≡ known_after_call shapes known number call
-accepts shapes calls known number call of = ap (λ o. option_map_or (known_after_call shapes known number) o known) of
-
--- an entry that does not end its call teaches nothing
-learns_nothing : (shapes : ℕ → List Part) (calls : List Call) (known : Knowledge) (number place : ℕ) (step : Step)
-    (call : Call) →
-    slice_get calls number ≡ Some call → ends_call step call ≡ false →
-    learn shapes calls known (Entry number place step) ≡ known
-learns_nothing shapes calls known number place step call of ends =
-    ap (λ o. option_map_or (known_after_number shapes calls known)
-    (option_map_or (λ (c : Call). cond (ends_call step c) (Some number) None) o None) known) of
-    ∙ ap (λ b. option_map_or (known_after_number shapes calls known) (cond b (Some number) None) known) ends
-
--- ---- the windows that begin
-
-count_joined : (p : Row → Bool) (xs ys : List Row) → count_by p (xs ++ ys) ≡ count_by p xs + count_by p ys
-count_joined p xs ys = sum_by-append (λ y. cond (p y) 1 0) xs ys
-
-one_row : (script : Script) (rank number place : ℕ) (step : Step) (call : Call) →
-    slice_get (calls_of script rank) number ≡ Some call →
-    row_by script rank (Entry number place step) ≡ record {
-      rank = rank;
-      number = number;
-      call = call;
-      step = step;
-    } ∷ []
-one_row script rank number place step call of =
-    ap (λ o. option_map_or (λ c. record { rank = rank; number = number; call = c; step = step } ∷ []) o []) of
-
--- an entry that begins no window
-none_begins : (script : Script) (rank win number place : ℕ) (step : Step) (call : Call) →
-    slice_get (calls_of script rank) number ≡ Some call →
-    ((n : ℕ) → begins_by rank win (record { rank = rank; number = number; call = call; step = step }) ≡ false) →
-    count_by (begins_by rank win) (row_by script rank (Entry number place step)) ≡ 0
-none_begins script rank win number place step call of fails =
-    ap (count_by (begins_by rank win)) (one_row script rank number place step call of)
-    ∙ sum_by-cons (λ y. cond (begins_by rank win y) 1 0)
-    (record { rank = rank; number = number; call = call; step = step }) []
-    ∙ ap (λ b. cond b 1 0 + 0) (fails 0)
-
-not_arrive : (rank win number : ℕ) (call : Call) → (n : ℕ) →
-    begins_by rank win (record { rank = rank; number = number; call = call; step = One }) ≡ false
-not_arrive rank win number call n = and_left (rank == rank && false) (names_window win call)
-    (and_right (rank == rank) false refl)
-
-not_leave : (rank win number : ℕ) (call : Call) → (n : ℕ) →
-    begins_by rank win (record { rank = rank; number = number; call = call; step = Leave }) ≡ false
-not_leave rank win number call n = and_left (rank == rank && false) (names_window win call)
-    (and_right (rank == rank) false refl)
-
--- the Arrive of a call begins the window that the call names, if it makes one
-arrive_begins : (script : Script) (rank win number place : ℕ) (call : Call) →
-    slice_get (calls_of script rank) number ≡ Some call →
-    count_by (begins_by rank win) (row_by script rank (Entry number place Arrive)) ≡ count_by (λ name. name == win)
-    (name_made call)
-arrive_begins script rank win number place call of =
-    ap (count_by (begins_by rank win)) (one_row script rank number place Arrive call of)
-    ∙ sum_by-cons (λ y. cond (begins_by rank win y) 1 0)
-    (record { rank = rank; number = number; call = call; step = Arrive }) []
-    ∙ ap (λ b. cond ((b && is_creation call) && names_window win call) 1 0 + 0) (eq-eqb rank rank refl)
-    ∙ by_creation (creation_of call) refl
-  where
-    by_creation : (o : Option Creation) → creation_of call ≡ o →
-        cond ((true && is_some o) && names_window win call) 1 0 + 0 ≡ count_by (λ name. name == win)
-        (option_map_or (λ (creation : Creation). creation.win ∷ []) o [])
-    by_creation None e = refl
-    by_creation (Some creation) e =
-        ap (λ b. cond b 1 0 + 0) (names_it call creation win e)
-        ∙ sym (sum_by-cons (λ name. cond (name == win) 1 0) creation.win [])
+use Rattle.read_laws.proofs.Lessons.{fold_joined, accepts, learns_nothing, count_joined, none_begins, not_arrive, not_leave, arrive_begins}
 
 module _ (script : Script) (delay : Delay) (run : Run) (formed : IsWellFormed script)
     (lawful : IsLawful script delay run)

@@ -5,11 +5,13 @@ pub mod Changes
 pub mod Folds
 pub mod Counts
 pub mod Elements
+pub mod EntriesInMemory
 pub mod Firsts
 pub mod Lists
 pub mod InMemory
 pub mod Known
 pub mod Leaves
+pub mod Lessons
 pub mod Meetings
 pub mod Names
 pub mod Ordered
@@ -17,6 +19,7 @@ pub mod Orderly
 pub mod Parts
 pub mod Places
 pub mod Points
+pub mod Steps
 pub mod Touches
 pub mod Transfers
 pub mod Values

@@ -33,7 +33,8 @@ use Rattle.order_laws.proofs.Events.{each_in}
 use Rattle.order_laws.proofs.Members.{In, here, there, map_in, filter_in, any_in, in_numbers}
 use Rattle.order_laws.proofs.Order.{transitive, edge_between, event_at}
 use Rattle.read_laws.proofs.Leaves.{step_untouched}
-use Rattle.read_laws.proofs.Points.{IsAccess, IsTouchBy, touch_logged, step_is, before_done}
+use Rattle.read_laws.proofs.Points.{before_done}
+use Rattle.read_laws.proofs.Steps.{IsAccess, IsTouchBy, touch_logged, step_is}
 use Rattle.read_laws.proofs.Touches.{issued_is}
 use Rattle.read_laws.proofs.Waits.{IsIssuedAt, issued_among, directly_before}
 

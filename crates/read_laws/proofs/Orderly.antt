@@ -25,7 +25,7 @@ use Rattle.order_rules.specs.Findings.{findings}
 use Rattle.order_rules.specs.OrderedReads.{TouchesAgree, updates_of, left_before, element_before, ordered_read, touches_by, element_touched, elements_read, is_get_or_load, ReadsInOrder}
 use Rattle.order_laws.proofs.Members.{In, here, there, filter_in}
 use Rattle.read_laws.proofs.Parts.{IsOfTransfer, AreOfTransfers, part_of, touched_whole}
-use Rattle.read_laws.proofs.Points.{access_is}
+use Rattle.read_laws.proofs.Steps.{access_is}
 use Rattle.read_laws.proofs.Touches.{touch_of_rank, touch_of_all, pair_of, is_by, pairs_are, each_read}
 use Rattle.read_laws.proofs.Values.{element_is_left}
 

@@ -23,7 +23,7 @@ use Rattle.rank_rules.specs.declared.pending.PendingAccess.{PendingAccess}
 use Rattle.order_rules.specs.CallSteps.{IssuedAccess, issued_access, accesses_of, accesses_in}
 use Rattle.order_laws.proofs.Events.{each_in}
 use Rattle.order_laws.proofs.Members.{In, in_map, in_numbers}
-use Rattle.read_laws.proofs.Points.{IsAccess, IsTouchBy, touch_logged}
+use Rattle.read_laws.proofs.Steps.{IsAccess, IsTouchBy, touch_logged}
 use Rattle.read_laws.proofs.Touches.{IsTouch, in_flat_map, in_issued, issued_is, touch_among, element_is}
 use Rattle.read_laws.proofs.Transfers.{IsOfCall}
 use Rattle.read_laws.proofs.Waits.{issued_among}

@@ -35,7 +35,7 @@ use Rattle.read_laws.proofs.Meetings.{meeting}
 use Rattle.read_laws.proofs.Ordered.{before_issue, after_issue}
 use Rattle.read_laws.proofs.Parts.{IsOfTransfer, AreOfTransfers, IsPart, no_change}
 use Rattle.read_laws.proofs.Places.{IsAligned, IsElement, LiesIn, element_of, piece_aligned, nested, some_bytes, share_byte}
-use Rattle.read_laws.proofs.Points.{IsAccess, access_is}
+use Rattle.read_laws.proofs.Steps.{IsAccess, access_is}
 
 -- a test that is one or none
 at_most_one : (b : Bool) (n : ℕ) → n ≡ (if b then 1 else 0) → n ≤ 1

@@ -1,0 +1,1 @@
+-- What gets and loads read in the runs that are made.
