@@ -234,7 +234,7 @@ module _ (script : Script) (delay : Delay) (run : Run) (lawful : IsLawful script
       whole =
           let plus : 0 + place ≡ place = omega arith in
           let later : List ℕ = numbers_from (0 + place + 1) (count_by is_some_entry (named_items run) - place - 1) in
-          let here_ : entry_at (named_items run) (0 + place) ≡ entry ∷ [] =
+          let place_here : entry_at (named_items run) (0 + place) ≡ entry ∷ [] =
           ap (entry_at (named_items run)) plus ∙ ap (λ o. option_map_or (λ one. one ∷ []) o []) found in
           let row : row_of script entry ≡ record { rank = rank; number = number; call = call; step = step } ∷ [] =
           ap (λ o. option_map_or (λ c. record { rank = rank; number = number; call = c; step = step } ∷ []) o []) of in
@@ -245,7 +245,7 @@ module _ (script : Script) (delay : Delay) (run : Run) (lawful : IsLawful script
           ∙ flat_joined (row_of script) (first_entries (named_items run) place)
           (entry_at (named_items run) (0 + place) ++ flat_map (entry_at (named_items run)) later)
           ∙ ap (λ l. flat_map (row_of script) (first_entries (named_items run) place) ++ flat_map (row_of script)
-          (l ++ flat_map (entry_at (named_items run)) later)) here_
+          (l ++ flat_map (entry_at (named_items run)) later)) place_here
           ∙ ap (λ l. flat_map (row_of script) (first_entries (named_items run) place) ++
           (l ++ flat_map (row_of script) (flat_map (entry_at (named_items run)) later))) row
 

@@ -225,8 +225,8 @@ module _ (updates : List Touching) (test : Touching → Bool) (are : AreUpdates 
         | inr apart ↦ apart_test (test update) update change bits first count some
             (are.inside update change member.0 some) within apart
         | inl shared ↦
-            let fails_ = fails update change member.0 some (eqb-true update.place k member.1) shared in
-            subst (λ b. DoAgree first count (after_found bits (kept_if b update)) bits) (sym fails_)
+            let refutes = fails update change member.0 some (eqb-true update.place k member.1) shared in
+            subst (λ b. DoAgree first count (after_found bits (kept_if b update)) bits) (sym refutes)
             (λ at low high. refl)
       ]
 

@@ -199,12 +199,12 @@ module _ (script : Script) (delay : Delay) (run : Run) (formed : IsWellFormed sc
     of_issue : (number : ℕ) (call : Call) (access : Access) → slice_get (calls_of script rank) number ≡ Some call →
         IsIssueTold rank access call →
         IssueIsTold rank (Issue number access)
-    of_issue number call access of told_ other access' e found at =
+    of_issue number call access of tells other access' e found at =
         let number_is : number ≡ other = cc e in
-        let access_is_ : access ≡ access' = cc e in
+        let same_access : access ≡ access' = cc e in
         let both : Some call ≡ Some found = sym of ∙ ap (slice_get (calls_of script rank)) number_is ∙ at in
         let call_is : call ≡ found = cc both in
-        subst (IsIssueTold rank access') call_is (subst (λ a. IsIssueTold rank a call) access_is_ told_)
+        subst (IsIssueTold rank access') call_is (subst (λ a. IsIssueTold rank a call) same_access tells)
 
     none_issues : (items : List Item) (x : Item) → items ≡ x ∷ [] →
         ((number : ℕ) (access : Access) → x ≡ Issue number access → ⊥) →
