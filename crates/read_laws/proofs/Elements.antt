@@ -7,7 +7,7 @@ use Rattle.rma_types.specs.declared.accesses.Id.{Id}
 use Rattle.rma_types.specs.declared.accesses.Kind.{Kind}
 use Rattle.rma_types.specs.declared.accesses.Kind.TheVariants.{Get as GetKind, Put as PutKind, Acc as AccKind, Cas as CasKind, Load as LoadKind, Store as StoreKind}
 use Rattle.rma_types.specs.declared.dtypes.Dtype.{Dtype}
-use Rattle.rma_types.specs.declared.findings.Model.TheVariants.{Separate}
+use Rattle.rma_types.specs.declared.findings.Model.{Model}
 use Rattle.rma_types.specs.declared.schedules.Delay.{Delay}
 use Rattle.rma_types.specs.declared.scripts.Script.{Script}
 use Rattle.rma_types.specs.Datatypes.{size_of}
@@ -125,8 +125,8 @@ pub record IsUpdateOn (script : Script) (run : Run) (cell : ℕ) (v : Touching) 
 
 module _ (script : Script) (delay : Delay) (run : Run) (formed : IsWellFormed script)
     (lawful : IsLawful script delay run)
-    (agree : TouchesAgree script run) (before : Id → Id → Bool) (order : IsOrder script run before)
-    (none : findings script run Separate before ≡ []) (each : AreOfTransfers script run) where
+    (agree : TouchesAgree script run) (model : Model) (before : Id → Id → Bool) (order : IsOrder script run before)
+    (none : findings script run model before ≡ []) (each : AreOfTransfers script run) where
   pub update_on : (cell : ℕ) (v : Touching) (change : Change) → In v (updates_of script run cell) →
       v.change ≡ Some change →
       IsUpdateOn script run cell v change
@@ -230,17 +230,17 @@ module _ (script : Script) (delay : Delay) (run : Run) (formed : IsWellFormed sc
           let back = share_byte script x.access.issued.access u.access.issued.access x.t.dtype u.t.dtype w.element
           v.element x.part.piece u.part.piece
           x.is.lies u.is.lies x.element u.element (sym cells) shares.1 shares.0 in
-          elim (meeting script run before order none u.access x.access u.of_run x.of_run differ meet back
+          elim (meeting script run model before order none u.access x.access u.of_run x.of_run differ meet back
           (inl (is_updating cell v c u))
           (own_target u.access u.t u.is) (own_target x.access x.t x.is)) [
             | inl (inl first) ↦ inl (transitive script run v.id x.access.id w.id
-                (before_issue script delay run formed lawful before order u.access x.access v access other_access differ
+                (before_issue script delay run formed lawful model before order u.access x.access v access other_access differ
                 (λ read. absurd (no_read (role_of u.access.issued.access.kind) (is_updating cell v c u) read)) first
                 u.part.by)
                 (after_issue script delay run formed lawful x.access w other_access x.part.by))
             | inl (inr second) ↦
                 let back_before = transitive script run w.id u.access.id v.id
-                (before_issue script delay run formed lawful before order x.access u.access w other_access access
+                (before_issue script delay run formed lawful model before order x.access u.access w other_access access
                 (λ same. differ (sym same))
                 (λ read. absurd (no_read (role_of x.access.issued.access.kind) (is_updating cell w d x) read)) second
                 x.part.by)

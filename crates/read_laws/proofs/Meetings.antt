@@ -13,7 +13,7 @@ use Rattle.rma_types.specs.declared.accesses.Kind.{Kind}
 use Rattle.rma_types.specs.declared.dtypes.Dtype.{Dtype}
 use Rattle.rma_types.specs.declared.dtypes.Dtype.TheVariants.{Int8, Int16, Int32, Uint8, Uint16, Uint32, Byte}
 use Rattle.rma_types.specs.declared.findings.Finding.{Finding}
-use Rattle.rma_types.specs.declared.findings.Model.TheVariants.{Separate}
+use Rattle.rma_types.specs.declared.findings.Model.{Model}
 use Rattle.rma_types.specs.declared.findings.Rule.{Rule}
 use Rattle.rma_types.specs.declared.findings.Rule.TheVariants.{S1, S2, S3}
 use Rattle.rma_types.specs.declared.ops.Op.{Op}
@@ -85,10 +85,10 @@ has_rule pair Load Load overlaps (inl one) = absurd (cc one)
 has_rule pair Load Load overlaps (inr one) = absurd (cc one)
 
 -- where they meet, that rule is the one that forbids them
-rule_meets : (a b : Access) (r s : ℕ) → DoMeet a b →
-    forbidden_kind a r b s Separate ≡ rule_for (pair_of Separate a b (r == s)) (role_of a.kind) (role_of b.kind)
-rule_meets a b r s meet =
-    ap (λ t. cond t (rule_for (pair_of Separate a b (r == s)) (role_of a.kind) (role_of b.kind)) None)
+rule_meets : (model : Model) (a b : Access) (r s : ℕ) → DoMeet a b →
+    forbidden_kind a r b s model ≡ rule_for (pair_of model a b (r == s)) (role_of a.kind) (role_of b.kind)
+rule_meets model a b r s meet =
+    ap (λ t. cond t (rule_for (pair_of model a b (r == s)) (role_of a.kind) (role_of b.kind)) None)
     (and_from (a.target == b.target && nat_lt 0 a.len) (nat_lt 0 b.len)
     (and_from (a.target == b.target) (nat_lt 0 a.len) (eq-eqb a.target b.target meet.target) meet.some_a) meet.some_b)
 
@@ -162,10 +162,10 @@ two_in (there {y = z} m) (there n) = elim (two_in m n) [
 
 -- ---- a pair without a finding
 
-module _ (script : Script) (run : Run) (before : Id → Id → Bool) (order : IsOrder script run before)
-    (none : findings script run Separate before ≡ []) where
+module _ (script : Script) (run : Run) (model : Model) (before : Id → Id → Bool) (order : IsOrder script run before)
+    (none : findings script run model before ≡ []) where
   abbrev judge : IssuedAccess → JudgedAccess
-  judge a = judged Separate before (timeline_of script run) a
+  judge a = judged model before (timeline_of script run) a
 
   -- one of the two is ordered before the other
   abbrev pub AreOrdered : IssuedAccess → IssuedAccess → Type 0
@@ -181,8 +181,8 @@ module _ (script : Script) (run : Run) (before : Id → Id → Bool) (order : Is
   decided false = inr (λ h. cc h)
 
   ordered_or_forbidden : (a b : IssuedAccess) (rule : Rule) →
-      forbidden_kind a.issued.access a.id.rank b.issued.access b.id.rank Separate ≡ Some rule →
-      AreOrdered a b ⊎ (forbidden Separate before (judge a) (judge b) ≡ Some rule)
+      forbidden_kind a.issued.access a.id.rank b.issued.access b.id.rank model ≡ Some rule →
+      AreOrdered a b ⊎ (forbidden model before (judge a) (judge b) ≡ Some rule)
   ordered_or_forbidden a b rule is = elim (decided (is_ordered before (judge a) (judge b))) [
     | inl first ↦ inl (inl first)
     | inr not_first ↦ elim (decided (is_ordered before (judge b) (judge a))) [
@@ -194,14 +194,14 @@ module _ (script : Script) (run : Run) (before : Id → Id → Bool) (order : Is
   ]
 
   no_finding : (a b : IssuedAccess) (rule : Rule) → StandsIn a b (accesses_in script run) →
-      forbidden Separate before (judge a) (judge b) ≡ Some rule → ⊥
+      forbidden model before (judge a) (judge b) ≡ Some rule → ⊥
   no_finding a b rule stands forbids =
-      let split : judged_accesses script run Separate before ≡ map judge stands.0 ++ judge b ∷ map judge stands.1 =
+      let split : judged_accesses script run model before ≡ map judge stands.0 ++ judge b ∷ map judge stands.1 =
       ap (map judge) stands.2 ∙ map-append judge stands.0 (b ∷ stands.1) in
-      let found = complete script run Separate before (map judge stands.0) (judge b) (map judge stands.1) split
+      let found = complete script run model before (map judge stands.0) (judge b) (map judge stands.1) split
       (judge a)
       (in_contains (in_map judge stands.3)) rule forbids in
-      empty (contains_in (findings script run Separate before) found.0 found.1) none
+      empty (contains_in (findings script run model before) found.0 found.1) none
     where
       empty : {x : Finding} {xs : List Finding} → In x xs → xs ≡ [] → ⊥
       empty here e = cc e
@@ -209,7 +209,7 @@ module _ (script : Script) (run : Run) (before : Id → Id → Bool) (order : Is
 
   -- a pair to which a rule applies is ordered one way
   ruled : (a b : IssuedAccess) (rule : Rule) → StandsIn a b (accesses_in script run) →
-      forbidden_kind a.issued.access a.id.rank b.issued.access b.id.rank Separate ≡ Some rule → AreOrdered a b
+      forbidden_kind a.issued.access a.id.rank b.issued.access b.id.rank model ≡ Some rule → AreOrdered a b
   ruled a b rule stands is = elim (ordered_or_forbidden a b rule is) [
     | inl ordered ↦ ordered
     | inr forbids ↦ absurd (no_finding a b rule stands forbids)
@@ -286,10 +286,10 @@ module _ (script : Script) (run : Run) (before : Id → Id → Bool) (order : Is
           AreOfOneDtype a.issued.access.kind b.issued.access.kind) → x.id ≢ y.id →
           AreOrdered a b ⊎ AreOfOneDtype a.issued.access.kind b.issued.access.kind
       by_rule x y stands update meets own_x own_y ordered alike differ =
-          elim (has_rule (pair_of Separate x.issued.access y.issued.access (x.id.rank == y.id.rank))
+          elim (has_rule (pair_of model x.issued.access y.issued.access (x.id.rank == y.id.rank))
           (role_of x.issued.access.kind) (role_of y.issued.access.kind) meets.overlap update) [
             | inl rule ↦ inl (ordered
-                (ruled x y rule.0 stands (rule_meets x.issued.access y.issued.access x.id.rank y.id.rank meets
+                (ruled x y rule.0 stands (rule_meets model x.issued.access y.issued.access x.id.rank y.id.rank meets
                 ∙ rule.1)))
             | inr (inl excepted) ↦ inr
                 (alike (excepted_alike x.issued.access y.issued.access (x.id.rank == y.id.rank) excepted))

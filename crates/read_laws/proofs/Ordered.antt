@@ -7,7 +7,8 @@ use Rattle.std.proofs.lemmas.Option.{slice_get_within}
 use Rattle.rma_types.specs.declared.accesses.Id.{Id}
 use Rattle.rma_types.specs.declared.accesses.Kind.{Kind}
 use Rattle.rma_types.specs.declared.accesses.Kind.TheVariants.{Get as GetKind, Put as PutKind, Acc as AccKind, Cas as CasKind, Load as LoadKind, Store as StoreKind}
-use Rattle.rma_types.specs.declared.findings.Model.TheVariants.{Separate}
+use Rattle.rma_types.specs.declared.findings.Model.{Model}
+use Rattle.rma_types.specs.declared.findings.Model.TheVariants.{Separate, Unified}
 use Rattle.rma_types.specs.declared.schedules.Delay.{Delay}
 use Rattle.rma_types.specs.declared.scripts.Script.{Script}
 use Rattle.rma_record.specs.declared.items.Item.{Item}
@@ -28,7 +29,7 @@ use Rattle.order_rules.specs.DonePoints.{timeline_of, done_points, is_done_at}
 use Rattle.order_rules.specs.Findings.{judged}
 use Rattle.order_rules.specs.Ordered.{points_for, is_ordered}
 use Rattle.order_rules.specs.Roles.{Role, RmaUpdate, RmaRead, Store, Load, role_of, is_rma_read}
-use Rattle.order_rules.specs.VisiblePoints.{takes_in, is_taken_in_at, gives_out, is_given_out_at, separate_points, visible_points}
+use Rattle.order_rules.specs.VisiblePoints.{takes_in, is_taken_in_at, gives_out, is_given_out_at, separate_points, unified_points, visible_points}
 use Rattle.order_laws.proofs.Events.{each_in}
 use Rattle.order_laws.proofs.Members.{In, here, there, map_in, filter_in, any_in, in_numbers}
 use Rattle.order_laws.proofs.Order.{transitive, edge_between, event_at}
@@ -130,7 +131,7 @@ module _ (script : Script) (delay : Delay) (run : Run) (formed : IsWellFormed sc
 
   -- ---- points
 
-  module _ (before : Id → Id → Bool) (order : IsOrder script run before) where
+  module _ (model : Model) (before : Id → Id → Bool) (order : IsOrder script run before) where
     -- each touch of the access is before the points
     abbrev AreAfter : IssuedAccess → List Id → Type 0
     AreAfter a points = (point : Id) → In point points → (u : Touching) → IsTouchBy script run a u →
@@ -185,28 +186,37 @@ module _ (script : Script) (delay : Delay) (run : Run) (formed : IsWellFormed sc
     own_point a local here = inl (refl, local)
     own_point a local (there m) = elim m [ ]
 
-    visible_by : (a : IssuedAccess) (role : Role) → role_of a.issued.access.kind ≡ role →
-        visible_points Separate before (timeline_of script run) a ≡ separate_points before
-        (timeline_of script run) a role
-    visible_by a role is = ap (separate_points before (timeline_of script run) a) is
+    -- the visible points of an update
+    update_visible : (m : Model) (a : IssuedAccess) (point : Id) → IsAccess script run a →
+        (is_rma_read (role_of a.issued.access.kind) ≡ true → a.issued.fetches ≡ true) →
+        role_of a.issued.access.kind ≡ RmaUpdate →
+        In point (visible_points m before (timeline_of script run) a) → IsPoint a point
+    update_visible Separate a point access fetches is m = inr (after_taken a access fetches point
+        (subst (λ role. In point (separate_points before (timeline_of script run) a role)) is m))
+    update_visible Unified a point access fetches is m = inr (after_done a access fetches point
+        (subst (λ role. In point (unified_points (timeline_of script run) a role)) is m))
+
+    -- those of a store
+    store_visible : (m : Model) (a : IssuedAccess) (point : Id) → IsAccess script run a →
+        role_of a.issued.access.kind ≡ Store →
+        In point (visible_points m before (timeline_of script run) a) → IsPoint a point
+    store_visible Separate a point access is m =
+        inr (after_given a access (local_role a.issued.access.kind Store is (inl refl)) point
+        (subst (λ role. In point (separate_points before (timeline_of script run) a role)) is m))
+    store_visible Unified a point access is m = own_point a (local_role a.issued.access.kind Store is (inl refl))
+        (subst (λ role. In point (unified_points (timeline_of script run) a role)) is m)
 
     point_is : (a : IssuedAccess) (role other : Role) (point : Id) → IsAccess script run a →
         (is_rma_read (role_of a.issued.access.kind) ≡ true → a.issued.fetches ≡ true) →
         role_of a.issued.access.kind ≡ role →
-        In point (points_for (judged Separate before (timeline_of script run) a) role other) → IsPoint a point
+        In point (points_for (judged model before (timeline_of script run) a) role other) → IsPoint a point
     point_is a RmaUpdate RmaUpdate point access fetches is m = inr (after_done a access fetches point m)
     point_is a RmaUpdate RmaRead point access fetches is m = inr (after_done a access fetches point m)
-    point_is a RmaUpdate Store point access fetches is m =
-        inr (after_taken a access fetches point (subst (In point) (visible_by a RmaUpdate is) m))
-    point_is a RmaUpdate Load point access fetches is m =
-        inr (after_taken a access fetches point (subst (In point) (visible_by a RmaUpdate is) m))
+    point_is a RmaUpdate Store point access fetches is m = update_visible model a point access fetches is m
+    point_is a RmaUpdate Load point access fetches is m = update_visible model a point access fetches is m
     point_is a RmaRead other point access fetches is m = inr (after_done a access fetches point m)
-    point_is a Store RmaUpdate point access fetches is m =
-        inr (after_given a access (local_role a.issued.access.kind Store is (inl refl)) point
-        (subst (In point) (visible_by a Store is) m))
-    point_is a Store RmaRead point access fetches is m =
-        inr (after_given a access (local_role a.issued.access.kind Store is (inl refl)) point
-        (subst (In point) (visible_by a Store is) m))
+    point_is a Store RmaUpdate point access fetches is m = store_visible model a point access is m
+    point_is a Store RmaRead point access fetches is m = store_visible model a point access is m
     point_is a Store Store point access fetches is m =
         own_point a (local_role a.issued.access.kind Store is (inl refl)) m
     point_is a Store Load point access fetches is m =
@@ -219,13 +229,13 @@ module _ (script : Script) (delay : Delay) (run : Run) (formed : IsWellFormed sc
     pub before_issue : (a b : IssuedAccess) (u : Touching) → IsAccess script run a → IsAccess script run b →
         a.id ≢ b.id →
         (is_rma_read (role_of a.issued.access.kind) ≡ true → a.issued.fetches ≡ true) →
-        is_ordered before (judged Separate before (timeline_of script run) a)
-        (judged Separate before (timeline_of script run) b) ≡ true →
+        is_ordered before (judged model before (timeline_of script run) a)
+        (judged model before (timeline_of script run) b) ≡ true →
         IsTouchBy script run a u → Before script run u.id b.id
     before_issue a b u access other apart fetches ordered by =
         let role = role_of a.issued.access.kind in
         let q = any_in (λ point. before point b.id)
-        (points_for (judged Separate before (timeline_of script run) a) role (role_of b.issued.access.kind)) ordered in
+        (points_for (judged model before (timeline_of script run) a) role (role_of b.issued.access.kind)) ordered in
         let reaches = (order q.0 b.id).0 q.2 in
         elim (point_is a role (role_of b.issued.access.kind) q.0 access fetches refl q.1) [
           | inr after ↦ transitive script run u.id q.0 b.id (after u by) reaches

@@ -5,7 +5,7 @@ use Rattle.std.specs.List.{filter, zip, AllByRecursion}
 use Rattle.std.specs.Option.{option_map_or}
 use Rattle.std.proofs.lemmas.Bool.{eqb-true}
 use Rattle.rma_types.specs.declared.accesses.Id.{Id}
-use Rattle.rma_types.specs.declared.findings.Model.TheVariants.{Separate}
+use Rattle.rma_types.specs.declared.findings.Model.{Model}
 use Rattle.rma_types.specs.declared.schedules.Delay.{Delay}
 use Rattle.rma_types.specs.declared.scripts.Script.{Script}
 use Rattle.rma_record.specs.declared.runs.Run.{Run}
@@ -35,8 +35,8 @@ all_members P (x ∷ xs) each = (each x here, all_members P xs (λ y m. each y (
 
 module _ (script : Script) (delay : Delay) (run : Run) (formed : IsWellFormed script)
     (lawful : IsLawful script delay run)
-    (agree : TouchesAgree script run) (before : Id → Id → Bool) (order : IsOrder script run before)
-    (none : findings script run Separate before ≡ []) (each : AreOfTransfers script run) where
+    (agree : TouchesAgree script run) (model : Model) (before : Id → Id → Bool) (order : IsOrder script run before)
+    (none : findings script run model before ≡ []) (each : AreOfTransfers script run) where
   -- a touch of a get or a load, and its piece
   one_element : (f : IssuedAccess) → In f (accesses_in script run) → is_get_or_load f.issued.access.kind ≡ true →
       (t : Transfer) →
@@ -56,7 +56,7 @@ module _ (script : Script) (delay : Delay) (run : Run) (formed : IsWellFormed sc
       let both : Some part.piece ≡ Some piece =
       sym part.element ∙ ap (slice_get (pieces (layout script) f.issued.access t.dtype)) same_index ∙ at in
       let same : part.piece ≡ piece = cc both in
-      let left = element_is_left script delay run formed lawful agree before order none each f touch (record {
+      let left = element_is_left script delay run formed lawful agree model before order none each f touch (record {
         of_run = of_run;
         listed = touch_of_all script run f.id.rank access.within one.0;
         reads = reads;

@@ -5,7 +5,7 @@ use Rattle.std.specs.List.{filter, count_by}
 use Rattle.std.proofs.lemmas.Bool.{eq-eqb}
 use Rattle.rma_types.specs.declared.accesses.Id.{Id}
 use Rattle.rma_types.specs.declared.dtypes.Dtype.{Dtype}
-use Rattle.rma_types.specs.declared.findings.Model.TheVariants.{Separate}
+use Rattle.rma_types.specs.declared.findings.Model.{Model}
 use Rattle.rma_types.specs.declared.schedules.Delay.{Delay}
 use Rattle.rma_types.specs.declared.scripts.Script.{Script}
 use Rattle.rma_types.specs.Datatypes.{size_of}
@@ -52,8 +52,8 @@ same_eq false h = refl
 
 module _ (script : Script) (delay : Delay) (run : Run) (formed : IsWellFormed script)
     (lawful : IsLawful script delay run)
-    (agree : TouchesAgree script run) (before : Id → Id → Bool) (order : IsOrder script run before)
-    (none : findings script run Separate before ≡ []) (each : AreOfTransfers script run) where
+    (agree : TouchesAgree script run) (model : Model) (before : Id → Id → Bool) (order : IsOrder script run before)
+    (none : findings script run model before ≡ []) (each : AreOfTransfers script run) where
   -- a touch of a get or a load
   pub record IsRead (f : IssuedAccess) (touch : Touching) : Type 0 where
     pub of_run : In f (accesses_in script run)
@@ -105,7 +105,7 @@ module _ (script : Script) (delay : Delay) (run : Run) (formed : IsWellFormed sc
         (role_of f.issued.access.kind) =
         ap (λ p. is_update_role (role_of p.access.kind)) issued in
         cc (
-          is_updating script delay run formed lawful agree before order none each touch.cell v change u,
+          is_updating script delay run formed lawful agree model before order none each touch.cell v change u,
           kinds,
           (read_role f.issued.access.kind read.reads).0,
         )
@@ -126,7 +126,7 @@ module _ (script : Script) (delay : Delay) (run : Run) (formed : IsWellFormed sc
     decided : (v : Touching) (change : Change) → In v updates → v.change ≡ Some change → DoShare change first count →
         IsApart v
     decided v change m some shares =
-        let u = update_on script delay run formed lawful agree before order none each touch.cell v change m some in
+        let u = update_on script delay run formed lawful agree model before order none each touch.cell v change m some in
         let other = access_is script run u.of_run in
         let size : size_of change.dtype ≡ size_of u.t.dtype = ap size_of u.makes.dtype_is in
         let moved = share_moved change.first_byte first (size_of change.dtype) count u.part.piece.first_byte first
@@ -139,19 +139,19 @@ module _ (script : Script) (delay : Delay) (run : Run) (formed : IsWellFormed sc
         let back = share_byte script f.issued.access u.access.issued.access read.t.dtype u.t.dtype touch.element
         v.element read.part.piece
         u.part.piece read.is.lies u.is.lies element u.element (sym cells) moved.1 moved.0 in
-        let updating = is_updating script delay run formed lawful agree before order none each touch.cell v change u in
-        elim (meeting script run before order none u.access f u.of_run read.of_run (differs v change u) meet back
+        let updating = is_updating script delay run formed lawful agree model before order none each touch.cell v change u in
+        elim (meeting script run model before order none u.access f u.of_run read.of_run (differs v change u) meet back
         (inl updating)
-        (own_target script delay run formed lawful agree before order none each u.access u.t u.is)
-        (own_target script delay run formed lawful agree before order none each f read.t read.is)) [
+        (own_target script delay run formed lawful agree model before order none each u.access u.t u.is)
+        (own_target script delay run formed lawful agree model before order none each f read.t read.is)) [
           | inl (inl earlier) ↦
-              let h = before_issue script delay run formed lawful before order u.access f v other access
+              let h = before_issue script delay run formed lawful model before order u.access f v other access
               (differs v change u)
               (λ reads. absurd (no_read (role_of u.access.issued.access.kind) updating reads)) earlier u.part.by in
               inl ((order v.id f.id).1 h, passed v change u some h)
           | inl (inr later) ↦
               let h = transitive script run touch.id u.access.id v.id
-              (before_issue script delay run formed lawful before order f u.access touch access other
+              (before_issue script delay run formed lawful model before order f u.access touch access other
               (λ same. differs v change u (sym same))
               (λ reads. fetches) later read.part.by)
               (after_issue script delay run formed lawful u.access v other u.part.by) in
@@ -188,7 +188,7 @@ module _ (script : Script) (delay : Delay) (run : Run) (formed : IsWellFormed sc
 
     info : (v : Touching) (change : Change) → In v updates → v.change ≡ Some change →
         IsUpdateOn script run touch.cell v change
-    info v change m some = update_on script delay run formed lawful agree before order none each touch.cell v change m
+    info v change m some = update_on script delay run formed lawful agree model before order none each touch.cell v change m
         some
 
     -- an update that passes, and shares a byte of what is read, has a smaller place
@@ -215,7 +215,7 @@ module _ (script : Script) (delay : Delay) (run : Run) (formed : IsWellFormed sc
           let u = info v change m some in
           let x = info from.update from.change from.listed from.some in
           let later = (order from.update.id f.id).0 from.passes in
-          elim (earlier_update script delay run formed lawful agree before order none each touch.cell v from.update
+          elim (earlier_update script delay run formed lawful agree model before order none each touch.cell v from.update
           change from.change u x some from.some
           (omega (arith, from.late)) (omega (arith, shares.1, from.base_is, from.whole_is))
           (omega (arith, shares.0, from.base_is))) [

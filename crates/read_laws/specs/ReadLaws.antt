@@ -2,7 +2,7 @@
 -- this project's profile.
 use Rattle.std.specs.Prelude.{◌≡◌, Bool, [], Some, Contains}
 use Rattle.rma_types.specs.declared.accesses.Id.{Id}
-use Rattle.rma_types.specs.declared.findings.Model.TheVariants.{Separate}
+use Rattle.rma_types.specs.declared.findings.Model.{Model}
 use Rattle.rma_types.specs.declared.schedules.Delay.{Delay}
 use Rattle.rma_types.specs.declared.scripts.Script.{Script}
 use Rattle.rma_record.specs.declared.runs.Run.{Run}
@@ -18,12 +18,12 @@ use Rattle.order_rules.specs.Findings.{findings}
 use Rattle.order_rules.specs.OrderedReads.{TouchesAgree, ReadsInOrder}
 use Rattle.step_laws.specs.Inside.{LiesInMemory}
 
--- Where the touches of a lawful run keep its order, and it has no findings, each get and each load reads what the updates
--- before its Issue leave.
+-- Where the touches of a lawful run keep its order, and it has no findings in some model, each get and each load reads
+-- what the updates before its Issue leave.
 abbrev pub ReadsAreOrdered : Type 0
 ReadsAreOrdered = (script : Script) (delay : Delay) (run : Run) → IsWellFormed script → IsLawful script delay run →
-    TouchesAgree script run → (before : Id → Id → Bool) → IsOrder script run before →
-    findings script run Separate before ≡ [] → ReadsInOrder script run before
+    TouchesAgree script run → (model : Model) (before : Id → Id → Bool) → IsOrder script run before →
+    findings script run model before ≡ [] → ReadsInOrder script run before
 
 -- Each access of a lawful run is one of a transfer of its rank, and lies in the memory of its target, aligned.
 abbrev pub AccessesLieInMemory : Type 0

@@ -2,7 +2,7 @@
 -- profile.
 use Rattle.std.specs.Prelude.{ℕ, ◌≡◌, Bool, []}
 use Rattle.rma_types.specs.declared.accesses.Id.{Id}
-use Rattle.rma_types.specs.declared.findings.Model.TheVariants.{Separate}
+use Rattle.rma_types.specs.declared.findings.Model.{Model}
 use Rattle.rma_types.specs.declared.schedules.Delay.{Delay}
 use Rattle.rma_types.specs.declared.schedules.Order.{Order}
 use Rattle.rma_types.specs.declared.scripts.Script.{Script}
@@ -14,10 +14,10 @@ use Rattle.order_rules.specs.OrderedReads.{TouchesAgree, ReadsInOrder}
 use Rattle.rank_laws.specs.Assembled.{IsAssembled}
 use Rattle.step_runs.specs.StepRun.{step_run}
 
--- where the run has no findings, each get and each load reads what the updates before its Issue leave
+-- where the run has no findings in some model, each get and each load reads what the updates before its Issue leave
 abbrev pub ReadsWithoutFindings : Script → Run → Type 0
-ReadsWithoutFindings script run = (before : Id → Id → Bool) → IsOrder script run before →
-    findings script run Separate before ≡ [] → ReadsInOrder script run before
+ReadsWithoutFindings script run = (model : Model) (before : Id → Id → Bool) → IsOrder script run before →
+    findings script run model before ≡ [] → ReadsInOrder script run before
 
 -- so it is in an assembled run
 abbrev pub AssembledReadsAreOrdered : Type 0
