@@ -234,7 +234,8 @@ module _ (script : Script) (delay : Delay) (run : Run) (formed : IsWellFormed sc
           (inl (is_updating cell v c u))
           (own_target u.access u.t u.is) (own_target x.access x.t x.is)) [
             | inl (inl first) ↦ inl (transitive script run v.id x.access.id w.id
-                (before_issue script delay run formed lawful model before order u.access x.access v access other_access differ
+                (before_issue script delay run formed lawful model before order u.access x.access v access other_access
+                differ
                 (λ read. absurd (no_read (role_of u.access.issued.access.kind) (is_updating cell v c u) read)) first
                 u.part.by)
                 (after_issue script delay run formed lawful x.access w other_access x.part.by))

@@ -126,7 +126,8 @@ module _ (script : Script) (delay : Delay) (run : Run) (formed : IsWellFormed sc
     decided : (v : Touching) (change : Change) → In v updates → v.change ≡ Some change → DoShare change first count →
         IsApart v
     decided v change m some shares =
-        let u = update_on script delay run formed lawful agree model before order none each touch.cell v change m some in
+        let u = update_on script delay run formed lawful agree model before order none each touch.cell v change m some
+        in
         let other = access_is script run u.of_run in
         let size : size_of change.dtype ≡ size_of u.t.dtype = ap size_of u.makes.dtype_is in
         let moved = share_moved change.first_byte first (size_of change.dtype) count u.part.piece.first_byte first
@@ -139,7 +140,8 @@ module _ (script : Script) (delay : Delay) (run : Run) (formed : IsWellFormed sc
         let back = share_byte script f.issued.access u.access.issued.access read.t.dtype u.t.dtype touch.element
         v.element read.part.piece
         u.part.piece read.is.lies u.is.lies element u.element (sym cells) moved.1 moved.0 in
-        let updating = is_updating script delay run formed lawful agree model before order none each touch.cell v change u in
+        let updating = is_updating script delay run formed lawful agree model before order none each touch.cell v
+        change u in
         elim (meeting script run model before order none u.access f u.of_run read.of_run (differs v change u) meet back
         (inl updating)
         (own_target script delay run formed lawful agree model before order none each u.access u.t u.is)
@@ -188,7 +190,8 @@ module _ (script : Script) (delay : Delay) (run : Run) (formed : IsWellFormed sc
 
     info : (v : Touching) (change : Change) → In v updates → v.change ≡ Some change →
         IsUpdateOn script run touch.cell v change
-    info v change m some = update_on script delay run formed lawful agree model before order none each touch.cell v change m
+    info v change m some = update_on script delay run formed lawful agree model before order none each touch.cell v
+        change m
         some
 
     -- an update that passes, and shares a byte of what is read, has a smaller place
@@ -215,7 +218,8 @@ module _ (script : Script) (delay : Delay) (run : Run) (formed : IsWellFormed sc
           let u = info v change m some in
           let x = info from.update from.change from.listed from.some in
           let later = (order from.update.id f.id).0 from.passes in
-          elim (earlier_update script delay run formed lawful agree model before order none each touch.cell v from.update
+          elim (earlier_update script delay run formed lawful agree model before order none each touch.cell v
+          from.update
           change from.change u x some from.some
           (omega (arith, from.late)) (omega (arith, shares.1, from.base_is, from.whole_is))
           (omega (arith, shares.0, from.base_is))) [

@@ -1,5 +1,5 @@
-//! What gets and loads read in the runs that are made, whoever ran the ranks: where a run has no findings, they read what
-//! the updates that are ordered before them leave. As theorems over the definitions.
+//! What gets and loads read in the runs that are made, whoever ran the ranks: where a run has no findings, they read
+//! what the updates that are ordered before them leave. As theorems over the definitions.
 #![tactic(auto)]
 
 ghost use Rattle.value_laws.specs.ValueLaws.{AssembledReadsAreOrdered, StepReadsAreOrdered, StepRunAgrees};
@@ -9,8 +9,8 @@ use assembled_laws::assembled_runs_are_lawful;
 use read_laws::reads_are_ordered;
 use step_histories::step_run_is_assembled;
 
-/// In a run that is assembled from histories, on one thread or many, and has no findings, each get and each load reads
-/// what the updates that are ordered before it leave (MPI 3.1, section 11.7, in this project's profile).
+/// In a run that is assembled from histories, on one thread or many, and has no findings, each get and each load
+/// reads what the updates that are ordered before it leave (MPI 3.1, section 11.7, in this project's profile).
 ///
 /// It is a theorem, and does nothing when it is called.
 pub fn assembled_reads_are_ordered()
@@ -21,8 +21,8 @@ pub fn assembled_reads_are_ordered()
     reads_are_ordered();
 }
 
-/// The touches of the run on one thread keep its order, and where it has no findings, each get and each load reads what
-/// the updates that are ordered before it leave (MPI 3.1, section 11.7, in this project's profile).
+/// The touches of the run on one thread keep its order, and where it has no findings, each get and each load reads
+/// what the updates that are ordered before it leave (MPI 3.1, section 11.7, in this project's profile).
 ///
 /// It is a theorem, and does nothing when it is called.
 pub fn step_reads_are_ordered()
