@@ -1,0 +1,20 @@
+-- What entries gain.
+pub mod Adding
+pub mod DeedKinds
+pub mod EmptyTables
+pub mod Gathered
+pub mod Joined
+pub mod LedgerSlots
+pub mod LockKeys
+pub mod LockSteps
+pub mod MeetEdges
+pub mod MeetLocks
+pub mod MoreEntries
+pub mod PairEdges
+pub mod PlanSteps
+pub mod Putting
+pub mod RoundSteps
+pub mod SideSteps
+pub mod SlotLaws
+pub mod SlotPairs
+pub mod TableSteps

@@ -1,0 +1,9 @@
+-- What entries gain.
+pub mod Deeds
+pub mod Gains
+pub mod Given
+pub mod Kept
+pub mod Ledgers
+pub mod Plans
+pub mod Slots
+pub mod Tables

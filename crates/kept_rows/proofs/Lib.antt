@@ -1,0 +1,5 @@
+-- That entries without the values of their calls are enough.
+pub mod KeptActs
+pub mod KeptAnswers
+pub mod KeptEdges
+pub mod KeptGains
