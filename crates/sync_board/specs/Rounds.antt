@@ -1,5 +1,5 @@
 -- The rounds of the collective calls on one window that a rank has arrived in: MPI 3.1, sections 11.2.1 and 11.5.1.
-use Rattle.std.specs.Prelude.{◌≡◌, ℕ, ◌<◌, List, [], ◌∷◌, ◌++◌, length, Option, Some, None, slice_get, slice_index_or}
+use Rattle.std.specs.Prelude.{◌≡◌, ℕ, List, [], ◌∷◌, ◌++◌, length, Option, Some, None, slice_get}
 use Rattle.std.specs.Option.{option_map, option_map_or}
 use Rattle.rma_types.specs.declared.calls.Asserts.{Asserts}
 use Rattle.rma_types.specs.declared.calls.Call.{Call}
@@ -41,10 +41,6 @@ pub record HasRounds (d : Done) (rounds : Rounds) : Type 0 where
   pub created : AreOf flavor_in rounds.created.items d.creations
   pub freed : rounds.freed ≡ length d.frees
   pub fences : AreOf asserts_in rounds.fences.items d.fences
-
--- a table of the rounds of so many ranks on one window
-abbrev pub AllRounds : ℕ → (ℕ → Done) → List Rounds → Type 0
-AllRounds ranks done_of table = (rank : ℕ) (none : Rounds) → rank < ranks → HasRounds (done_of rank) (slice_index_or table rank none)
 
 -- the collective calls of a kind
 abbrev pub collective_by : Kind → Collective

@@ -102,10 +102,6 @@ pub record Keeps (d : Done) (side : Side) : Type 0 where
 abbrev pub done_at : Question → ℕ → Done
 done_at q rank = done (own q.entries rank q.window)
 
--- a table of 16 sides, one for each rank on one window
-abbrev pub AllKept : (ℕ → Done) → List Side → Type 0
-AllKept done_of sides = (rank : ℕ) (none : Side) → rank < 16 → Keeps (done_of rank) (slice_index_or sides rank none)
-
 -- no member of the group is past the last of 16 ranks
 abbrev pub AreRanks : List ℕ → Type 0
 AreRanks group = (rank : ℕ) → is_member rank group ≡ true → rank < 16

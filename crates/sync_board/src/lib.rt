@@ -3,10 +3,31 @@
 #![tactic(auto)]
 
 mod answers;
+mod asked;
 mod board;
+mod counts;
+mod entering;
+mod grown;
+mod judges;
+mod layouts;
+mod lists;
+mod lock_state;
+mod locks;
+mod made;
 mod matches;
+mod named;
+mod parts;
+mod places;
+mod preparing;
+mod region_table;
+mod regions;
+mod round_table;
 mod rounds;
+mod side_table;
 mod sides;
+mod state;
+mod truths;
+mod window_record;
 
 pub use answers::{Decided, EntryRow};
 pub use board::Board;

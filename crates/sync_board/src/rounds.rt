@@ -7,8 +7,10 @@ ghost use Rattle.board_rules.specs.Entries.{collective_of};
 ghost use Rattle.board_rules.specs.Questions.{Question};
 ghost use Rattle.board_rules.specs.Rounds.{all_arrived, do_asserts_differ, has_other_asserts, has_other_flavor, is_differing_creation, is_differing_fence};
 ghost use Rattle.sync_board.specs.Sides.{Done, done_at};
-ghost use Rattle.sync_board.specs.Rounds.{AllRounds, HasRounds, arrival_in, arrivals_by, asserts_in, collective_by, flavor_in, with_creation, with_fence, with_free};
+ghost use Rattle.sync_board.specs.Rounds.{HasRounds, arrival_in, arrivals_by, asserts_in, flavor_in, with_creation, with_fence, with_free};
+ghost use Rattle.sync_board.specs.Tables.{HasNoRounds};
 
+use crate::grown::Idle;
 use rma_types::{Asserts, Flavor, NoMemory};
 use std::alloc::Global;
 
@@ -44,7 +46,9 @@ fn is_other(a: Flavor, b: Flavor) -> bool
 
 impl Rounds {
     /// A rank that has arrived nowhere.
-    pub(crate) fn new(alloc: Global) -> Rounds {
+    fn new(alloc: Global) -> Rounds
+        ensures { (d : Done) → HasNoRounds d → HasRounds d result }
+    {
         Rounds {
             created: Vec::new(alloc),
             freed: 0,
@@ -53,7 +57,7 @@ impl Rounds {
     }
 
     /// How often the rank has arrived.
-    fn begun(&self, kind: Kind) -> usize
+    pub(crate) fn begun(&self, kind: Kind) -> usize
         ensures { (d : Done) → HasRounds d self.now → result ≡ length (arrivals_by kind d) }
     {
         match kind {
@@ -64,7 +68,7 @@ impl Rounds {
     }
 
     /// The rank has arrived at the fence of the round with other assertions (MPI 3.1, section 11.5.5).
-    fn fence_differs(&self, round: usize, asserts: Asserts) -> bool
+    pub(crate) fn fence_differs(&self, round: usize, asserts: Asserts) -> bool
         ensures { (d : Done) → HasRounds d self.now →
             result ≡ list_any (is_differing_fence asserts) (arrival_in d.fences round) }
     {
@@ -75,7 +79,7 @@ impl Rounds {
     }
 
     /// The rank has arrived at the creation of the round with another flavor.
-    fn creation_differs(&self, round: usize, flavor: Flavor) -> bool
+    pub(crate) fn creation_differs(&self, round: usize, flavor: Flavor) -> bool
         ensures { (d : Done) → HasRounds d self.now →
             result ≡ list_any (is_differing_creation flavor) (arrival_in d.creations round) }
     {
@@ -119,51 +123,10 @@ impl Rounds {
     }
 }
 
-/// Every rank has arrived at the collective calls of the kind as often as this one.
-pub(crate) fn have_all_arrived(table: &[Rounds], kind: Kind, rank: usize) -> bool
-    requires { rank < length table.now }
-    ensures { (q : Question) → q.rank ≡ rank → q.ranks ≡ length table.now →
-        collective_of q.call ≡ Some (collective_by kind) → AllRounds (length table.now) (done_at q) table.now →
-        result ≡ all_arrived q }
-{
-    let begun = table[rank].begun(kind);
-    for rounds in table {
-        let arrived = rounds.begun(kind);
-        if arrived < begun {
-            return false;
-        }
-    }
-    true
-}
+impl Idle for Rounds {
+    ghost is_idle = { λ rounds. (d : Done) → HasNoRounds d → HasRounds d rounds };
 
-/// A rank has arrived at the next fence of this one with other assertions.
-pub(crate) fn has_other_fence(table: &[Rounds], rank: usize, asserts: Asserts) -> bool
-    requires { rank < length table.now }
-    ensures { (q : Question) → q.rank ≡ rank → q.ranks ≡ length table.now →
-        collective_of q.call ≡ Some (collective_by Kind.Fence) → AllRounds (length table.now) (done_at q) table.now →
-        result ≡ has_other_asserts q asserts }
-{
-    let round = table[rank].begun(Kind::Fence);
-    for rounds in table {
-        if rounds.fence_differs(round, asserts) {
-            return true;
-        }
+    fn idle(alloc: Global) -> Rounds {
+        Rounds::new(alloc)
     }
-    false
-}
-
-/// A rank has arrived at this creation with another flavor.
-pub(crate) fn has_other_creation(table: &[Rounds], rank: usize, flavor: Flavor) -> bool
-    requires { rank < length table.now }
-    ensures { (q : Question) → q.rank ≡ rank → q.ranks ≡ length table.now →
-        collective_of q.call ≡ Some (collective_by Kind.Creation) → AllRounds (length table.now) (done_at q) table.now →
-        result ≡ has_other_flavor q flavor }
-{
-    let round = table[rank].begun(Kind::Creation);
-    for rounds in table {
-        if rounds.creation_differs(round, flavor) {
-            return true;
-        }
-    }
-    false
 }

@@ -1,7 +1,9 @@
 //! What one rank has done on one window, in counts and tables (MPI 3.1, section 11.5.2).
 ghost use Rattle.std.specs.Prelude.{◌≡◌, ℕ, ◌+◌, nat_lt, List, [], ◌∷◌, ◌++◌, length, take, IfSome, OnOk, OnErr};
 ghost use Rattle.sync_board.specs.Sides.{CountsGroups, Done, IsGroup, IsRaised, Keeps, with_post, with_start, with_complete, with_wait};
+ghost use Rattle.sync_board.specs.Tables.{HasNoSide};
 
+use crate::grown::Idle;
 use rma_types::NoMemory;
 use std::alloc::Global;
 
@@ -39,7 +41,9 @@ pub(crate) fn raised(counts: &[u32; 16], named: &[bool; 16]) -> Option<[u32; 16]
 
 impl Side {
     /// A rank that has done nothing.
-    pub(crate) fn new(alloc: Global) -> Side {
+    fn new(alloc: Global) -> Side
+        ensures { (d : Done) → HasNoSide d → Keeps d result }
+    {
         Side {
             posts: 0,
             waits: 0,
@@ -135,5 +139,13 @@ impl Side {
     {
         self.waits = self.waits.checked_add(1).ok_or(NoMemory)?;
         Ok(())
+    }
+}
+
+impl Idle for Side {
+    ghost is_idle = { λ side. (d : Done) → HasNoSide d → Keeps d side };
+
+    fn idle(alloc: Global) -> Side {
+        Side::new(alloc)
     }
 }

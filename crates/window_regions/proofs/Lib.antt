@@ -5,4 +5,5 @@ pub mod Counts
 pub mod Indexes
 pub mod Inserted
 pub mod RangeTests
+pub mod RoundsMade
 pub mod Searches

@@ -1,5 +1,5 @@
 -- Where the bytes of a transfer lie, or the class that its place is given: MPI 3.1, sections 11.2 and 11.3.
-use Rattle.std.specs.Prelude.{ℕ, ◌*◌, [], ◌∷◌, Result, Ok, Err, ℤ}
+use Rattle.std.specs.Prelude.{ℕ, ◌*◌, ◌<◌, ◌^◌, [], ◌∷◌, Result, Ok, Err, IfSome, ℤ}
 use Rattle.std.specs.Option.{option_map_or}
 use Rattle.rma_types.specs.declared.classes.Class.{Class}
 use Rattle.rma_types.specs.declared.classes.Class.TheVariants.{Disp, Range as RangeClass}
@@ -7,8 +7,10 @@ use Rattle.rma_types.specs.declared.dtypes.Dtype.{Dtype}
 use Rattle.rma_types.specs.declared.scripts.Part.{Part}
 use Rattle.rma_types.specs.Datatypes.{size_of}
 use Rattle.rank_rules.specs.Classes.{first_class}
-use Rattle.rank_rules.specs.Windows.{no_part}
-use Rattle.rank_rules.specs.WindowTests.{address_in, is_misplaced, passes_end}
+use Rattle.call_rules.specs.Actions.{Transfer}
+use Rattle.call_rules.specs.Transfers.{rank_reached}
+use Rattle.rank_rules.specs.Windows.{Window, RankWindows, window_of_name, no_part}
+use Rattle.rank_rules.specs.WindowTests.{address_in, address_of, is_misplaced, passes_end}
 use Rattle.window_regions.specs.declared.places.Range.{Range}
 
 -- so many elements, from a displacement in a part on
@@ -27,3 +29,8 @@ abbrev pub address_on : ℤ → Dtype → ℕ → Result Range Class
 address_on disp dtype count =
     option_map_or (λ class. Err class) (first_class ((is_misplaced no_part disp dtype, Disp) ∷ []))
     (Ok (elements_in no_part disp dtype count))
+
+-- the transfer's address on its live window is below 2 to 32, and the rank that it reaches below 256
+abbrev pub HasSmallPlace : RankWindows → Transfer → Type 0
+HasSmallPlace known t = (rank_reached known.rank t.target < 256)
+    × IfSome (window_of_name known t.win) (λ window. address_of known window t < 2 ^ 32)

@@ -49,6 +49,13 @@ impl Attached {
         self.ranges.attach(0, base, bytes)
     }
 
+    /// Whether a byte of the range, so many bytes from the base on, lies in one of the ranges.
+    pub fn is_taken(&self, base: u32, bytes: u32) -> bool
+        ensures { result ≡ is_taken self.now (record { base = base; bytes = bytes }) }
+    {
+        self.ranges.is_taken(base, bytes)
+    }
+
     /// The range that begins at the base goes.
     pub fn remove(&mut self, base: u32)
         ensures { self.new ≡ filter (λ range. not (range.base == base)) self.old }

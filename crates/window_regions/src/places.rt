@@ -21,7 +21,7 @@ pub struct Range {
 }
 
 /// The address of a displacement in a part, which counts as 0 where it is below 0.
-fn address_of(part: Part, disp: i32) -> u64
+pub fn address_of(part: Part, disp: i32) -> u64
     ensures value { result ≡ address_in part disp }
     ensures small { result < 2 ^ 63 + 2 ^ 32 }
 {

@@ -1,12 +1,16 @@
 //! What a rank knows of its windows and its ranges: MPI 3.1, sections 11.2 and 11.3.
-ghost use Rattle.std.specs.Prelude.{◌≡◌, ◌≤◌, pos, None, OnOk, OnErr, IfSome};
+ghost use Rattle.std.specs.Prelude.{◌≡◌, ◌<◌, ◌≤◌, [], false, pos, None, OnOk, OnErr, IfSome};
+ghost use Rattle.std.specs.Option.{option_map_or};
+ghost use Rattle.rma_types.specs.declared.calls.Flavor.TheVariants.{Dynamic as DynamicFlavor};
 ghost use Rattle.call_rules.specs.Actions.{action_of, Attaches};
 ghost use Rattle.call_rules.specs.WellFormed.{IsWrittenCall};
 ghost use Rattle.rank_rules.specs.WindowTests as tests;
 ghost use Rattle.rank_rules.specs.Windows as rules;
 ghost use Rattle.window_regions.specs.Shapes.{IsShape};
 ghost use Rattle.window_regions.specs.Places.{place_in};
+ghost use Rattle.window_regions.specs.RoundsMade.{AreRounds, AreFewRounds, with_round};
 
+mod accesses;
 mod classes;
 
 use crate::numbers::count_of;
@@ -17,6 +21,29 @@ use rma_types::{Call, Class, Dtype, Flavor, NoMemory};
 use std::alloc::Global;
 use std::marker::Model;
 
+/// No window of any name.
+fn no_rounds() -> [u32; 32]
+    ensures { AreRounds [] result }
+{
+    [0; 32]
+}
+
+/// How many windows of each name are made, with one more of this name; none where there are too many to number.
+fn next_rounds(rounds: &[u32; 32], win: u8) -> Option<[u32; 32]>
+    requires { AreFewRounds rounds.now }
+    ensures { IfSome result (λ after. (after ≡ with_round rounds.now win) × AreFewRounds after) }
+{
+    let mut after = *rounds;
+    let name = usize::from(win);
+    if name < 32 {
+        if after[name] == 0x07ff_ffff {
+            return None;
+        }
+        after[name] += 1;
+    }
+    Some(after)
+}
+
 /// The rank, the number of ranks, the bytes of the rank's space, its live windows and its ranges.
 #[derive(Debug, Drop)]
 pub struct WindowTable {
@@ -24,6 +51,8 @@ pub struct WindowTable {
     ranks: u8,
     space: u32,
     created: Vec<u8>,
+    /// How many windows of each of the names w0 to w31 the rank has made.
+    rounds: [u32; 32],
     windows: Vec<Window>,
     own: OwnRanges,
 }
@@ -31,6 +60,7 @@ pub struct WindowTable {
 impl Model for WindowTable {
     ghost use Rattle.std.specs.Prelude.{◌<◌, ◌^◌};
     ghost use Rattle.rank_rules.specs.Windows.{RankWindows};
+    ghost use Rattle.window_regions.specs.RoundsMade.{AreRounds};
 
     ghost Value = { RankWindows };
 
@@ -43,7 +73,7 @@ impl Model for WindowTable {
       ranges = t.own;
     } };
 
-    ghost invariant = { λ t. t.space < 2 ^ 32 };
+    ghost invariant = { λ t. (t.space < 2 ^ 32) × AreRounds t.created.items t.rounds };
 }
 
 impl WindowTable {
@@ -56,6 +86,7 @@ impl WindowTable {
             ranks,
             space,
             created: Vec::new(alloc),
+            rounds: no_rounds(),
             windows: Vec::new(alloc),
             own: OwnRanges::new(alloc),
         }
@@ -162,6 +193,14 @@ impl WindowTable {
         }
     }
 
+    /// The number of the next window of this name: 32 times the round of its creation, plus the name.
+    pub fn next_number(&self, win: u8) -> u32
+        requires { win < 32 }
+        ensures { result ≡ rules.next_number self.now.created win }
+    {
+        32 * self.rounds[usize::from(win)] + u32::from(win)
+    }
+
     /// The window of this name and number is made (MPI 3.1, sections 11.2.1, 11.2.2 and 11.2.4). `Err` changes nothing.
     pub fn made(&mut self, win: u8, window: u32, shape: Shape) -> Result<(), NoMemory>
         requires { IsShape shape.flavor shape.parts }
@@ -171,11 +210,15 @@ impl WindowTable {
         if self.created.reserve(1).is_err() || self.windows.reserve(1).is_err() {
             return Err(NoMemory);
         }
+        let Some(rounds) = next_rounds(&self.rounds, win) else {
+            return Err(NoMemory);
+        };
         let flavor = shape.flavor;
         let made = Window::new(win, window, shape);
         let part = made.part(u32::from(self.rank));
         match make_range(&mut self.own, flavor, win, part) {
             Ok(()) => {
+                self.rounds = rounds;
                 self.created.push_reserved(win);
                 self.windows.push_reserved(made);
                 Ok(())
@@ -207,6 +250,17 @@ impl WindowTable {
         ensures { self.new ≡ rules.without_range self.old win base }
     {
         self.own.detach(win, base);
+    }
+
+    /// Whether the live window of this name is dynamic (MPI 3.1, section 11.2.4).
+    pub fn is_dynamic(&self, win: u8) -> bool
+        ensures { result ≡ option_map_or (λ window. rules.is_same_flavor window.flavor DynamicFlavor)
+            (rules.window_of_name self.now win) false }
+    {
+        match self.window(win) {
+            None => false,
+            Some(window) => window.is_dynamic(),
+        }
     }
 
     /// Where so many elements, at most 256, lie at a target of a live window.

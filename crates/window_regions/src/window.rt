@@ -56,6 +56,12 @@ impl Window {
         self.win
     }
 
+    pub fn number(&self) -> u32
+        ensures { result ≡ self.now.number }
+    {
+        self.number
+    }
+
     pub fn is_dynamic(&self) -> bool
         ensures { result ≡ is_same_flavor self.now.flavor DynamicFlavor }
     {

@@ -9,5 +9,5 @@ attach-requires-clause-end c =
     let inside : c.args.base + c.args.bytes ≤ c.args.self.now.space =
     ends_in_space c.args.self.now c.args.win c.args.base c.args.bytes c.requires in
     let same : c.self.inside.space ≡ c.args.self.now.space = ap (λ (known : RankWindows). known.space) c.self.view_is in
-    let low : c.self.inside.space < 4294967296 = c.self.invariant in
+    let low : c.self.inside.space < 4294967296 = c.self.invariant.0 in
     omega arith
