@@ -1,0 +1,2 @@
+-- The canonical text, from tokens to the whole text.
+pub mod Words
