@@ -1,0 +1,3 @@
+-- Parts of lists.
+pub mod Parts
+pub mod Alikes

@@ -1,0 +1,2 @@
+-- Findings of accesses with their points.
+pub mod Alike

@@ -1,0 +1,2 @@
+-- The numbers of windows.
+pub mod Names

@@ -1,0 +1,10 @@
+use Rattle.std.proofs.Common.{◌≡◌}
+use Rattle.std.specs.Prelude.{drop}
+use Rattle.lawful_runs.specs.Logs.{named_in, named_from}
+use Rattle.vector_clocks.specs.Places.{with_items}
+use Rattle.vector_clocks.proofs.places.put_all.Given as goal
+
+-- what is left is put after what was
+abbrev pub invariant-loop-at : goal.invariant-loop-at
+invariant-loop-at l =
+    with_items l.list (named_from l.rank l.at (drop l.at l.items)) ≡ with_items l.fn.list (named_in l.rank l.items)

@@ -1,0 +1,12 @@
+//! Vector clocks of the entries of a run: MPI 3.1, section 11.7, in this project's profile of order.
+#![tactic(auto)]
+
+mod clocks;
+mod marks;
+mod places;
+mod replays;
+#[cfg(test)]
+mod tests;
+
+pub use clocks::clocks_of;
+pub use marks::{Clocks, Mark};
