@@ -1,26 +1,40 @@
 #!/usr/bin/env python3
 """Measures the program over the scripts of the benchmark.
 
-Of 50 runs the mean user time and the least time from start to end, which a busy machine disturbs less; peak memory by
-GNU time.
+Of some runs the least processor time (user and system) and the least time from start to end, which a busy machine
+disturbs less; peak memory by GNU time.
 
-    measure.py [PROGRAM]        by default the one that rt ci leaves; run by hand, not by the gate
+    measure.py [PROGRAM [RUNS]]     by default the program that rt ci leaves, 5 runs; run by hand, not by the gate
 """
 import os
-import re
 import subprocess
 import sys
 import tempfile
 import time
 
+import scripts
+
 HERE = os.path.dirname(os.path.abspath(__file__))
 PROGRAM = os.path.join(HERE, "../crates/rma_runner/out/rma_runner")
-SCRIPTS = [("ones", n) for n in (7500, 15000, 30000, 60000)] + [("wide", n) for n in (475, 950, 1900)]
-RUNS = 50
+# the script, its sizes, and the words of the command line
+CASES = [
+    ("cells", (30720, 61440), ""),
+    ("one_cell", (30000, 60000), ""),
+    ("fences", (16000, 32000), ""),
+    ("barriers", (32768, 65536), ""),
+    ("locks", (8000, 16000), ""),
+    ("rounds", (4800, 9600), ""),
+    ("accumulates", (8000, 16000), ""),
+    ("puts", (7200, 14400), "--delay end"),
+    ("cells", (30720, 61440), "--order seeded --delay seeded"),
+    ("one_cell", (8000, 16000), ""),
+    ("disjoint", (8000, 16000), ""),
+    ("locked_puts", (8000, 16000), ""),
+]
 
 
 def run(words, script, report):
-    """Runs the program once, and returns its user time and its whole time in seconds. It must end with status 0."""
+    """Runs the program once, and returns its processor time and its whole time in seconds."""
     script.seek(0)
     report.seek(0)
     report.truncate()
@@ -28,34 +42,35 @@ def run(words, script, report):
     child = subprocess.Popen(words, stdin=script, stdout=report)
     _, status, used = os.wait4(child.pid, 0)
     end = time.perf_counter()
-    if status != 0:
+    if os.WEXITSTATUS(status) not in (0, 1):
         sys.exit("the program ended with %d" % status)
-    return used.ru_utime, end - begin
+    return used.ru_utime + used.ru_stime, end - begin
 
 
-def peak(program, script, report):
+def peak(program, words, script, report):
     """The program's peak memory in KB. GNU time starts it, since a child of Python's would count Python's own peak."""
     with tempfile.NamedTemporaryFile() as told:
-        run(["/usr/bin/time", "-f", "%M", "-o", told.name, program], script, report)
-        return int(told.read())
+        run(["/usr/bin/time", "-f", "%M", "-o", told.name, program] + words, script, report)
+        return int(told.read().split()[-1])
 
 
 def main():
     program = sys.argv[1] if len(sys.argv) > 1 else PROGRAM
-    print("| script | calls | accesses | touches | entries | user time in ms | whole time in ms | peak memory in MB |")
-    print("|---|---|---|---|---|---|---|---|")
-    for form, size in SCRIPTS:
-        with tempfile.TemporaryFile() as script, tempfile.TemporaryFile() as report:
-            subprocess.run([sys.executable, os.path.join(HERE, "scripts.py"), form, str(size)], stdout=script, check=True)
-            runs = [run([program], script, report) for _ in range(RUNS)]
-            memory = peak(program, script, report) / 1024
-            script.seek(0)
-            calls = len(re.findall(rb"^(?:allocate|fence|put|load) ", script.read(), re.M))
-            report.seek(0)
-            words = report.read().decode().splitlines()[-1].split()
-            user, whole = 1000 * sum(it[0] for it in runs) / RUNS, 1000 * min(it[1] for it in runs)
-            print("| %s %d | %d | %s | %s | %s | %.1f | %.1f | %.1f |" % (
-                form, size, calls, words[2], words[4], words[6], user, whole, memory))
+    runs = int(sys.argv[2]) if len(sys.argv) > 2 else 5
+    print("| script | words | accesses | touches | entries | findings | processor time in ms | whole time in ms | peak memory in MB |")
+    print("|---|---|---|---|---|---|---|---|---|")
+    for name, sizes, words in CASES:
+        for size in sizes:
+            with tempfile.TemporaryFile() as script, tempfile.TemporaryFile() as report:
+                script.write(scripts.text(name, size).encode())
+                script.flush()
+                took = [run([program] + words.split(), script, report) for _ in range(runs)]
+                memory = peak(program, words.split(), script, report) / 1024
+                report.seek(0)
+                last = report.read().decode().splitlines()[-1].split()
+                print("| %s %d | %s | %s | %s | %s | %s | %.1f | %.1f | %.1f |" % (
+                    name, size, words, last[2], last[4], last[6], last[10],
+                    1000 * min(it[0] for it in took), 1000 * min(it[1] for it in took), memory), flush=True)
 
 
 if __name__ == "__main__":

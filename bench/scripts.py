@@ -1,45 +1,105 @@
 #!/usr/bin/env python3
 """Writes one of the scripts of the benchmark to standard output.
 
-    scripts.py ones CALLS       16 ranks, about CALLS calls: puts of one value, loads and fences
-    scripts.py wide PUTS        16 ranks, PUTS puts of 256 values between two fences
+    scripts.py NAME SIZE
 
-A script has at most 1,048,576 bytes, and the shortest put of one value takes 19 of them. So `ones` keeps numbers to
-one digit and makes one call of seven a fence: `ones 60000` then has 1,045,039 bytes. `wide` has room for 1,900 puts.
+Each has 16 ranks. SIZE is about the number of calls of the kind that NAME says, over all ranks; a text has at most
+1,048,576 bytes and a script at most 65,536 calls.
+
+    cells         fetch-and-ops on 1,024 cells of a rank
+    one_cell      fetch-and-ops on one cell
+    fences        fences
+    barriers      barriers
+    locks         a lock, a fetch-and-op and an unlock on one target, SIZE times
+    rounds        post, start, put, complete and wait on a ring, SIZE times
+    accumulates   accumulates of 256 values
+    puts          puts of one value to the next rank, each to its own cell, between two fences
+    disjoint      puts of one value to rank 0, each to its own cell, under a lock_all
+    locked_puts   a lock, a put and an unlock on one cell, SIZE times
 """
 import sys
 
 RANKS = 16
-UNITS = 1024
+EVERY = " ".join(str(rank) for rank in range(RANKS))
 
 
-def ones(calls):
-    """The calls of each rank: an allocate, rounds of a fence, five puts and a load, and two fences."""
-    rounds = (calls // RANKS - 3) // 7
+def each(calls):
+    """One block of calls for all ranks."""
+    return ["rank " + EVERY] + calls
+
+
+def repeated(times, calls):
+    return ["repeat %d" % times] + calls + ["end"]
+
+
+def cells(size):
+    block = ["fop w0 %d %d int32 sum 1" % (n % RANKS, n * 5 % 1024) for n in range(64)]
+    return each(["allocate w0 4096 4", "lock_all w0"] + repeated(size // RANKS // 64, block) + ["unlock_all w0"])
+
+
+def one_cell(size):
+    return each(["allocate w0 4 4", "lock_all w0"] + repeated(size // RANKS, ["fop w0 0 0 int32 sum 1"]) + ["unlock_all w0"])
+
+
+def fences(size):
+    return each(["allocate w0 4 4"] + repeated(size // RANKS, ["fence w0"]))
+
+
+def barriers(size):
+    return each(repeated(size // RANKS, ["barrier"]))
+
+
+def locks(size):
+    calls = ["lock w0 exclusive 0", "fop w0 0 0 int32 sum 1", "unlock w0 0"]
+    return each(["allocate w0 4 4"] + repeated(size // RANKS, calls))
+
+
+def rounds(size):
+    lines = []
     for rank in range(RANKS):
-        lines = ["allocate w0 %d 4" % (4 * UNITS)]
-        for turn in range(rounds):
-            lines.append("fence w0")
-            lines += ["put w0 %d %d int32 %d" % ((rank + n) % 10, (rank + n) % 10, turn % 10) for n in range(5)]
-            lines.append("load w0 %d int32 1" % (turn % 10))
-        yield lines + ["fence w0", "fence w0"]
+        after, before = (rank + 1) % RANKS, (rank - 1) % RANKS
+        calls = ["post w0 %d" % before, "start w0 %d" % after, "put w0 %d 0 int32 1" % after, "complete w0", "wait w0"]
+        lines += ["rank %d" % rank, "allocate w0 4 4"] + repeated(size // RANKS, calls)
+    return lines
 
 
-def wide(puts):
-    """The calls of each rank: an allocate, a fence, puts to the next rank, and a fence."""
+def accumulates(size):
     values = " ".join(str(n % 10) for n in range(256))
+    return each(["allocate w0 1024 4", "fence w0"] + repeated(size // RANKS, ["acc w0 0 0 int32 sum " + values]) + ["fence w0"])
+
+
+def puts(size):
+    lines = []
     for rank in range(RANKS):
-        lines = ["put w0 %d %d int32 %s" % ((rank + 1) % RANKS, n * 256 % UNITS, values) for n in range(puts // RANKS)]
-        yield ["allocate w0 %d 4" % (4 * UNITS), "fence w0"] + lines + ["fence w0"]
+        calls = ["put w0 %d %d int32 1" % ((rank + 1) % RANKS, n % 1024) for n in range(size // RANKS)]
+        lines += ["rank %d" % rank, "allocate w0 4096 4", "fence w0"] + calls + ["fence w0"]
+    return lines
+
+
+def disjoint(size):
+    lines = []
+    for rank in range(RANKS):
+        calls = ["put w0 0 %d int32 1" % ((rank + RANKS * n) % 1024) for n in range(size // RANKS)]
+        lines += ["rank %d" % rank, "allocate w0 4096 4", "lock_all w0"] + calls + ["unlock_all w0"]
+    return lines
+
+
+def locked_puts(size):
+    calls = ["lock w0 exclusive 0", "put w0 0 0 int32 1", "unlock w0 0"]
+    return each(["allocate w0 4 4"] + repeated(size // RANKS, calls))
+
+
+FORMS = {form.__name__: form for form in (cells, one_cell, fences, barriers, locks, rounds, accumulates, puts, disjoint, locked_puts)}
+
+
+def text(name, size):
+    return "\n".join(["ranks %d" % RANKS] + FORMS[name](size)) + "\n"
 
 
 def main():
-    if len(sys.argv) != 3 or sys.argv[1] not in ("ones", "wide"):
+    if len(sys.argv) != 3 or sys.argv[1] not in FORMS:
         sys.exit(__doc__)
-    out = ["ranks %d" % RANKS]
-    for rank, lines in enumerate({"ones": ones, "wide": wide}[sys.argv[1]](int(sys.argv[2]))):
-        out += ["rank %d" % rank] + lines
-    sys.stdout.write("\n".join(out) + "\n")
+    sys.stdout.write(text(sys.argv[1], int(sys.argv[2])))
 
 
 if __name__ == "__main__":

@@ -1,3 +1,4 @@
 -- Lemmas of the queue.
 pub mod DroppedFront
 pub mod GivenWays
+pub mod TouchCounts

@@ -80,6 +80,8 @@ pub record Delivers (queue after : Queue) (at : ℕ) (done : Bool) (layout : Lay
   pub here : slice_get queue.pending at ≡ Some one
   pub named : slice_get calls one.number ≡ Some call
   pub next : ℕ
+  pub begun : slice_index queue.touched at ≤ next
+  pub within : next ≤ element_count call
   pub queue_after : after ≡ after_delivery done queue at next
   pub whole : done ≡ true → next ≡ element_count call
   pub touches : TouchesKept before_face after_face knows kept_before kept_after one.index

@@ -30,6 +30,8 @@ pub fn touch_pending<M: Memory, L: Keep>(
 
     ensures begin { IfOk result (λ progress. from ≤ progress.next) }
     ensures end { IfOk result (λ progress. progress.next ≤ element_count call.now) }
+    ensures count { IfOk result (λ progress.
+        length (L.kept log.new) ≡ length (L.kept log.old) + (progress.next - from)) }
     ensures touches { IfOk result (λ progress. TouchesKept (M.face mem.old) (M.face mem.new) (M.knows mem.new)
         (L.kept log.old) (L.kept log.new) one.now.index
         (planned_touches layout.now one.now.access call.now from (progress.next - from))) }

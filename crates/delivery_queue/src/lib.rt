@@ -9,4 +9,4 @@ mod tests;
 mod waits;
 mod ways;
 
-pub use queue::Pending;
+pub use queue::{Delivery, Pending};

@@ -18,6 +18,14 @@ use rma_types::{Access, Call, Layout, NoMemory};
 use std::alloc::Global;
 use std::marker::Model;
 
+/// What a delivery came to: whether the access is done, and how many of its elements were touched.
+#[derive(Clone, Copy, Debug, PartialEq, Eq)]
+pub struct Delivery {
+    pub done: bool,
+    /// At most 256.
+    pub touches: u32,
+}
+
 /// The accesses of a rank that are issued and not yet wholly touched, in the order of their Issues, and its live
 /// requests, q0 to q63.
 #[derive(Debug, Drop)]
@@ -164,7 +172,7 @@ impl Pending {
     }
 
     /// The access at a place.
-    fn access_at(&self, at: usize) -> PendingAccess
+    pub fn access_at(&self, at: usize) -> PendingAccess
         requires { at < length self.now.pending }
         ensures { slice_get self.now.pending at ≡ Some result }
     {
@@ -172,7 +180,7 @@ impl Pending {
     }
 
     /// How many elements of the access at a place are touched.
-    fn touched_at(&self, at: usize) -> u32
+    pub fn touched_at(&self, at: usize) -> u32
         requires { at < length self.now.pending }
         ensures { result ≡ slice_index self.now.touched at }
     {
@@ -180,8 +188,8 @@ impl Pending {
     }
 
     /// Delivers the access at a place: it makes room for the touches that are left of it, and makes them in the order
-    /// of its elements. The answer is true where the access is done, and pending no more; it is false where an attempt
-    /// came too late, which never comes over a memory that tells its cells.
+    /// of its elements. The access is done, and pending no more, unless an attempt came too late, which never comes over
+    /// a memory that tells its cells.
     pub fn deliver<M: Memory, L: Keep>(
         &mut self,
         at: usize,
@@ -189,15 +197,18 @@ impl Pending {
         layout: &Layout,
         calls: &[Call],
         log: &mut L,
-    ) -> Result<bool, NoMemory>
+    ) -> Result<Delivery, NoMemory>
         requires at { at < length self.old.pending }
         requires deliverable { IsDeliverable self.old at layout.now calls.now (M.face mem.old) (L.free log.old) }
-        ensures delivered { IfOk result (λ done. Delivers self.old self.new at done layout.now calls.now
+        ensures delivered { IfOk result (λ delivery. Delivers self.old self.new at delivery.done layout.now calls.now
             (M.face mem.old) (M.face mem.new) (M.knows mem.new) (L.kept log.old) (L.kept log.new)) }
-        ensures told { IfOk result (λ done. IfSome (M.face mem.old).told (λ cells.
-            (done ≡ true) × DeliversWhole self.old at layout.now calls.now cells
+        ensures count { IfOk result (λ delivery.
+            length (L.kept log.new) ≡ length (L.kept log.old) + delivery.touches) }
+        ensures few { IfOk result (λ delivery. delivery.touches ≤ 256) }
+        ensures told { IfOk result (λ delivery. IfSome (M.face mem.old).told (λ cells.
+            (delivery.done ≡ true) × DeliversWhole self.old at layout.now calls.now cells
             (M.face mem.new).told (L.kept log.old) (L.kept log.new))) }
-        ensures moved { IfOk result (λ done. done ≡ false → Rose (M.face mem.old).moves (M.face mem.new).moves) }
+        ensures moved { IfOk result (λ delivery. delivery.done ≡ false → Rose (M.face mem.old).moves (M.face mem.new).moves) }
         ensures known { Keeps (M.knows mem.old) (M.knows mem.new) }
         ensures free_below { L.free log.new ≤ L.free log.old }
         ensures home { L.home log.new ≡ L.home log.old }
@@ -211,12 +222,19 @@ impl Pending {
             unreachable!()
         };
         let progress = touch_pending(&one, from, mem, layout, call, log)?;
+        let touches = progress.next - from;
         if progress.moved {
             self.keep_touched(at, progress.next);
-            Ok(false)
+            Ok(Delivery {
+                done: false,
+                touches,
+            })
         } else {
             self.remove(at);
-            Ok(true)
+            Ok(Delivery {
+                done: true,
+                touches,
+            })
         }
     }
 }

@@ -5,7 +5,7 @@ ghost use Rattle.rma_types.specs.declared.dtypes.Dtype.TheVariants.{Int32};
 ghost use Rattle.rma_types.specs.declared.ops.Op.TheVariants.{Sum};
 ghost use Rattle.delivery_queue.specs.Queues.{Queue, no_accesses, issued, with_access};
 
-use crate::Pending;
+use crate::{Delivery, Pending};
 use cell_face::{Memory, PlainMemory};
 use rma_record::{Item, Log};
 use rma_types::{Access, Call, Dtype, Items, Kind, Layout, MemoryPart, NoMemory, Op};
@@ -119,7 +119,7 @@ fn deliver_sum(
     memory: &mut PlainMemory,
     layout: &Layout,
     log: &mut Log,
-) -> Result<bool, NoMemory>
+) -> Result<Delivery, NoMemory>
     requires queue { queue.old ≡ with_access
         (with_access no_accesses (issued 0 10
         (record { window = 35; target = 0; lo = 4; len = 4; kind = Put }) false) None)
@@ -155,7 +155,14 @@ fn a_delivery_touches_the_cells_of_its_access(rt: HostRuntime) -> Result<(), Fai
     let mut log = Log::new(rt.alloc());
     let mut queue = put_and_sum(rt.alloc())?;
     assert!(rt; memory.share() >= 1);
-    assert!(rt; deliver_sum(&mut queue, &mut memory, &layout, &mut log)?);
+    let delivery = deliver_sum(&mut queue, &mut memory, &layout, &mut log)?;
+    assert_eq!(rt;
+        delivery,
+        Delivery {
+            done: true,
+            touches: 1
+        }
+    );
     assert_eq!(rt; memory.bits(0), 7);
     assert_eq!(rt; memory.bits(1), 2);
     let touch = Item::Touch {

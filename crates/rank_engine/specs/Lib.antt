@@ -1,6 +1,10 @@
--- The engine's own state, and what it does with it.
-pub mod Engine
-pub mod Parts
-pub mod Room
-pub mod Rows
-pub mod Seats
+-- A rank of a run as the engine keeps it, and what each of its steps does.
+pub mod BoardAnswers
+pub mod Courses
+pub mod DataAnswers
+pub mod Entering
+pub mod Learning
+pub mod Moves
+pub mod RankStates
+pub mod Shares
+pub mod Sound

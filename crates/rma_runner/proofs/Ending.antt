@@ -6,14 +6,15 @@ use Rattle.std.specs.List.{list_any}
 use Rattle.std.proofs.lemmas.List.{append-nil}
 use Rattle.rma_types.specs.declared.scripts.Script.{Script}
 use Rattle.rma_record.specs.declared.runs.Run.{Run}
-use Rattle.rma_model.specs.Report.{all_ended, is_refused}
-use Rattle.rma_model.specs.Status.{status}
+use Rattle.run_texts.specs.Report.{all_ended}
+use Rattle.lawful_runs.specs.Items.{is_refused}
+use Rattle.run_texts.specs.Status.{status}
 use Rattle.rma_streams.specs.Faults.{Rose}
 use Rattle.rma_streams.specs.Moves.{Took, AtEnd, Wrote, WrotePrefix}
 use Rattle.script_language.specs.declared.faults.Fault.{Fault}
-use Rattle.rma_runner.specs.Scripts.{IsTextOf}
+use Rattle.script_language.specs.Reading.{Reads}
 use Rattle.rma_runner.proofs.Texts.{text_is_short, is_no_text}
-use Rattle.rma_runner.specs.declared.options.Options.{Options}
+use Rattle.command_words.specs.declared.options.Options.{Options}
 use Rattle.rma_runner.specs.declared.outcomes.Outcome.{Outcome}
 use Rattle.rma_runner.specs.Answers.{IsInput, ReadsAs, ReadsAsNone, IsRunOf, Reported, ReportedInPart, Refused, RefusedInPart, IsNoText, report_on}
 use Rattle.rma_runner.specs.Lines.{fault_line}
@@ -51,10 +52,10 @@ is_not_6 code is e = apart code 6 is e (λ h. omega arith) (λ h. omega arith) (
 
 -- a report was written whole; in part; a refusal was written whole; in part; a read failed; memory ran out
 pub data Case (options : Options) (left_before left_after before after : Option (List ℕ)) (outcome : Outcome) : Type 0 where
-  Whole : (script : Script) (run : Run) → ReadsAs left_before left_after script → IsRunOf options script run → outcome ≡ record { status = status run []; run = Some run } →
-      Wrote before (report_on script run) after → Case options left_before left_after before after outcome
-  Part : (script : Script) (run : Run) → ReadsAs left_before left_after script → IsRunOf options script run → outcome ≡ record { status = 5; run = Some run } →
-      WrotePrefix before (report_on script run) after → Case options left_before left_after before after outcome
+  Whole : (script : Script) (run : Run) → ReadsAs left_before left_after script → IsRunOf options script run →
+      outcome ≡ record { status = status run []; run = Some run } → Wrote before (report_on script run) after → Case options left_before left_after before after outcome
+  Part : (script : Script) (run : Run) → ReadsAs left_before left_after script → IsRunOf options script run →
+      outcome ≡ record { status = 5; run = Some run } → WrotePrefix before (report_on script run) after → Case options left_before left_after before after outcome
   NoScript : (fault : Fault) → ReadsAsNone left_before left_after fault → outcome ≡ record { status = 3; run = None } → Wrote before (fault_line fault) after →
       Case options left_before left_after before after outcome
   NoScriptPart : (fault : Fault) → ReadsAsNone left_before left_after fault → outcome ≡ record { status = 5; run = None } → WrotePrefix before (fault_line fault) after →
@@ -101,10 +102,10 @@ reported options lb la before after outcome (NotRead e same) code = absurd (is_n
 reported options lb la before after outcome (NoRoom e same) code = absurd (is_not_6 outcome.status code (ap (λ (o : Outcome). o.status) e))
 
 abbrev pub HandedBy : Outcome → Type 0
-HandedBy outcome = IfSome outcome.run (λ run. (outcome.status ≡ status run []) ⊎ (outcome.status ≡ 5))
+HandedBy outcome = IfSome outcome.run (λ _. IsRunStatus outcome.status ⊎ (outcome.status ≡ 5))
 
 pub handed : (options : Options) (lb la before after : Option (List ℕ)) (outcome : Outcome) → Case options lb la before after outcome → HandedBy outcome
-handed options lb la before after outcome (Whole script run reads is e text) = subst HandedBy (sym e) (inl refl)
+handed options lb la before after outcome (Whole script run reads is e text) = subst HandedBy (sym e) (inl (run_status run))
 handed options lb la before after outcome (Part script run reads is e text) = subst HandedBy (sym e) (inr refl)
 handed options lb la before after outcome (NoScript fault none e text) = subst HandedBy (sym e) tt
 handed options lb la before after outcome (NoScriptPart fault none e text) = subst HandedBy (sym e) tt
@@ -185,21 +186,21 @@ input_is : (lb la : Option (List ℕ)) (bytes text : List ℕ) → lb ≡ Some t
 input_is lb la bytes text e short input = all_taken text bytes la (subst (λ o. Took o bytes la) e input.taken) input.whole short
 
 pub complete : (options : Options) (lb la before after : Option (List ℕ)) (outcome : Outcome) → Case options lb la before after outcome →
-    (text : List ℕ) (script : Script) → IsTextOf text script → lb ≡ Some text → (outcome.status ≡ 4 → ⊥) → (outcome.status ≡ 5 → ⊥) →
+    (text : List ℕ) (script : Script) → Reads text script → lb ≡ Some text → (outcome.status ≡ 4 → ⊥) → (outcome.status ≡ 5 → ⊥) →
     IsRunStatus outcome.status ⊎ (outcome.status ≡ 6)
 complete options lb la before after outcome (Whole s run reads is e t) text script is_text told no4 no5 = inl (subst IsRunStatus (sym (ap (λ (o : Outcome). o.status) e)) (run_status run))
 complete options lb la before after outcome (Part s run reads is e t) text script is_text told no4 no5 = absurd (no5 (ap (λ (o : Outcome). o.status) e))
 complete options lb la before after outcome (NoScript fault none e t) text script is_text told no4 no5 =
     let bytes = input_is lb la none.bytes text told (let low = text_is_short text script is_text in omega arith) none.input in
-    absurd (is_no_text none.bytes fault none.refused script (subst (λ b. IsTextOf b script) (sym bytes) is_text))
+    absurd (is_no_text none.bytes fault script none.refused (subst (λ b. Reads b script) (sym bytes) is_text))
 complete options lb la before after outcome (NoScriptPart fault none e t) text script is_text told no4 no5 = absurd (no5 (ap (λ (o : Outcome). o.status) e))
 complete options lb la before after outcome (NotRead e same) text script is_text told no4 no5 = absurd (no4 (ap (λ (o : Outcome). o.status) e))
 complete options lb la before after outcome (NoRoom e same) text script is_text told no4 no5 = inr (ap (λ (o : Outcome). o.status) e)
 
 -- a script that was read has the text
-read_is : (lb la : Option (List ℕ)) (text : List ℕ) (script : Script) → lb ≡ Some text → length text ≤ 1048577 → ReadsAs lb la script → IsTextOf text script
+read_is : (lb la : Option (List ℕ)) (text : List ℕ) (script : Script) → lb ≡ Some text → length text ≤ 1048577 → ReadsAs lb la script → Reads text script
 read_is lb la text script told short reads =
-    subst (λ b. IsTextOf b script) (input_is lb la reads.bytes text told short (record { taken = reads.taken; whole = inl reads.end })) reads.reads
+    subst (λ b. Reads b script) (input_is lb la reads.bytes text told short (record { taken = reads.taken; whole = inl reads.end })) reads.reads
 
 pub refuses : (options : Options) (lb la before after : Option (List ℕ)) (outcome : Outcome) → Case options lb la before after outcome →
     (text : List ℕ) → IsNoText text → lb ≡ Some text → (outcome.status ≡ 4 → ⊥) → (outcome.status ≡ 5 → ⊥) → (outcome.status ≡ 3) ⊎ (outcome.status ≡ 6)

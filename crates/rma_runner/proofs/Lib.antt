@@ -1,3 +1,4 @@
 -- What follows from how the top call ends, and of texts.
 pub mod Ending
 pub mod Texts
+pub mod StepMode

@@ -2,16 +2,17 @@
 use Rattle.std.specs.Prelude.{ℕ, ◌≡◌, ◌≤◌, ◌⊎◌, List, [], length, Option, Some, None}
 use Rattle.rma_types.specs.declared.scripts.Script.{Script}
 use Rattle.rma_record.specs.declared.runs.Run.{Run}
-use Rattle.rma_model.specs.declared.modes.Mode.TheVariants.{Step}
-use Rattle.rma_model.specs.LawfulRun.{IsLawful}
-use Rattle.rma_model.specs.Report.{report}
-use Rattle.rma_model.specs.Status.{status}
-use Rattle.rma_model.specs.StepRun.{step_run}
+use Rattle.lawful_runs.specs.LawfulRun.{IsLawful}
+use Rattle.step_runs.specs.StepRun.{step_run}
+use Rattle.order_rules.specs.OrderedReads.{TouchesAgree}
+use Rattle.run_texts.specs.declared.modes.Mode.TheVariants.{Step}
+use Rattle.run_texts.specs.Report.{report}
+use Rattle.run_texts.specs.Status.{status}
 use Rattle.rma_streams.specs.Moves.{Took, AtEnd, Wrote, WrotePrefix}
+use Rattle.script_language.specs.Reading.{Reads, HasFault}
 use Rattle.script_language.specs.declared.faults.Fault.{Fault}
-use Rattle.rma_runner.specs.Scripts.{IsTextOf, IsRefusedBy}
+use Rattle.command_words.specs.declared.options.Options.{Options}
 use Rattle.rma_runner.specs.Lines.{fault_line}
-use Rattle.rma_runner.specs.declared.options.Options.{Options}
 
 -- the bytes that were taken: the whole input, or as many as are taken of a longer one
 pub record IsInput (before after : Option (List ℕ)) (bytes : List ℕ) : Type 0 where
@@ -23,18 +24,19 @@ pub record ReadsAs (before after : Option (List ℕ)) (script : Script) : Type 0
   pub bytes : List ℕ
   pub taken : Took before bytes after
   pub end : AtEnd after
-  pub reads : IsTextOf bytes script
+  pub reads : Reads bytes script
 
--- the bytes taken are refused by the fault
+-- the fault is the first one of the bytes taken
 pub record ReadsAsNone (before after : Option (List ℕ)) (fault : Fault) : Type 0 where
   pub bytes : List ℕ
   pub input : IsInput before after bytes
-  pub refused : IsRefusedBy bytes fault
+  pub refused : HasFault bytes fault
 
--- the run is the script's run on one thread by these options, and it is lawful
+-- The run is the script's run on one thread by these options. It is lawful, and its touches agree with its order.
 pub record IsRunOf (options : Options) (script : Script) (run : Run) : Type 0 where
   pub steps : run ≡ step_run script options.order options.delay options.seed
   pub lawful : IsLawful script options.delay run
+  pub agrees : TouchesAgree script run
 
 -- the report on a run, without findings
 abbrev pub report_on : Script → Run → List ℕ
@@ -59,7 +61,7 @@ pub record ReportedInPart (options : Options) (left_before left_after written_be
   pub handed_back : handed ≡ Some run
   pub text : WrotePrefix written_before (report_on script run) written_after
 
--- the bytes taken are refused by a fault, and its line was written
+-- the bytes taken are refused by their first fault, and its line was written
 pub record Refused (left_before left_after written_before written_after : Option (List ℕ)) (handed : Option Run) : Type 0 where
   pub fault : Fault
   pub reads : ReadsAsNone left_before left_after fault
@@ -73,7 +75,7 @@ pub record RefusedInPart (left_before left_after written_before written_after : 
   pub none : handed ≡ None
   pub text : WrotePrefix written_before (fault_line fault) written_after
 
--- the text says no script that runs by now, and is no longer than what is read of an input
+-- the text says no script, and is no longer than what is read of an input
 pub record IsNoText (text : List ℕ) : Type 0 where
   pub short : length text ≤ 1048577
-  pub none : (script : Script) → IsTextOf text script → ⊥
+  pub none : (script : Script) → Reads text script → ⊥

@@ -3,7 +3,6 @@ pub mod Answers
 pub mod Inputs
 pub mod Lines
 pub mod Outputs
-pub mod Scripts
 pub mod Statuses
 pub mod Tops
 pub mod Words

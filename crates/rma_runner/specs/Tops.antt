@@ -2,12 +2,12 @@
 use Rattle.std.specs.Prelude.{ℕ, ◌≡◌, ◌⊎◌, List, [], Option, Some, None}
 use Rattle.rma_types.specs.declared.scripts.Script.{Script}
 use Rattle.rma_record.specs.declared.runs.Run.{Run}
-use Rattle.rma_model.specs.Status.{status, words_refused, script_refused, read_failed, write_failed, out_of_memory}
+use Rattle.run_texts.specs.Status.{status, words_refused, script_refused, read_failed, write_failed, out_of_memory}
 use Rattle.rma_streams.specs.Moves.{Wrote, WrotePrefix}
 use Rattle.script_language.specs.declared.faults.Fault.{Fault}
 use Rattle.rma_runner.specs.Answers.{IsRunOf, ReadsAs, ReadsAsNone, report_on}
 use Rattle.rma_runner.specs.Lines.{fault_line, usage_line}
-use Rattle.rma_runner.specs.declared.options.Options.{Options}
+use Rattle.command_words.specs.declared.options.Options.{Options}
 use Rattle.rma_runner.specs.declared.outcomes.Outcome.{Outcome}
 
 -- the whole text was written and the status is the one of that; or a write failed; or there was no memory for the text
@@ -17,6 +17,7 @@ Ends code run text before after outcome =
     ⊎ ((outcome ≡ record { status = write_failed; run = run }) × WrotePrefix before text after)
     ⊎ ((outcome ≡ record { status = out_of_memory; run = None }) × (after ≡ before))
 
+-- the report on a run was to be written
 abbrev pub EndsRun : Script → Run → Option (List ℕ) → Option (List ℕ) → Outcome → Type 0
 EndsRun script run before after outcome = Ends (status run []) (Some run) (report_on script run) before after outcome
 

@@ -4,7 +4,6 @@
 #![tactic(auto)]
 
 mod inputs;
-mod options;
 mod outcomes;
 mod outputs;
 #[cfg(test)]

@@ -2,17 +2,16 @@
 ghost use Rattle.std.specs.Prelude.{◌≡◌, ◌≤◌, IfOk};
 ghost use Rattle.std.specs.String.{string_bytes};
 ghost use Rattle.rma_streams.specs.Faults.{Rose};
-ghost use Rattle.rma_model.specs.BuiltForm.{IsBuilt};
-ghost use Rattle.rma_model.specs.Orderly.{HasOrderlyLogs};
+ghost use Rattle.call_rules.specs.WellFormed.{IsWellFormed};
 ghost use Rattle.rma_runner.specs.Answers.{report_on};
 ghost use Rattle.rma_runner.specs.Lines.{kind_text, fault_line, usage_line};
 ghost use Rattle.rma_runner.specs.Outputs.{WritesOrStops};
 
-use rma_model::Mode;
 use rma_record::Run;
 use rma_streams::{Sink, write_output};
 use rma_types::{NoMemory, Script};
 use run_report::report_text;
+use run_texts::Mode;
 use script_reader::{Fault, FaultKind};
 use std::alloc::{AllocError, Global};
 use std::fmt::Write;
@@ -100,8 +99,7 @@ pub fn write_report<K: Sink>(
     run: &Run,
     sink: &mut K,
 ) -> Result<(), NoText>
-    requires built { IsBuilt script.now }
-    requires orderly { HasOrderlyLogs script.now run.now }
+    requires well_formed { IsWellFormed script.now }
     ensures text { WritesOrStops (K.written sink.old) (K.written sink.new) (report_on script.now run.now) result }
     ensures failed { result ≡ Err NoText.Failed → Rose (K.faults sink.old) (K.faults sink.new) }
     ensures no_fault { (result ≡ Err NoText.Failed → ⊥) → K.faults sink.new ≡ K.faults sink.old }

@@ -1,9 +1,9 @@
 //! The program on whole inputs, over sources and sinks in memory.
 ghost use Rattle.std.specs.Prelude.{◌≡◌, ◌≤◌, IfOk};
 
-use crate::options::DEFAULT_OPTIONS;
 use crate::tops::{rma_main, step_main};
 use crate::words::{NoWords, end_without_words, words_of};
+use command_words::DEFAULT_OPTIONS;
 use rma_streams::{MemorySink, MemorySource};
 use rma_types::OpenGate;
 use std::alloc::{AllocError, Global};
@@ -45,7 +45,33 @@ fn sink_of(alloc: Global, piece: usize, failing: &[u64]) -> Result<MemorySink, A
     MemorySink::with_room(alloc, 4096, piece, failing)
 }
 
-/// Runs the program on a text, and compares what it wrote and its status.
+fn words_from(alloc: Global, texts: &[&str]) -> Result<Vec<String>, AllocError> {
+    let mut words = Vec::new(alloc);
+    for text in texts {
+        words.push(String::from_str(alloc, text)?)?;
+    }
+    Ok(words)
+}
+
+/// Runs the program on a text by words, and compares what it wrote and its status.
+fn gives_by(
+    rt: &impl Abort,
+    alloc: Global,
+    words: &[&str],
+    text: &str,
+    status: u8,
+    written: &str,
+) -> Result<(), AllocError> {
+    let words = words_from(alloc, words)?;
+    let mut source = source_of(alloc, text, 4096, &[])?;
+    let mut sink = sink_of(alloc, 4096, &[])?;
+    let outcome = rma_main(alloc, words.as_slice(), &mut source, &mut sink, &OpenGate);
+    assert_eq!(rt; outcome.status, status);
+    assert_eq!(rt; sink.bytes(), written.as_bytes());
+    Ok(())
+}
+
+/// Runs the program on a text without words, and compares what it wrote and its status.
 fn gives(
     rt: &impl Abort,
     alloc: Global,
@@ -53,12 +79,7 @@ fn gives(
     status: u8,
     written: &str,
 ) -> Result<(), AllocError> {
-    let mut source = source_of(alloc, text, 4096, &[])?;
-    let mut sink = sink_of(alloc, 4096, &[])?;
-    let outcome = rma_main(alloc, &[], &mut source, &mut sink, &OpenGate);
-    assert_eq!(rt; outcome.status, status);
-    assert_eq!(rt; sink.bytes(), written.as_bytes());
-    Ok(())
+    gives_by(rt, alloc, &[], text, status, written)
 }
 
 #[test]
@@ -119,15 +140,110 @@ fn refuses_texts_by_their_first_fault(rt: HostRuntime) -> Result<(), Fail> {
     Ok(())
 }
 
-/// A script that a text says and that does not run yet has the answer of its own.
+const TWO_AT_ONE_LOCK: &str =
+    "ranks 2\nrank 0\nallocate w0 4 4\nlock w0 exclusive 0\nfop w0 0 0 int32 sum 1\nunlock w0 0\nrank 1\nallocate w0 4 4\nlock w0 exclusive 0\nfop w0 0 0 int32 sum 10\nunlock w0 0\n";
+
+const RANK_1_FIRST: &str =
+    "ended\n0:2 value 10\n1:2 value 0\nmemory 0 0 0b00000000000000\nsummary accesses 2 touches 2 entries 8 refused 0 findings 0\n";
+
+const RANK_0_FIRST: &str =
+    "ended\n0:2 value 0\n1:2 value 1\nmemory 0 0 0b00000000000000\nsummary accesses 2 touches 2 entries 8 refused 0 findings 0\n";
+
+/// The order decides which rank has the lock first.
 #[test]
-fn refuses_a_script_that_does_not_run_yet(rt: HostRuntime) -> Result<(), Fail> {
+fn runs_in_each_order(rt: HostRuntime) -> Result<(), Fail> {
+    let alloc = rt.alloc();
+    gives_by(
+        &rt,
+        alloc,
+        &["--order=robin"],
+        TWO_AT_ONE_LOCK,
+        0,
+        RANK_1_FIRST,
+    )?;
+    gives_by(
+        &rt,
+        alloc,
+        &["--order", "reverse"],
+        TWO_AT_ONE_LOCK,
+        0,
+        RANK_0_FIRST,
+    )?;
+    gives_by(
+        &rt,
+        alloc,
+        &["--order=greedy"],
+        TWO_AT_ONE_LOCK,
+        0,
+        RANK_0_FIRST,
+    )?;
+    gives_by(
+        &rt,
+        alloc,
+        &["--order=seeded", "--seed=0"],
+        TWO_AT_ONE_LOCK,
+        0,
+        RANK_0_FIRST,
+    )?;
+    Ok(())
+}
+
+const LOAD_BESIDE_PUT: &str =
+    "ranks 1\nrank 0\nallocate w0 4 4\nlock_all w0\nput w0 0 0 int32 5\nload w0 0 int32 1\nunlock_all w0\n";
+
+const LOAD_READS_5: &str =
+    "ended\n0:3 value 5\nmemory 0 0 0500000000000000\nsummary accesses 2 touches 2 entries 4 refused 0 findings 0\n";
+
+const LOAD_READS_0: &str =
+    "ended\n0:3 value 0\nmemory 0 0 0500000000000000\nsummary accesses 2 touches 2 entries 4 refused 0 findings 0\n";
+
+/// The delay decides whether the put is there when the load reads.
+#[test]
+fn runs_with_each_delay(rt: HostRuntime) -> Result<(), Fail> {
+    let alloc = rt.alloc();
+    gives_by(
+        &rt,
+        alloc,
+        &["--delay=none"],
+        LOAD_BESIDE_PUT,
+        0,
+        LOAD_READS_5,
+    )?;
+    gives_by(
+        &rt,
+        alloc,
+        &["--delay=end"],
+        LOAD_BESIDE_PUT,
+        0,
+        LOAD_READS_0,
+    )?;
+    gives_by(
+        &rt,
+        alloc,
+        &["--delay=seeded", "--seed=0"],
+        LOAD_BESIDE_PUT,
+        0,
+        LOAD_READS_5,
+    )?;
+    gives_by(
+        &rt,
+        alloc,
+        &["--delay=seeded", "--seed=2"],
+        LOAD_BESIDE_PUT,
+        0,
+        LOAD_READS_0,
+    )?;
+    Ok(())
+}
+
+#[test]
+fn says_where_ranks_wait(rt: HostRuntime) -> Result<(), Fail> {
     gives(
         &rt,
         rt.alloc(),
-        "ranks 1\nrank 0\nbarrier\n",
-        3,
-        "script 0 word\n",
+        "ranks 2\nrank 0\nallocate w0 0 1\nbarrier\nrank 1\nallocate w0 0 1\nfence w0\n",
+        7,
+        "stuck\n0:1 waits barrier\n1:1 waits fence\nsummary accesses 0 touches 0 entries 6 refused 0 findings 0\n",
     )?;
     Ok(())
 }
@@ -201,7 +317,7 @@ fn fails_where_a_write_fails(rt: HostRuntime) -> Result<(), Fail> {
 #[test]
 fn refuses_words(rt: HostRuntime) -> Result<(), Fail> {
     let alloc = rt.alloc();
-    let words = vec![in alloc; String::from_str(alloc, "--mode=step")?]?;
+    let words = vec![in alloc; String::from_str(alloc, "--mode=walk")?]?;
     let mut source = source_of(alloc, FENCED_PUT, 16, &[])?;
     let mut sink = sink_of(alloc, 4096, &[])?;
     let outcome = rma_main(alloc, words.as_slice(), &mut source, &mut sink, &OpenGate);
@@ -211,6 +327,15 @@ fn refuses_words(rt: HostRuntime) -> Result<(), Fail> {
     let outcome = rma_main(alloc, words.as_slice(), &mut source, &mut sink, &OpenGate);
     assert_eq!(rt; outcome.status, 5);
     assert_eq!(rt; sink.bytes(), b"usage: rma_runne".as_slice());
+    Ok(())
+}
+
+#[test]
+fn reads_words(rt: HostRuntime) -> Result<(), Fail> {
+    let alloc = rt.alloc();
+    let words = ["--mode=step", "--seed", "5"];
+    gives_by(&rt, alloc, &words, FENCED_PUT, 0, FENCED_PUT_REPORT)?;
+    gives_by(&rt, alloc, &["--workers", "0"], FENCED_PUT, 2, USAGE_LINE)?;
     Ok(())
 }
 

@@ -1,29 +1,26 @@
 //! The top calls.
-ghost use Rattle.std.specs.Prelude.{◌≡◌, ◌≢◌, ◌≤◌, ◌<◌, ◌-◌, ◌^◌, ◌⊎◌, ℕ, List, [], None, Some, IfSome};
-ghost use Rattle.rma_types.specs.declared.schedules.Delay.TheVariants.{None as NoDelay};
-ghost use Rattle.rma_types.specs.declared.schedules.Order.TheVariants.{Robin};
+ghost use Rattle.std.specs.Prelude.{◌≡◌, ◌≢◌, ◌≤◌, ◌<◌, ◌-◌, ◌^◌, ◌⊎◌, ℕ, List, None, Some, IfSome, map};
+ghost use Rattle.std.specs.String.{string_bytes};
+ghost use Rattle.call_rules.specs.WellFormed.{IsWellFormed};
+ghost use Rattle.rma_types.specs.declared.scripts.Script.{Script as ScriptValue};
+ghost use Rattle.run_texts.specs.declared.modes.Mode.TheVariants.{Step as StepMode};
 ghost use Rattle.rma_streams.specs.Ends.{NoLateRead};
 ghost use Rattle.rma_streams.specs.Faults.{Rose};
 ghost use Rattle.rma_streams.specs.Moves.{Wrote, WrotePrefix};
-ghost use Rattle.rma_model.specs.BuiltForm.{IsBuilt};
-ghost use Rattle.rma_model.specs.Orderly.{HasOrderlyLogs};
-ghost use Rattle.rma_runner.specs.declared.options.TheConstants.{DEFAULT_OPTIONS};
-ghost use Rattle.rma_runner.specs.Tops.{EndsRun, EndsFault, EndsScript, EndsUsage, StepEnds};
-ghost use Rattle.rma_runner.specs.Statuses.{IsStepStatus, IsRunStatus};
-ghost use Rattle.rma_model.specs.declared.modes.Mode.TheVariants.{Step as StepMode};
-ghost use Rattle.rma_model.specs.Status.{status as status_of_run};
-ghost use Rattle.rma_runner.specs.Scripts.{IsTextOf};
-ghost use Rattle.rma_types.specs.declared.scripts.Script.{Script as ScriptValue};
-ghost use Rattle.rma_runner.specs.Answers.{Reported, ReportedInPart, Refused, RefusedInPart, IsNoText};
+ghost use Rattle.script_language.specs.Reading.{Reads};
+ghost use Rattle.rma_runner.specs.Answers.{IsNoText, Refused, RefusedInPart, Reported, ReportedInPart};
 ghost use Rattle.rma_runner.specs.Lines.{usage_line};
+ghost use Rattle.rma_runner.specs.Statuses.{IsRunStatus, IsStepStatus};
+ghost use Rattle.rma_runner.specs.Tops.{EndsFault, EndsRun, EndsScript, EndsUsage, StepEnds};
+ghost use Rattle.rma_runner.specs.Words.{AreNoOptions, AreOptions, StandFor};
 
 use crate::inputs::{NoScript, read_script};
-use crate::options::{Options, read_words};
 use crate::outcomes::{
     OUT_OF_MEMORY, Outcome, READ_FAILED, SCRIPT_REFUSED, WORDS_REFUSED, WRITE_FAILED,
 };
 use crate::outputs::{NoText, write_fault, write_report, write_usage};
-use rank_engine::run_steps;
+use command_words::{Options, WordsFault, read_words};
+use rank_runners::run_steps;
 use rma_record::Run;
 use rma_streams::{Sink, Source};
 use rma_types::{Gate, NoMemory, Script};
@@ -47,8 +44,7 @@ fn refuse_script<K: Sink>(alloc: Global, fault: Fault, sink: &mut K) -> Outcome
 
 /// Reports on a run, and hands it back.
 fn report_run<K: Sink>(alloc: Global, script: &Script, run: Run, sink: &mut K) -> Outcome
-    requires built { IsBuilt script.now }
-    requires orderly { HasOrderlyLogs script.now run }
+    requires well_formed { IsWellFormed script.now }
     ensures ends { EndsRun script.now run (K.written sink.old) (K.written sink.new) result }
     ensures failed { result.status ≡ WRITE_FAILED → Rose (K.faults sink.old) (K.faults sink.new) }
     ensures no_fault { result.status ≢ WRITE_FAILED → K.faults sink.new ≡ K.faults sink.old }
@@ -69,9 +65,7 @@ fn report_run<K: Sink>(alloc: Global, script: &Script, run: Run, sink: &mut K) -
 
 /// Runs a script by the options, and reports on the run.
 fn run_script<K: Sink>(alloc: Global, options: &Options, script: &Script, sink: &mut K) -> Outcome
-    requires built { IsBuilt script.now }
-    requires robin { options.now.order ≡ Robin }
-    requires none { options.now.delay ≡ NoDelay }
+    requires well_formed { IsWellFormed script.now }
     ensures ends { EndsScript options.now script.now (K.written sink.old) (K.written sink.new) result }
     ensures failed { result.status ≡ WRITE_FAILED → Rose (K.faults sink.old) (K.faults sink.new) }
     ensures no_fault { result.status ≢ WRITE_FAILED → K.faults sink.new ≡ K.faults sink.old }
@@ -90,8 +84,6 @@ fn answer<S: Source, K: Sink>(
     source: &mut S,
     sink: &mut K,
 ) -> Outcome
-    requires robin { options.now.order ≡ Robin }
-    requires none { options.now.delay ≡ NoDelay }
     ensures ends { StepEnds options.now (S.left source.old) (S.left source.new) (K.written sink.old) (K.written sink.new) result }
     ensures read_failed { result.status ≡ READ_FAILED → Rose (S.faults source.old) (S.faults source.new) }
     ensures no_read_fault { result.status ≢ READ_FAILED → S.faults source.new ≡ S.faults source.old }
@@ -121,18 +113,16 @@ pub fn step_main<S: Source, K: Sink>(
     sink: &mut K,
 ) -> Outcome
     requires step { options.now.mode ≡ StepMode }
-    requires robin { options.now.order ≡ Robin }
-    requires none { options.now.delay ≡ NoDelay }
     requires source_count { S.faults source.old < 2 ^ 64 - 1 }
     requires sink_count { K.faults sink.old < 2 ^ 64 - 1 }
 
     // The whole input says a script; its run on one thread is handed back, which is lawful, and its report was written.
     ensures reported { IsRunStatus result.status
         → Reported options.now (S.left source.old) (S.left source.new) (K.written sink.old) (K.written sink.new) result.status result.run }
-    // A run is handed back only with its own status, or where a write failed.
-    ensures handed { IfSome result.run (λ run. (result.status ≡ status_of_run run []) ⊎ (result.status ≡ WRITE_FAILED)) }
+    // A run is handed back only with the status of a run, or where a write failed.
+    ensures handed { IfSome result.run (λ _. IsRunStatus result.status ⊎ (result.status ≡ WRITE_FAILED)) }
 
-    // The bytes taken are refused by their first fault, or say a script that does not run yet.
+    // The bytes taken are refused by their first fault.
     ensures refused { result.status ≡ SCRIPT_REFUSED
         → Refused (S.left source.old) (S.left source.new) (K.written sink.old) (K.written sink.new) result.run }
     // A read failed, and nothing was written.
@@ -154,7 +144,7 @@ pub fn step_main<S: Source, K: Sink>(
     ensures no_late_read { NoLateRead (S.end source.old) (S.end source.new) }
 
     // Without faults a script's text is reported on, and any other is refused, unless memory runs out.
-    ensures complete { (text : List ℕ) (script : ScriptValue) → IsTextOf text script → S.left source.old ≡ Some text
+    ensures complete { (text : List ℕ) (script : ScriptValue) → Reads text script → S.left source.old ≡ Some text
         → S.faults source.new ≡ S.faults source.old → K.faults sink.new ≡ K.faults sink.old
         → IsRunStatus result.status ⊎ (result.status ≡ OUT_OF_MEMORY) }
     ensures refuses { (text : List ℕ) → IsNoText text → S.left source.old ≡ Some text
@@ -179,8 +169,8 @@ pub fn refuse_words<K: Sink>(sink: &mut K) -> Outcome
 
 /// The program: runs the script of a source by the words of the command line, and writes to a sink.
 ///
-/// By now the list of words must be empty, and the gate is not passed: the script is run on one thread. The status is
-/// 2 where the words are refused, and then the source is untouched; else it is that of `step_main`.
+/// The gate is not passed: the script is run on one thread. The status is 2 where the words are refused, and then the source
+/// is untouched; else it is that of `step_main`.
 pub fn rma_main<S: Source, K: Sink, G: Gate>(
     alloc: Global,
     words: &[String],
@@ -191,31 +181,32 @@ pub fn rma_main<S: Source, K: Sink, G: Gate>(
     requires source_count { S.faults source.old < 2 ^ 64 - 1 }
     requires sink_count { K.faults sink.old < 2 ^ 64 - 1 }
 
-    // The whole input says a script; its run on one thread is handed back, which is lawful, and its report was written.
-    ensures reported { IsRunStatus result.status
-        → Reported DEFAULT_OPTIONS (S.left source.old) (S.left source.new) (K.written sink.old) (K.written sink.new) result.status result.run }
-    // A run is handed back only with its own status, or where a write failed.
-    ensures handed { IfSome result.run (λ run. (result.status ≡ status_of_run run []) ⊎ (result.status ≡ WRITE_FAILED)) }
+    // The whole input says a script; its run by the options that the words stand for is handed back, which is lawful, and
+    // its report was written.
+    ensures reported { IsRunStatus result.status → StandFor (map string_bytes words.now) (λ options.
+        Reported options (S.left source.old) (S.left source.new) (K.written sink.old) (K.written sink.new) result.status result.run) }
+    // A run is handed back only with the status of a run, or where a write failed.
+    ensures handed { IfSome result.run (λ _. IsRunStatus result.status ⊎ (result.status ≡ WRITE_FAILED)) }
 
-    // The words are refused, and their line was written.
-    ensures usage { result.status ≡ WORDS_REFUSED
-        → (words.now ≢ []) × Wrote (K.written sink.old) usage_line (K.written sink.new) × (result.run ≡ None) }
-    ensures untouched { words.now ≢ [] → source.new ≡ source.old }
-    ensures words_refused { words.now ≢ []
+    // The words stand for no options, and the line for that was written.
+    ensures usage { result.status ≡ WORDS_REFUSED → AreNoOptions (map string_bytes words.now)
+        × Wrote (K.written sink.old) usage_line (K.written sink.new) × (result.run ≡ None) }
+    ensures untouched { AreNoOptions (map string_bytes words.now) → source.new ≡ source.old }
+    ensures words_refused { AreNoOptions (map string_bytes words.now)
         → (result.status ≡ WORDS_REFUSED) ⊎ ((result.status ≡ WRITE_FAILED) ⊎ (result.status ≡ OUT_OF_MEMORY)) }
-    ensures words_accepted { words.now ≡ [] → IsStepStatus result.status }
+    ensures words_accepted { AreOptions (map string_bytes words.now) → IsStepStatus result.status }
 
-    // The bytes taken are refused by their first fault, or say a script that does not run yet.
+    // The bytes taken are refused by their first fault.
     ensures refused { result.status ≡ SCRIPT_REFUSED
         → Refused (S.left source.old) (S.left source.new) (K.written sink.old) (K.written sink.new) result.run }
     // A read failed, and nothing was written.
     ensures unread { result.status ≡ READ_FAILED → (K.written sink.new ≡ K.written sink.old) × (result.run ≡ None) }
     // A write failed, after a front of the text.
-    ensures cut { result.status ≡ WRITE_FAILED
-        → (ReportedInPart DEFAULT_OPTIONS (S.left source.old) (S.left source.new) (K.written sink.old) (K.written sink.new) result.run
-        ⊎ RefusedInPart (S.left source.old) (S.left source.new) (K.written sink.old) (K.written sink.new) result.run)
-        ⊎ ((words.now ≢ []) × WrotePrefix (K.written sink.old) usage_line (K.written sink.new) × (result.run ≡ None)) }
-    ensures usage_cut { words.now ≢ [] → result.status ≡ WRITE_FAILED
+    ensures cut { AreOptions (map string_bytes words.now) → result.status ≡ WRITE_FAILED
+        → StandFor (map string_bytes words.now) (λ options. ReportedInPart options (S.left source.old) (S.left source.new)
+        (K.written sink.old) (K.written sink.new) result.run)
+        ⊎ RefusedInPart (S.left source.old) (S.left source.new) (K.written sink.old) (K.written sink.new) result.run }
+    ensures usage_cut { AreNoOptions (map string_bytes words.now) → result.status ≡ WRITE_FAILED
         → WrotePrefix (K.written sink.old) usage_line (K.written sink.new) × (result.run ≡ None) }
     ensures no_memory { result.status ≡ OUT_OF_MEMORY → (K.written sink.new ≡ K.written sink.old) × (result.run ≡ None) }
 
@@ -228,16 +219,20 @@ pub fn rma_main<S: Source, K: Sink, G: Gate>(
     // Where the end of the input is told, reading is over.
     ensures no_late_read { NoLateRead (S.end source.old) (S.end source.new) }
 
-    // Without words and without faults a script's text is reported on, and any other is refused, unless memory runs out.
-    ensures complete { words.now ≡ [] → (text : List ℕ) (script : ScriptValue) → IsTextOf text script → S.left source.old ≡ Some text
+    // Where the words stand for options and without faults, a script's text is reported on, and any other is refused, unless
+    // memory runs out.
+    ensures complete { AreOptions (map string_bytes words.now)
+        → (text : List ℕ) (script : ScriptValue) → Reads text script → S.left source.old ≡ Some text
         → S.faults source.new ≡ S.faults source.old → K.faults sink.new ≡ K.faults sink.old
         → IsRunStatus result.status ⊎ (result.status ≡ OUT_OF_MEMORY) }
-    ensures refuses { words.now ≡ [] → (text : List ℕ) → IsNoText text → S.left source.old ≡ Some text
+    ensures refuses { AreOptions (map string_bytes words.now)
+        → (text : List ℕ) → IsNoText text → S.left source.old ≡ Some text
         → S.faults source.new ≡ S.faults source.old → K.faults sink.new ≡ K.faults sink.old
         → (result.status ≡ SCRIPT_REFUSED) ⊎ (result.status ≡ OUT_OF_MEMORY) }
 {
-    match read_words(words) {
+    match read_words(alloc, words) {
         Ok(options) => step_main(alloc, &options, source, sink),
-        Err(_) => refuse_words(sink),
+        Err(WordsFault::Usage) => refuse_words(sink),
+        Err(WordsFault::NoMemory) => Outcome::without_run(OUT_OF_MEMORY),
     }
 }

@@ -1,5 +1,6 @@
--- Lemmas on lists, on the lines about calls, and on the order of a log.
+-- Lemmas on lists, on chains, and on the lines about calls.
 pub mod Lists
+pub mod Links
+pub mod Walks
+pub mod Asked
 pub mod Lines
-pub mod Gathered
-pub mod Order

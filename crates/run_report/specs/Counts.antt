@@ -1,7 +1,7 @@
 -- What is counted of a run.
 use Rattle.std.specs.Prelude.{Bool}
 use Rattle.rma_record.specs.declared.items.Item.{Item}
-use Rattle.rma_model.specs.Report.{is_issue, is_touch, is_entry, is_refused}
+use Rattle.lawful_runs.specs.Items.{is_issue, is_touch, is_entry, is_refused}
 use Rattle.run_report.specs.declared.counts.Counted.{Counted}
 use Rattle.run_report.specs.declared.counts.Counted.TheVariants.{Accesses, Touches, Entries, Refusals}
 

@@ -1,16 +1,19 @@
 //! The lines about the calls of a rank.
-ghost use Rattle.std.specs.Prelude.{◌≡◌, ◌+◌, ◌++◌, ◌<◌, [], ◌∷◌, length, drop, codes, OnOk, is_some};
-ghost use Rattle.std.specs.List.{filter};
+ghost use Rattle.std.specs.Prelude.{◌≡◌, ◌+◌, ◌++◌, ◌<◌, [], ◌∷◌, length, codes, OnOk, IfSome};
+ghost use Rattle.std.specs.List.{flat_map};
 ghost use Rattle.std.specs.String.{string_bytes};
-ghost use Rattle.rma_model.specs.Report.{answer_line, call_lines, call_name, fetched_words, is_touch_of, said, standing};
-ghost use Rattle.rma_model.specs.Orderly.{IsOrderly, IsInOrder, TouchesFollow, leading};
-ghost use Rattle.run_report.specs.Parts.{item_lines, items_lines, waiting_lines};
+ghost use Rattle.call_rules.specs.Pieces.{numbers_from};
+ghost use Rattle.run_report.specs.Chains.{AreChains};
+ghost use Rattle.run_report.specs.Parts.{item_lines, lines_of_call, numbers_found, said_lines, waiting_lines};
+ghost use Rattle.run_texts.specs.Answers.{fetched_words, standing};
+ghost use Rattle.run_texts.specs.Report.{answer_line, call_lines};
 
+use crate::chains::Chains;
 use crate::fetches::{fetched_type, write_numbers};
 use crate::standings::{call_at, stands_at};
 use rma_record::Item;
-use rma_types::{Access, Call, Dtype, Step};
-use std::alloc::AllocError;
+use rma_types::{Access, Call, Dtype};
+use std::alloc::{AllocError, Global};
 
 /// Writes a line of two words about a call.
 fn write_words(
@@ -35,18 +38,23 @@ fn write_value(
     call: u32,
     access: &Access,
     dtype: Dtype,
+    calls: usize,
     items: &[Item],
+    chains: &Chains,
     index: usize,
 ) -> Result<(), AllocError>
     requires index { index < length items.now }
-    requires follow { leading (is_touch_of index) (drop (index + 1) items.now) ≡ filter (is_touch_of index) items.now }
+    requires chains { AreChains calls items.now 0 chains.now.first.items chains.now.next.items }
     ensures { OnOk result
         (string_bytes text.new
         ≡ string_bytes text.old
-        ++ answer_line rank (record { call = call; words = codes "value" ∷ fetched_words items.now index access.now dtype })) }
+        ++ answer_line rank (record {
+          call = call;
+          words = codes "value" ∷ fetched_words items.now index access.now dtype;
+        })) }
 {
     write!(text, "{rank}:{call} value")?;
-    write_numbers(text, access, dtype, items, index)?;
+    write_numbers(text, access, dtype, calls, items, chains, index)?;
     text.push_str("\n")?;
     Ok(())
 }
@@ -57,12 +65,13 @@ fn write_issue(
     rank: u8,
     calls: &[Call],
     items: &[Item],
+    chains: &Chains,
     index: usize,
     call: u32,
     access: &Access,
 ) -> Result<(), AllocError>
     requires index { index < length items.now }
-    requires follow { leading (is_touch_of index) (drop (index + 1) items.now) ≡ filter (is_touch_of index) items.now }
+    requires chains { AreChains (length calls.now) items.now 0 chains.now.first.items chains.now.next.items }
     ensures { OnOk result
         (string_bytes text.new
         ≡ string_bytes text.old ++ item_lines rank calls.now items.now index (Item.Issue call access.now)) }
@@ -71,29 +80,20 @@ fn write_issue(
         None => Ok(()),
         Some(made) => match fetched_type(made) {
             None => Ok(()),
-            Some(dtype) => write_value(text, rank, call, access, dtype, items, index),
+            Some(dtype) => {
+                write_value(
+                    text,
+                    rank,
+                    call,
+                    access,
+                    dtype,
+                    calls.len(),
+                    items,
+                    chains,
+                    index,
+                )
+            }
         },
-    }
-}
-
-/// Writes that a `testwin` was true, where the call that was entered is one.
-fn write_entry(
-    text: &mut String,
-    rank: u8,
-    calls: &[Call],
-    items: &[Item],
-    index: usize,
-    call: u32,
-    place: u32,
-    step: Step,
-) -> Result<(), AllocError>
-    ensures { OnOk result
-        (string_bytes text.new
-        ≡ string_bytes text.old ++ item_lines rank calls.now items.now index (Item.Entry call place step)) }
-{
-    match call_at(calls, call as usize) {
-        Some(Call::TestWin { .. }) => write_words(text, rank, call as usize, "test", "true"),
-        _ => Ok(()),
     }
 }
 
@@ -103,15 +103,19 @@ fn write_item(
     rank: u8,
     calls: &[Call],
     items: &[Item],
+    chains: &Chains,
     index: usize,
     item: &Item,
 ) -> Result<(), AllocError>
     requires index { index < length items.now }
-    requires follow { leading (is_touch_of index) (drop (index + 1) items.now) ≡ filter (is_touch_of index) items.now }
-    ensures { OnOk result (string_bytes text.new ≡ string_bytes text.old ++ item_lines rank calls.now items.now index item.now) }
+    requires chains { AreChains (length calls.now) items.now 0 chains.now.first.items chains.now.next.items }
+    ensures { OnOk result
+        (string_bytes text.new ≡ string_bytes text.old ++ item_lines rank calls.now items.now index item.now) }
 {
     match item {
-        Item::Issue { call, access } => write_issue(text, rank, calls, items, index, *call, access),
+        Item::Issue { call, access } => {
+            write_issue(text, rank, calls, items, chains, index, *call, access)
+        }
         Item::Refused { call, class, .. } => write_words(
             text,
             rank,
@@ -120,58 +124,73 @@ fn write_item(
             class.text(),
         ),
         Item::Tested { call, .. } => write_words(text, rank, *call as usize, "test", "false"),
-        Item::Entry { call, place, step } => write_entry(
-            text, rank, calls, items, index, *call, *place, *step,
-        ),
+        Item::Entry { call, .. } => match call_at(calls, *call as usize) {
+            Some(Call::TestWin { .. }) => write_words(text, rank, *call as usize, "test", "true"),
+            _ => Ok(()),
+        },
         _ => Ok(()),
     }
 }
 
-/// Writes what the items of a log say of its calls.
-fn write_items(
+/// Writes what the items of a call say of it.
+fn write_said(
     text: &mut String,
     rank: u8,
     calls: &[Call],
     items: &[Item],
+    chains: &Chains,
+    call: usize,
 ) -> Result<(), AllocError>
-    requires { TouchesFollow items.now }
-    ensures { OnOk result (string_bytes text.new ≡ string_bytes text.old ++ items_lines rank calls.now items.now 0 items.now) }
+    requires call { call < length calls.now }
+    requires chains { AreChains (length calls.now) items.now 0 chains.now.first.items chains.now.next.items }
+    ensures { OnOk result (string_bytes text.new ≡ string_bytes text.old ++ said_lines rank calls.now items.now call) }
 {
-    for (index, item) in items.iter().enumerate() {
-        write_item(text, rank, calls, items, index, item)?;
+    let mut at = chains.first(call);
+    'links: while at < items.len() {
+        write_item(text, rank, calls, items, chains, at, &items[at])?;
+        at = chains.next(at);
     }
     Ok(())
 }
 
-/// Writes that a rank waits, where it stands.
+/// Writes that the rank waits at a call, where it stands there.
 fn write_waiting(
     text: &mut String,
     rank: u8,
     calls: &[Call],
-    items: &[Item],
+    stands: Option<usize>,
+    call: usize,
 ) -> Result<(), AllocError>
-    requires { IsInOrder calls.now 0 items.now }
-    ensures { OnOk result (string_bytes text.new ≡ string_bytes text.old ++ waiting_lines rank calls.now items.now) }
+    requires { IfSome stands (λ at. at < length calls.now) }
+    ensures { OnOk result (string_bytes text.new ≡ string_bytes text.old ++ waiting_lines rank calls.now stands call) }
 {
-    match stands_at(calls, items) {
-        None => Ok(()),
-        Some(call) => {
-            let made = &calls[call];
-            write_words(text, rank, call, "waits", made.word())
+    match stands {
+        Some(at) => {
+            if at == call {
+                write_words(text, rank, at, "waits", calls[at].word())
+            } else {
+                Ok(())
+            }
         }
+        None => Ok(()),
     }
 }
 
-/// Writes the lines about a rank's calls.
+/// Writes the lines about a rank's calls, call by call.
 pub(crate) fn write_calls(
+    alloc: Global,
     text: &mut String,
     rank: u8,
     calls: &[Call],
     items: &[Item],
 ) -> Result<(), AllocError>
-    requires { IsOrderly calls.now items.now }
     ensures { OnOk result (string_bytes text.new ≡ string_bytes text.old ++ call_lines rank calls.now items.now) }
 {
-    write_items(text, rank, calls, items)?;
-    write_waiting(text, rank, calls, items)
+    let chains = Chains::of(alloc, calls.len(), items)?;
+    let stands = stands_at(calls, items, &chains);
+    for call in 0..calls.len() {
+        write_said(text, rank, calls, items, &chains, call)?;
+        write_waiting(text, rank, calls, stands, call)?;
+    }
+    Ok(())
 }

@@ -1,7 +1,7 @@
 //! The counts of a report's last line.
 ghost use Rattle.std.specs.Prelude.{◌≡◌, ◌≤◌, ◌<◌, ◌^◌, length, count_by, sum, sum_by};
-ghost use Rattle.rma_model.specs.Layout.{calls_of};
-ghost use Rattle.rma_model.specs.Report.{items_where};
+ghost use Rattle.call_rules.specs.Layout.{calls_of};
+ghost use Rattle.run_texts.specs.Report.{items_where};
 ghost use Rattle.run_report.specs.Counts.{test_of};
 
 use crate::runs::items_of;

@@ -3,7 +3,8 @@ ghost use Rattle.std.specs.Prelude.{◌≡◌, ◌∷◌, ◌++◌, slice_get, O
 ghost use Rattle.std.specs.List.{flat_map};
 ghost use Rattle.std.specs.Option.{option_map_or};
 ghost use Rattle.std.specs.String.{string_bytes};
-ghost use Rattle.rma_model.specs.Report.{rule_text, issued_call, log_at, access_name, finding_line};
+ghost use Rattle.lawful_runs.specs.Logs.{log_of};
+ghost use Rattle.run_texts.specs.Report.{rule_text, issued_call, access_name, finding_line};
 
 use crate::runs::items_of;
 use rma_record::{Item, Run};
@@ -23,7 +24,7 @@ fn rule_name(rule: Rule) -> &'static str
 
 /// The call that an `Issue` is of.
 fn call_of(run: &Run, id: Id) -> u32
-    ensures { result ≡ option_map_or issued_call (slice_get (log_at run.now id.rank) id.index) 0 }
+    ensures { result ≡ option_map_or issued_call (slice_get (log_of run.now id.rank) id.index) 0 }
 {
     match items_of(run, id.rank as usize).get(id.index as usize) {
         Some(Item::Issue { call, .. }) => *call,

@@ -1,10 +1,11 @@
 //! The report on a run, and the status with which the program ends.
 //!
-//! `report_text` writes exactly the text that `Report` of `rma_model` defines, in one pass through each log, and
-//! `status_of` answers exactly its `Status`.
+//! `report_text` writes exactly the text that `Report` of `run_texts` defines, and `status_of` answers exactly its
+//! `Status`, of any run.
 #![tactic(auto)]
 
 mod calls;
+mod chains;
 mod counts;
 mod fetches;
 mod findings;

@@ -2,7 +2,7 @@
 ghost use Rattle.std.specs.Prelude.{◌≡◌, ◌++◌, ◌<◌, ◌^◌, ◌*◌, ◌==◌, length, take, drop, OnOk};
 ghost use Rattle.std.specs.List.{flat_map, list_all};
 ghost use Rattle.std.specs.String.{string_bytes};
-ghost use Rattle.rma_model.specs.Report.{byte_hex, cell_hex, memory_line, memory_lines, cells_in, cells_at};
+ghost use Rattle.run_texts.specs.Report.{byte_hex, cell_hex, memory_line, memory_lines, cells_in, cells_at};
 
 use rma_types::{Layout, MemoryPart};
 use std::alloc::AllocError;
@@ -83,7 +83,8 @@ fn write_piece(text: &mut String, rank: u8, cells: &[u32], piece: usize) -> Resu
     requires piece { 8 * piece < length cells.now }
     requires short { length cells.now < 2 ^ 32 }
     ensures { OnOk result
-        (string_bytes text.new ≡ string_bytes text.old ++ memory_line rank (32 * piece) (take 8 (drop (8 * piece) cells.now))) }
+        (string_bytes text.new
+        ≡ string_bytes text.old ++ memory_line rank (32 * piece) (take 8 (drop (8 * piece) cells.now))) }
 {
     let rest = &cells[8 * piece..];
     let count = rest.len().min(8);

@@ -1,9 +1,9 @@
 //! The numbers that stand in cells.
 ghost use Rattle.std.specs.Prelude.{◌≡◌, ◌<◌, ◌≤◌, ◌*◌, ◌+◌, ◌%◌, ◌^◌};
 ghost use Rattle.rma_types.specs.Datatypes.{size_of};
-ghost use Rattle.rma_model.specs.Elements.{element_in};
-ghost use Rattle.rma_model.specs.Numbers.{signed_number, number_of, patterns_of};
-ghost use Rattle.rma_model.specs.Report.{fetched};
+ghost use Rattle.call_rules.specs.Elements.{element_in};
+ghost use Rattle.call_rules.specs.Numbers.{signed_number, number_of, patterns_of};
+ghost use Rattle.run_texts.specs.Answers.{fetched};
 
 use rma_types::{Access, Dtype};
 

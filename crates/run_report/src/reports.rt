@@ -2,25 +2,25 @@
 ghost use Rattle.std.specs.Prelude.{◌≡◌, ◌++◌, ◌<◌, ◌≤◌, ◌^◌, ℕ, length, sum_by, OnOk, IfOk};
 ghost use Rattle.std.specs.List.{flat_map};
 ghost use Rattle.std.specs.String.{string_bytes};
-ghost use Rattle.rma_model.specs.Layout.{IsWithinLimits, layout as layout_of_script};
-ghost use Rattle.rma_model.specs.Pieces.{numbers_from};
-ghost use Rattle.rma_model.specs.Report.{call_lines, calls_at, cells_at, first_line, full_report, log_at, memory_lines, report, summary_line, work_report};
-ghost use Rattle.rma_model.specs.Orderly.{HasOrderlyLogs};
+ghost use Rattle.call_rules.specs.Layout.{IsWithinLimits, layout as layout_of_script};
+ghost use Rattle.call_rules.specs.Pieces.{numbers_from};
+ghost use Rattle.lawful_runs.specs.Logs.{calls_of, log_of};
+ghost use Rattle.run_texts.specs.Report.{call_lines, cells_at, first_line, full_report, memory_lines, report, summary_line, work_report};
 
 use crate::calls::write_calls;
 use crate::counts::{Counted, count_calls, count_items, total_of};
 use crate::findings::write_findings;
 use crate::memory::{cells_of, write_memory};
 use crate::runs::{every_rank_ended, items_of};
-use rma_model::Mode;
 use rma_record::Run;
 use rma_types::{Call, Finding, Layout, NoMemory, Script};
+use run_texts::Mode;
 use script_layout::layout_of;
 use std::alloc::{AllocError, Global};
 
 /// The calls of a rank.
-fn calls_of(script: &Script, rank: usize) -> &[Call]
-    ensures { result.now ≡ calls_at script.now rank }
+fn calls_in(script: &Script, rank: usize) -> &[Call]
+    ensures { result.now ≡ calls_of script.now rank }
 {
     match script.calls.get(rank) {
         Some(calls) => calls.as_slice(),
@@ -40,19 +40,25 @@ fn write_first(text: &mut String, run: &Run) -> Result<(), AllocError>
 }
 
 /// Writes the lines about the calls of all ranks.
-fn write_all_calls(text: &mut String, script: &Script, run: &Run) -> Result<(), AllocError>
-    requires { HasOrderlyLogs script.now run.now }
+fn write_all_calls(
+    alloc: Global,
+    text: &mut String,
+    script: &Script,
+    run: &Run,
+) -> Result<(), AllocError>
     ensures { OnOk result
         (string_bytes text.new
         ≡ string_bytes text.old
-        ++ flat_map (λ rank. call_lines rank (calls_at script.now rank) (log_at run.now rank)) (numbers_from 0 script.now.ranks)) }
+        ++ flat_map (λ rank. call_lines rank (calls_of script.now rank) (log_of run.now rank))
+        (numbers_from 0 script.now.ranks)) }
 {
     let ranks = script.ranks;
     for rank in 0..ranks {
         write_calls(
+            alloc,
             text,
             rank,
-            calls_of(script, rank as usize),
+            calls_in(script, rank as usize),
             items_of(run, rank as usize),
         )?;
     }
@@ -115,6 +121,7 @@ fn write_work(
 
 /// Writes the report on a script's run.
 fn write_full(
+    alloc: Global,
     text: &mut String,
     layout: &Layout,
     script: &Script,
@@ -122,11 +129,10 @@ fn write_full(
     found: &[Finding],
 ) -> Result<(), AllocError>
     requires layout { layout.now ≡ layout_of_script script.now }
-    requires orderly { HasOrderlyLogs script.now run.now }
     ensures { OnOk result (string_bytes text.new ≡ string_bytes text.old ++ full_report script.now run.now found.now) }
 {
     write_first(text, run)?;
-    write_all_calls(text, script, run)?;
+    write_all_calls(alloc, text, script, run)?;
     write_all_memory(text, layout, run.memory.as_slice(), script.ranks)?;
     write_findings(text, run, found)?;
     write_summary(text, run, found)?;
@@ -134,8 +140,9 @@ fn write_full(
 }
 
 /// Writes the report of a mode.
-#[tactic(auto, unfolding(rma_model::specs::Report::report))]
+#[tactic(auto, unfolding(run_texts::specs::Report::report))]
 fn write_report(
+    alloc: Global,
     text: &mut String,
     layout: &Layout,
     script: &Script,
@@ -145,20 +152,20 @@ fn write_report(
 ) -> Result<(), AllocError>
     requires layout { layout.now ≡ layout_of_script script.now }
     requires limits { IsWithinLimits script.now }
-    requires orderly { HasOrderlyLogs script.now run.now }
     ensures { OnOk result (string_bytes text.new ≡ string_bytes text.old ++ report script.now run.now found.now mode) }
 {
     match mode {
-        Mode::Step => write_full(text, layout, script, run, found),
-        Mode::Run => write_full(text, layout, script, run, found),
+        Mode::Step => write_full(alloc, text, layout, script, run, found),
+        Mode::Run => write_full(alloc, text, layout, script, run, found),
         Mode::Work => write_work(text, script, run, found),
     }
 }
 
 /// The report on a script's run and its findings.
 ///
-/// The run is one of the program without deferred deliveries: the items of each log stand in the order of its calls, and
-/// the touches of an access directly follow its `Issue`. It is written in one pass through each log.
+/// It holds of any run: the items of each log are gathered by their calls, and the touches by their accesses, in one
+/// pass through the log, which takes 8 bytes for each item and 4 for each call. `NoMemory` is answered too where a log
+/// has more than 4,294,967,295 items.
 pub fn report_text(
     alloc: Global,
     script: &Script,
@@ -167,12 +174,11 @@ pub fn report_text(
     mode: Mode,
 ) -> Result<Vec<u8>, NoMemory>
     requires limits { IsWithinLimits script.now }
-    requires orderly { HasOrderlyLogs script.now run.now }
     ensures { IfOk result (λ text. text.items ≡ report script.now run.now found.now mode) }
 {
     let layout = layout_of(alloc, script)?;
     let mut text = String::new(alloc);
-    match write_report(&mut text, &layout, script, run, found, mode) {
+    match write_report(alloc, &mut text, &layout, script, run, found, mode) {
         Ok(()) => Ok(text.into_bytes()),
         Err(_) => Err(NoMemory),
     }

@@ -1,15 +1,17 @@
 //! What a whole run says: how it ended, and the program's status.
 ghost use Rattle.std.specs.Prelude.{◌≡◌, ◌<◌, length, IsTrue};
 ghost use Rattle.std.specs.List.{list_any};
-ghost use Rattle.rma_model.specs.Report.{has_ended, all_ended, log_at, is_refused};
-ghost use Rattle.rma_model.specs.Status.{status};
+ghost use Rattle.lawful_runs.specs.Items.{has_ended as is_at_end, is_refused};
+ghost use Rattle.lawful_runs.specs.Logs.{log_of};
+ghost use Rattle.run_texts.specs.Report.{all_ended};
+ghost use Rattle.run_texts.specs.Status.{status};
 
 use rma_record::{Item, Run};
 use rma_types::Finding;
 
 /// The items of a rank's log.
 pub(crate) fn items_of(run: &Run, rank: usize) -> &[Item]
-    ensures { result.now ≡ log_at run.now rank }
+    ensures { result.now ≡ log_of run.now rank }
 {
     match run.logs.get(rank) {
         Some(log) => log.items(),
@@ -18,8 +20,8 @@ pub(crate) fn items_of(run: &Run, rank: usize) -> &[Item]
 }
 
 /// Whether a log ends with `Ended`.
-pub(crate) fn ends(items: &[Item]) -> bool
-    ensures { result ≡ has_ended items.now }
+pub(crate) fn has_ended(items: &[Item]) -> bool
+    ensures { result ≡ is_at_end items.now }
 {
     match items.last() {
         Some(Item::Ended) => true,
@@ -32,7 +34,7 @@ pub(crate) fn every_rank_ended(run: &Run) -> bool
     ensures { result ≡ all_ended run.now }
 {
     for rank in 0..run.logs.len() {
-        if !ends(items_of(run, rank)) {
+        if !has_ended(items_of(run, rank)) {
             return false;
         }
     }

@@ -1,10 +1,9 @@
 ghost use Rattle.std.specs.Prelude.{◌≡◌, [], ◌∷◌, IfOk};
 
 use crate::{report_text, status_of};
-use rma_model::Mode;
 use rma_record::{Item, Keep, Log, Logs, Run};
 use rma_types::{Items, NoMemory, Script};
-use script_layout::is_within_limits;
+use run_texts::Mode;
 use std::alloc::Global;
 use std::test::*;
 
@@ -36,7 +35,6 @@ fn a_rank_without_calls(rt: HostRuntime) -> Result<(), Fail> {
         spaces: Items::from_slice(alloc, &[0])?,
         calls,
     };
-    assert!(rt; is_within_limits(&script));
     let run = quiet_run(alloc).ok().ok_or("memory is there")?;
     let text = report_text(alloc, &script, &run, &[], Mode::Step)
         .ok()

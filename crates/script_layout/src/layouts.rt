@@ -2,7 +2,7 @@
 ghost use Rattle.std.specs.Prelude.{◌≡◌, ◌≤◌, ℕ, List, length, sum_by, map, IfOk};
 ghost use Rattle.std.specs.List.{zip};
 ghost use Rattle.rma_types.specs.declared.calls.Call.{Call};
-ghost use Rattle.rma_model.specs.Layout.{rounded, memory_bytes, bases_from, parts_from, layout, IsWithinLimits};
+ghost use Rattle.call_rules.specs.Layout.{rounded, memory_bytes, bases_from, parts_from, layout, IsWithinLimits};
 
 use crate::sizes::{call_size, space_size};
 use rma_types::{Call, CallBase, Items, Layout, MemoryPart, NoMemory, Script};

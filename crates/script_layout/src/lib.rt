@@ -5,11 +5,9 @@
 #![tactic(auto)]
 
 mod layouts;
-mod limits;
 mod sizes;
 
 pub use layouts::layout_of;
-pub use limits::is_within_limits;
 
 #[cfg(test)]
 mod tests;

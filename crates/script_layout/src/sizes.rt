@@ -1,6 +1,6 @@
 //! The bytes of memory that stand for a space and for a call.
 ghost use Rattle.std.specs.Prelude.{◌≡◌, ◌≤◌};
-ghost use Rattle.rma_model.specs.Layout.{rounded, call_bytes};
+ghost use Rattle.call_rules.specs.Layout.{rounded, call_bytes};
 
 use rma_types::Call;
 

@@ -1,4 +1,4 @@
-use crate::{is_within_limits, layout_of};
+use crate::layout_of;
 use rma_types::{Call, CallBase, Items, MemoryPart, Script};
 use std::test::*;
 
@@ -26,7 +26,6 @@ fn parts_follow_each_other(rt: HostRuntime) -> Result<(), Fail> {
         spaces,
         calls,
     };
-    assert!(rt; is_within_limits(&script));
     let layout = layout_of(alloc, &script).ok().ok_or("memory is there")?;
     let parts = [
         MemoryPart {

@@ -26,6 +26,7 @@ use Rattle.rank_rules.specs.WindowTests.{is_outside, is_in_use, has_wrong_base, 
 use Rattle.step_laws.proofs.Lists.{each_mapped, each_kept, number_among}
 use Rattle.step_laws.proofs.OwnTests.{HasIssue, none_applies}
 use Rattle.step_laws.specs.Inside.{bytes_at, LiesInMemory}
+pub use Rattle.step_laws.specs.Rooms.{FitsMemory, IsByAddress, IsRoomyWindow, EndsInMemory, AreRoomy}
 
 -- ---- ranges of a space
 
@@ -99,28 +100,6 @@ covered_is_inside most ranges lo len fit covered address low high =
     within a b c h k = omega arith
 
 -- ---- windows that lie in memory
-
--- the part of a rank in a window lies in the rank's memory
-abbrev pub FitsMemory : Layout → ℕ → Part → Type 0
-FitsMemory memory rank part = part.base + part.bytes ≤ bytes_at memory rank
-
--- a displacement is an address
-abbrev pub IsByAddress : Part → Type 0
-IsByAddress part = (part.base ≡ 0) × (part.unit ≡ 1)
-
--- each rank's part of the window lies in the rank's memory; in a dynamic window a displacement is an address
-pub record IsRoomyWindow (memory : Layout) (window : Window) : Type 0 where
-  pub parts : (rank : ℕ) → FitsMemory memory rank (part_at window.parts rank)
-  pub addresses : is_same_flavor window.flavor Dynamic ≡ true → (rank : ℕ) → IsByAddress (part_at window.parts rank)
-
--- the range lies in the rank's memory
-abbrev pub EndsInMemory : Layout → ℕ → OwnRange → Type 0
-EndsInMemory memory rank own = own.range.base + own.range.bytes ≤ bytes_at memory rank
-
--- the windows and ranges that a rank knows lie in memory
-pub record AreRoomy (memory : Layout) (known : RankWindows) : Type 0 where
-  pub windows : AllByRecursion (IsRoomyWindow memory) known.windows
-  pub ranges : AllByRecursion (EndsInMemory memory known.rank) known.ranges
 
 -- the ranges that are attached to a window of the rank lie in its memory
 attached_fit : (memory : Layout) (known : RankWindows) (win : ℕ) → AreRoomy memory known →

@@ -2,3 +2,4 @@
 pub mod Drained
 pub mod Ends
 pub mod Inside
+pub mod Rooms

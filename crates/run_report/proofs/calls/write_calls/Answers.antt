@@ -1,16 +1,26 @@
-use Rattle.std.proofs.Common.{◌≡◌, ◌++◌, ◌∙◌, List, ℕ, sym, ap, subst, OnOk}
+use Rattle.std.proofs.Common.{◌≡◌, ◌++◌, ◌∙◌, List, ℕ, ap, sym, length}
+use Rattle.std.specs.Prelude.{Option, ◌==◌}
+use Rattle.std.specs.List.{filter, flat_map}
 use Rattle.std.specs.String.{string_bytes}
 use Rattle.std.proofs.lemmas.List.{append_assoc}
-use Rattle.run_report.specs.Parts.{items_lines, waiting_lines}
-use Rattle.run_report.proofs.Order.{call_lines_are}
+use Rattle.run_report.specs.Parts.{said_lines, waiting_lines}
+use Rattle.run_report.proofs.Lines.{lines_are}
+use Rattle.run_report.proofs.Lists.{written_step}
 use Rattle.run_report.proofs.calls.write_calls.Goals as goal
+use Rattle.run_texts.specs.Answers.{Answer, answers}
+use Rattle.run_texts.specs.Report.{answer_line}
 
-pub returns : goal.returns
-returns c =
-    let said = items_lines c.args.rank c.args.calls.now c.args.items.now 0 c.args.items.now in
-    let waits = waiting_lines c.args.rank c.args.calls.now c.args.items.now in
-    let P : List ℕ → Type 0 = λ text. OnOk c.write_waiting.result (string_bytes c.write_waiting.new.text ≡ text) in
-    subst P
-    (ap (λ t. t ++ waits) c.in_ok-write_items.ensures ∙ append_assoc (string_bytes c.args.text.now) said waits
-    ∙ ap (λ t. string_bytes c.args.text.now ++ t) (sym (call_lines_are c.args.rank c.args.calls.now c.args.items.now c.requires.in_order)))
-    c.write_waiting.ensures
+pub loop-call-preserved : goal.loop-call-preserved
+loop-call-preserved c =
+    let rank = c.args.rank in let calls = c.args.calls.now in let log = c.args.items.now in let call =
+    c.loop-call.call in
+    let text = string_bytes c.loop-call.text in
+    let said = said_lines rank calls log call in
+    written_step (λ call. flat_map (answer_line rank) (filter (λ (a : Answer). a.call == call) (answers calls log)))
+    call (length calls) _ _ _ c.loop-call-test.true c.loop-call.invariant
+    (c.in_ok-write_waiting.ensures ∙ ap (λ t. t
+    ++ waiting_lines rank calls c.stands_at-stands.result call) c.in_ok-write_said.ensures
+    ∙ append_assoc text said (waiting_lines rank calls c.stands_at-stands.result call)
+    ∙ ap (λ (stands : Option ℕ). text
+    ++ (said ++ waiting_lines rank calls stands call)) c.stands_at-stands.ensures.value
+    ∙ ap (λ t. text ++ t) (sym (lines_are rank calls log call c.loop-call-test.true)))

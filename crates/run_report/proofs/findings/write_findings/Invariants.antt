@@ -1,7 +1,7 @@
 use Rattle.std.proofs.Common.{◌≡◌, ◌++◌, drop}
 use Rattle.std.specs.List.{flat_map}
 use Rattle.std.specs.String.{string_bytes}
-use Rattle.rma_model.specs.Report.{finding_line}
+use Rattle.run_texts.specs.Report.{finding_line}
 use Rattle.run_report.proofs.findings.write_findings.Given as goal
 
 -- what is left gives the whole

@@ -1,5 +1,5 @@
 use Rattle.std.proofs.Common.{◌*◌, take, drop}
-use Rattle.rma_model.specs.Report.{memory_line}
+use Rattle.run_texts.specs.Report.{memory_line}
 use Rattle.run_report.proofs.Lists.{written_step}
 use Rattle.run_report.proofs.memory.write_memory.Goals as goal
 

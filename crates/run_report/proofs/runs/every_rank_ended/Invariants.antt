@@ -1,6 +1,6 @@
 use Rattle.std.proofs.Common.{◌≡◌, drop}
 use Rattle.std.specs.List.{list_all}
-use Rattle.rma_model.specs.Report.{has_ended}
+use Rattle.lawful_runs.specs.Items.{has_ended}
 use Rattle.run_report.proofs.runs.every_rank_ended.Given as goal
 
 -- the logs that are left decide

@@ -1,5 +1,5 @@
 use Rattle.std.proofs.Common.{◌≡◌, ◌+◌, ◌++◌, drop, sum_by}
-use Rattle.rma_model.specs.Layout.{rounded, call_bytes, memory_bytes, bases_from}
+use Rattle.call_rules.specs.Layout.{rounded, call_bytes, memory_bytes, bases_from}
 use Rattle.script_layout.proofs.layouts.bases_of.Given as goal
 
 -- what stands so far, and what the calls that are left give, is the whole

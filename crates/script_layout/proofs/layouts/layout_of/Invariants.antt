@@ -3,7 +3,7 @@ use Rattle.std.specs.List.{zip}
 use Rattle.std.specs.Iterator.Adapters.{zip_first, zip_second}
 use Rattle.std.specs.Slice.Iter.{iter_rest}
 use Rattle.rma_types.specs.declared.calls.Call.{Call}
-use Rattle.rma_model.specs.Layout.{rounded, memory_bytes, bases_from, parts_from}
+use Rattle.call_rules.specs.Layout.{rounded, memory_bytes, bases_from, parts_from}
 use Rattle.script_layout.proofs.layouts.layout_of.Given as goal
 
 -- what stands so far, and what the ranks that are left give, is the whole

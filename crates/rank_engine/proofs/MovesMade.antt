@@ -1,0 +1,140 @@
+-- Moves that only name an access to be delivered, or nothing.
+use Rattle.std.proofs.Common.{◌≡◌, ℕ, zero, suc, ◌+◌, ◌<◌, ◌≤◌, Bool, true, false, cond, not, List, [], ◌∷◌, ◌++◌, length, drop, Option, Some, None, refl, sym, ◌∙◌, ap, subst, arith}
+use Rattle.std.specs.Prelude.{◌/◌, ◌%◌, ◌==◌, ◌&&◌, map, nat_lt, slice_get}
+use Rattle.std.specs.List.{position}
+use Rattle.std.specs.Option.{option_and_then, option_map_or}
+use Rattle.std.proofs.lemmas.Bool.{and_parts, eq-eqb, lt-ltb}
+use Rattle.std.proofs.lemmas.List.{append-nil}
+use Rattle.rank_rules.specs.declared.pending.PendingAccess.{PendingAccess}
+use Rattle.rank_rules.specs.Pending.{awaited, gives_way, must_wait, share_cell, way}
+use Rattle.rank_rules.specs.Requests.{Requests}
+use Rattle.call_rules.specs.Transfers.{is_ordered_kind}
+use Rattle.lawful_runs.specs.TouchLaw.{is_local}
+use Rattle.rma_types.specs.declared.accesses.Kind.{Kind}
+use Rattle.rma_types.specs.declared.accesses.Kind.TheVariants.{Get, Put, Acc, Cas, Load, Store}
+use Rattle.rma_types.specs.declared.calls.Call.{Call}
+use Rattle.rma_types.specs.declared.schedules.Delay.{Delay}
+use Rattle.rma_types.specs.declared.schedules.Delay.TheVariants.{None as NoDelay, End as EndDelay, Seeded as SeededDelay}
+use Rattle.lawful_runs.specs.Stages.{Stage}
+use Rattle.step_runs.specs.Agents.{Agent, is_seeded, must_draw}
+use Rattle.step_runs.specs.DataSteps.{draw, is_at_once, just_delivers}
+use Rattle.step_runs.specs.Generator.{drawn_from, stirred}
+use Rattle.rank_engine.proofs.Ways.{way_alone, way_twice}
+use Rattle.rank_engine.specs.Moves.{IsFirst, IsMove}
+use Rattle.rank_engine.specs.RankStates.{RankState}
+
+all_dropped : {X : Type 0} (xs : List X) → drop (length xs) xs ≡ []
+all_dropped [] = refl
+all_dropped (x ∷ xs) = all_dropped xs
+
+-- nothing is issued
+pub nothing_touched : (touched : List ℕ) (pending : List PendingAccess) →
+    touched ++ map (λ (_ : PendingAccess). 0) (drop (length pending) pending) ≡ touched
+nothing_touched touched pending =
+    ap (λ p. touched ++ map (λ (_ : PendingAccess). 0) p) (all_dropped pending) ∙ append-nil touched
+
+-- a pending access is named
+pub names_one : (s : RankState) (at : ℕ) → IsFirst s.agent.pending at →
+    IsMove s s (just_delivers s.agent at) (Some at)
+names_one s at first = record {
+  rank = ap (λ touched. record s { touched = touched }) (sym (nothing_touched s.touched s.agent.pending));
+  place_is = ap (λ b. cond b (Some at) None) (sym (lt-ltb at (length s.agent.pending) first.0));
+  first = first;
+  above = omega arith;
+  below = omega arith;
+}
+
+-- the awaited access gives way to none
+pub awaited_first : (requests : Requests) (call : Call) (pending : List PendingAccess) (at : ℕ) →
+    Some at ≡ awaited requests call pending → way pending at ≡ at
+awaited_first requests call pending at e = by_place (position (must_wait requests call) pending) e
+  where
+    by_place : (o : Option ℕ) → Some at ≡ option_map_or (λ n. Some (way pending n)) o None → way pending at ≡ at
+    by_place None h = absurd (cc h)
+    by_place (Some n) h =
+        let is : at ≡ way pending n = cc h in
+        subst (λ m. way pending m ≡ m) (sym is) (way_twice pending n)
+
+-- an odd draw names one
+pub draws_one : (s : RankState) (draws number place free : ℕ) → draws ≡ stirred s.agent.draws →
+    number ≡ drawn_from draws → number % 2 ≡ 1 →
+    place ≡ way s.agent.pending (number / 2 % length s.agent.pending) → place < length s.agent.pending →
+    free ≡ s.free →
+    IsMove s (record s { agent = record s.agent { drawn = true; draws = draws }; free = free }) (draw s.agent) (Some place)
+draws_one s draws number place free d n odd is within f = record {
+  rank = cc (d, touches);
+  place_is = sym (ap (λ b. option_and_then inside (cond b (Some named) None)) odd_test ∙ (ap (option_and_then inside) (ap Some same) ∙ inner));
+  first = (
+    within,
+    subst (λ m. way s.agent.pending m ≡ m) (sym is)
+        (way_twice s.agent.pending (number / 2 % length s.agent.pending)),
+  );
+  above = subst (λ m. s.free ≤ m + 1) (sym f) (omega arith);
+  below = subst (λ m. m ≤ s.free) (sym f) (omega arith);
+}
+  where
+    inside : ℕ → Option ℕ
+    inside at = cond (nat_lt at (length s.agent.pending)) (Some at) None
+
+    named : ℕ
+    named = way s.agent.pending (drawn_from (stirred s.agent.draws) / 2 % length s.agent.pending)
+
+    touches : s.touched ++ map (λ (_ : PendingAccess). 0) (drop (length s.agent.pending) s.agent.pending) ≡ s.touched
+    touches = nothing_touched s.touched s.agent.pending
+
+    odd_test : (drawn_from (stirred s.agent.draws) % 2 == 1) ≡ true
+    odd_test = eq-eqb (drawn_from (stirred s.agent.draws) % 2) 1 (subst (λ m. m % 2 ≡ 1) (n ∙ ap drawn_from d) odd)
+
+    same : named ≡ place
+    same = sym (is ∙ ap (λ m. way s.agent.pending (m / 2 % length s.agent.pending)) (n ∙ ap drawn_from d))
+
+    inner : inside place ≡ Some place
+    inner = ap (λ b. cond b (Some place) None) (lt-ltb place (length s.agent.pending) within)
+
+-- a draw is made where something is pending
+pub some_waits : (stage : Stage) (agent : Agent) → must_draw stage agent ≡ true → 0 < length agent.pending
+some_waits stage agent e = by_tests (is_seeded stage.delay) agent.drawn (length agent.pending) e
+  where
+    by_length : (n : ℕ) → not (n == 0) ≡ true → 0 < n
+    by_length zero h = absurd (cc h)
+    by_length (suc n) h = omega arith
+
+    by_tests : (a b : Bool) (n : ℕ) → (a && not b && not (n == 0)) ≡ true → 0 < n
+    by_tests a b n h = by_length n (and_parts (a && not b) (not (n == 0)) h).1
+
+-- ---- issues
+
+local_kind : (kind : Kind) → is_local kind ≡ true → is_ordered_kind kind ≡ false
+local_kind Get e = refl
+local_kind Put e = refl
+local_kind (Acc op dtype) e = absurd (cc e)
+local_kind (Cas dtype) e = absurd (cc e)
+local_kind Load e = refl
+local_kind Store e = refl
+
+unordered : (one other : PendingAccess) → is_ordered_kind one.access.kind ≡ false → gives_way one other ≡ false
+unordered one other e =
+    ap (λ b. b && is_ordered_kind other.access.kind && share_cell one.access other.access) e
+
+only : {X : Type 0} (xs : List X) (at : ℕ) (x : X) → slice_get xs at ≡ Some x → length xs ≤ 1 → at ≡ 0
+only [] at x here few = absurd (cc here)
+only (y ∷ ys) zero x here few = refl
+only (y ∷ []) (suc at) x here few = absurd (cc here)
+only (y ∷ z ∷ ys) (suc at) x here few = absurd (omega arith)
+
+local_alone : (delay : Delay) (one : PendingAccess) → (delay ≡ NoDelay → ⊥) → is_at_once delay one.access ≡ true →
+    (other : PendingAccess) → gives_way one other ≡ false
+local_alone NoDelay one apart e other = absurd (apart refl)
+local_alone EndDelay one apart e other = unordered one other (local_kind one.access.kind e)
+local_alone SeededDelay one apart e other = unordered one other (local_kind one.access.kind e)
+
+-- the access that is touched in the step of its Issue gives way to none
+pub at_once_first : (delay : Delay) (pending : List PendingAccess) (at : ℕ) (one : PendingAccess) →
+    slice_get pending at ≡ Some one → is_at_once delay one.access ≡ true → (delay ≡ NoDelay → length pending ≤ 1) →
+    way pending at ≡ at
+at_once_first NoDelay pending at one here once few =
+    let zero_at : at ≡ 0 = only pending at one here (few refl) in subst (λ n. way pending n ≡ n) (sym zero_at) refl
+at_once_first EndDelay pending at one here once few =
+    way_alone pending at one here (local_alone EndDelay one (λ e. absurd (cc e)) once)
+at_once_first SeededDelay pending at one here once few =
+    way_alone pending at one here (local_alone SeededDelay one (λ e. absurd (cc e)) once)

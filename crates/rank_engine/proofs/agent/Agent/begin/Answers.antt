@@ -1,0 +1,15 @@
+-- The access that a call waits for gives way to none.
+use Rattle.std.proofs.Common.{◌<◌, length, sym, ◌∙◌, ap, subst}
+use Rattle.rank_engine.proofs.Begun.{begin_waits}
+use Rattle.rank_engine.proofs.agent.Agent.begin.Goals as goal
+use Rattle.rank_engine.specs.RankStates.{RankState}
+use Rattle.step_runs.specs.Agents.{awaited_by}
+
+pub returns-in-Some-next_for : goal.returns-in-Some-next_for
+returns-in-Some-next_for g c =
+    let same = c.self.view_is in
+    begin_waits c.args.self.now c.args.call.now c.in-Some-next_for.place (sym c.if-must_draw.ensures)
+    (sym c.in-None.ensures)
+    (c.in-Some-next_for.ensures.next ∙ ap (λ (s : RankState). awaited_by s.agent c.args.call.now) same)
+    (subst (λ (s : RankState). c.in-Some-next_for.place < length s.agent.pending) same
+    c.in-Some-next_for.ensures.within)

@@ -1,0 +1,52 @@
+-- The delivery is the queue's, and the rank stays sound.
+use Rattle.std.proofs.Common.{◌≡◌, ◌≤◌, ◌+◌, List, length, sym, ◌∙◌, ap, subst}
+use Rattle.rma_types.specs.declared.calls.Call.{Call}
+use Rattle.delivery_queue.specs.Queues.{Delivers, IsDeliverable}
+use Rattle.lawful_runs.specs.Stages.{calls_at}
+use Rattle.rank_engine.proofs.Deliveries.{deliverable, delivered_sound, undelivered_sound}
+use Rattle.rank_engine.proofs.agent.Agent.deliver.Goals as goal
+use Rattle.rank_engine.specs.DataAnswers.{HasRoom}
+use Rattle.rank_engine.specs.Moves.{IsFirst}
+use Rattle.rank_engine.specs.RankStates.{RankState, state_of}
+
+pub deliver-requires-clause-deliverable : goal.deliver-requires-clause-deliverable
+deliver-requires-clause-deliverable g c =
+    let at : RankState = state_of c.self.inside.script.now c.self.inside.layout.now c.self.inside.delay
+    c.self.inside.rank (g.L.Keep.kept c.self.inside.log) c.self.inside.windows c.self.inside.epochs
+    c.self.inside.queue c.self.inside.at c.self.inside.entered c.self.inside.drawn c.self.inside.draws
+    c.self.inside.ended (g.L.Keep.free c.self.inside.log) (g.L.Keep.home c.self.inside.log) in
+    let same : at ≡ c.args.self.now = c.self.view_is in
+    let calls : calls_at at.stage at.agent.rank ≡ c.calls-calls.result.now =
+    ap (λ (s : RankState). calls_at s.stage s.agent.rank) same ∙ sym c.calls-calls.ensures.calls in
+    subst (λ (l : List Call). IsDeliverable c.self.inside.queue c.args.at c.self.inside.layout.now l
+    (g.M.Memory.face c.args.mem.now) (g.L.Keep.free c.self.inside.log)) calls
+    (deliverable at c.args.at (g.M.Memory.face c.args.mem.now) c.self.invariant.0
+    (subst (λ (s : RankState). HasRoom s (g.M.Memory.face c.args.mem.now)) (sym same) c.requires.room)
+    (subst (λ (s : RankState). 256 ≤ s.free) (sym same) c.requires.free)
+    (subst (λ (s : RankState). IsFirst s.agent.pending c.args.at) (sym same) c.requires.first))
+
+pub invariant_of-self : goal.invariant_of-self
+invariant_of-self g c = (
+  undelivered_sound _ _ _ _ _ c.self.invariant.0 c.in_err-delivery.ensures.unchanged c.in_err-delivery.ensures.kept,
+  c.self.invariant.1 ∙ sym (ap length c.in_err-delivery.ensures.kept),
+)
+
+pub invariant_of-self-2 : goal.invariant_of-self-2
+invariant_of-self-2 g c =
+    let at : RankState = state_of c.self.inside.script.now c.self.inside.layout.now c.self.inside.delay
+    c.self.inside.rank (g.L.Keep.kept c.self.inside.log) c.self.inside.windows c.self.inside.epochs
+    c.self.inside.queue c.self.inside.at c.self.inside.entered c.self.inside.drawn c.self.inside.draws
+    c.self.inside.ended (g.L.Keep.free c.self.inside.log) (g.L.Keep.home c.self.inside.log) in
+    let same : at ≡ c.args.self.now = c.self.view_is in
+    let calls : c.calls-calls.result.now ≡ calls_at at.stage at.agent.rank =
+    c.calls-calls.ensures.calls ∙ sym (ap (λ (s : RankState). calls_at s.stage s.agent.rank) same) in (
+      delivered_sound at c.deliver.new.self c.args.at c.in_ok-delivery.delivery.done (g.L.Keep.kept c.deliver.new.log)
+          (g.M.Memory.face c.args.mem.now) (g.M.Memory.face c.deliver.new.mem) (g.M.Memory.knows c.deliver.new.mem) _ _
+          c.self.invariant.0
+          (subst (λ (l : List Call). Delivers c.self.inside.queue c.deliver.new.self c.args.at c.in_ok-delivery.delivery.done
+          c.self.inside.layout.now l (g.M.Memory.face c.args.mem.now) (g.M.Memory.face c.deliver.new.mem)
+          (g.M.Memory.knows c.deliver.new.mem) (g.L.Keep.kept c.self.inside.log) (g.L.Keep.kept c.deliver.new.log)) calls
+          c.in_ok-delivery.ensures.delivered)
+          (subst (λ (s : RankState). IsFirst s.agent.pending c.args.at) (sym same) c.requires.first).0,
+      ap (λ n. n + c.in_ok-delivery.delivery.touches) c.self.invariant.1 ∙ sym c.in_ok-delivery.ensures.count,
+    )

@@ -1,0 +1,39 @@
+-- A step at the board is that of the rank's next call.
+use Rattle.std.proofs.Common.{◌≡◌, ◌<◌, ◌≤◌, Option, Some, sym, ◌∙◌, ap, subst}
+use Rattle.std.specs.Prelude.{IfSome}
+use Rattle.call_rules.specs.WellFormed.{IsWrittenCall}
+use Rattle.rma_types.specs.declared.calls.Call.{Call}
+use Rattle.step_runs.specs.Agents.{next_call}
+use Rattle.rank_engine.proofs.NextEntries.{IsNextEntry, next_entry, ready_next}
+use Rattle.rank_engine.proofs.agent.Agent.next_board.Goals as goal
+use Rattle.rank_engine.specs.RankStates.{RankState}
+use Rattle.rank_engine.specs.Sound.{IsSound}
+
+pub try_entry-requires-clause-ready : goal.try_entry-requires-clause-ready
+try_entry-requires-clause-ready g c =
+    let s : RankState = c.args.self.now in
+    let sound : IsSound s = subst IsSound c.self.view_is c.self.invariant.0 in
+    let here : next_call s.stage s.agent ≡ Some c.in-Some.call.now = sym c.in-Some.ensures.call in
+    let next : IsNextEntry s c.in-Some.call.now = next_entry s c.in-Some.call.now sound c.requires.needs here in
+    let free : 300 ≤ s.free = subst (λ n. 300 ≤ n) (c.free_known.ensures ∙ ap (λ
+    (x : RankState). x.free) c.self.view_is)
+    c.if-free_known-lt-STEP_ROOM.false in
+    ready_next s c.in-Some.call.now c.args.board.now (g.M.Memory.face c.args.notes.now) next here
+    (subst (λ (o : Option Call). IfSome o (λ _. s.agent.at < 65536)) here c.in-Some.ensures.within)
+    (subst (λ (o : Option Call). IfSome o IsWrittenCall) here c.in-Some.ensures.written) c.requires.board free
+
+pub try_entry-requires-clause-begun : goal.try_entry-requires-clause-begun
+try_entry-requires-clause-begun g c =
+    let s : RankState = c.args.self.now in
+    let sound : IsSound s = subst IsSound c.self.view_is c.self.invariant.0 in
+    let here : next_call s.stage s.agent ≡ Some c.in-Some.call.now = sym c.in-Some.ensures.call in
+    let next : IsNextEntry s c.in-Some.call.now = next_entry s c.in-Some.call.now sound c.requires.needs here in
+    next.begun
+
+pub try_entry-requires-clause-entry : goal.try_entry-requires-clause-entry
+try_entry-requires-clause-entry g c =
+    let s : RankState = c.args.self.now in
+    let sound : IsSound s = subst IsSound c.self.view_is c.self.invariant.0 in
+    let here : next_call s.stage s.agent ≡ Some c.in-Some.call.now = sym c.in-Some.ensures.call in
+    let next : IsNextEntry s c.in-Some.call.now = next_entry s c.in-Some.call.now sound c.requires.needs here in
+    next.entry

@@ -1,3 +1,0 @@
--- Lemmas of the laws.
-pub mod EachElement
-pub mod LastEntry

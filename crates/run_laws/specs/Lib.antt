@@ -1,2 +1,0 @@
--- What the theorems say.
-pub mod Lawful
