@@ -1,5 +1,6 @@
 -- Touches that are made and kept one after another.
-use Rattle.std.proofs.Common.{◌≡◌, ℕ, ◌+◌, ◌≤◌, List, [], ◌∷◌, ◌++◌, length, map, refl, sym, ap, ◌∙◌, subst, arith, Option, Some, None, append_assoc, append-nil, length-append}
+use Rattle.std.proofs.Common.{◌≡◌, ℕ, ◌+◌, ◌≤◌, List, [], ◌∷◌, ◌++◌, length, map, refl, sym, ap, ◌∙◌, subst, arith}
+use Rattle.std.proofs.Common.{Option, Some, None, append_assoc, append-nil, length-append}
 use Rattle.std.proofs.lemmas.List.{length-map, map-append}
 use Rattle.rma_record.specs.declared.items.Item.{Item}
 use Rattle.rma_record.specs.declared.items.Item.TheVariants.{Touch}
@@ -7,12 +8,14 @@ use Rattle.call_rules.specs.declared.cells.Cell.{Cell}
 use Rattle.call_rules.specs.declared.elements.Change.{Change}
 use Rattle.cell_face.specs.Faces.{Face, Keeps}
 use Rattle.access_steps.specs.Plans.{PlannedTouch}
-use Rattle.access_steps.specs.TouchesMade.{MadeTouch, plan_of, item_of, update_by, updates_of, TouchesMade, TouchesKept, TouchesOne, TouchesNone}
+use Rattle.access_steps.specs.TouchesMade.{MadeTouch, plan_of, item_of, update_by, updates_of, TouchesMade, TouchesKept}
+use Rattle.access_steps.specs.TouchesMade.{TouchesOne, TouchesNone}
 use Rattle.access_steps.proofs.MoreTouches.{all_append, all_map, TouchesMade-append}
 use Rattle.access_steps.proofs.OneTouch.{TouchesMade-none}
 
 -- before the first touch
-pub kept_none : (face : Face) (knows : ℕ → Cell → Type 0) (kept : List Item) (issue : ℕ) → TouchesKept face face knows kept kept issue []
+pub kept_none : (face : Face) (knows : ℕ → Cell → Type 0) (kept : List Item) (issue : ℕ) →
+    TouchesKept face face knows kept kept issue []
 kept_none face knows kept issue = record {
   touches = [];
   plans = refl;
@@ -22,17 +25,22 @@ kept_none face knows kept issue = record {
 }
 
 -- one touch more
-pub kept_more : (before middle after : Face) (knew knows : ℕ → Cell → Type 0) (kept_before kept_middle kept_after : List Item) (issue : ℕ)
+pub kept_more : (before middle after : Face) (knew knows : ℕ → Cell → Type 0)
+    (kept_before kept_middle kept_after : List Item) (issue : ℕ)
     (planned : List PlannedTouch) (plan : PlannedTouch) (seen : Cell) →
-    TouchesKept before middle knew kept_before kept_middle issue planned → TouchesOne middle after plan.cell plan.change seen →
-    kept_after ≡ kept_middle ++ Touch issue plan.element plan.cell seen.place seen.bits ∷ [] → Keeps knew knows → knows plan.cell seen →
+    TouchesKept before middle knew kept_before kept_middle issue planned →
+    TouchesOne middle after plan.cell plan.change seen →
+    kept_after ≡ kept_middle ++ Touch issue plan.element plan.cell seen.place seen.bits ∷ [] → Keeps knew knows →
+    knows plan.cell seen →
     TouchesKept before after knows kept_before kept_after issue (planned ++ plan ∷ [])
-kept_more before middle after knew knows kept_before kept_middle kept_after issue planned plan seen kept one items keeps found =
+kept_more before middle after knew knows kept_before kept_middle kept_after issue planned plan seen kept one items keeps
+    found =
     let touch : MadeTouch = record { plan = plan; seen = seen } in
     let item : Item = item_of issue touch in
     record {
       touches = kept.touches ++ touch ∷ [];
-      plans = map-append plan_of kept.touches (touch ∷ []) ∙ ap (λ (ps : List PlannedTouch). ps ++ plan ∷ []) kept.plans;
+      plans = map-append plan_of kept.touches (touch ∷ []) ∙ ap (λ (ps : List PlannedTouch). ps ++ plan ∷ [])
+          kept.plans;
       items = items ∙ (ap (λ (ks : List Item). ks ++ item ∷ []) kept.items
           ∙ (append_assoc kept_before (map (item_of issue) kept.touches) (item ∷ [])
           ∙ ap (λ (ks : List Item). kept_before ++ ks) (sym (map-append (item_of issue) kept.touches (touch ∷ [])))));
@@ -43,14 +51,16 @@ kept_more before middle after knew knows kept_before kept_middle kept_after issu
     }
 
 -- an attempt that came too late adds none
-pub kept_moved : (before middle after : Face) (knew knows : ℕ → Cell → Type 0) (kept_before kept_after : List Item) (issue : ℕ) (planned : List PlannedTouch) →
+pub kept_moved : (before middle after : Face) (knew knows : ℕ → Cell → Type 0) (kept_before kept_after : List Item)
+    (issue : ℕ) (planned : List PlannedTouch) →
     TouchesKept before middle knew kept_before kept_after issue planned → TouchesNone middle after → Keeps knew knows →
     TouchesKept before after knows kept_before kept_after issue planned
 kept_moved before middle after knew knows kept_before kept_after issue planned kept none keeps = record {
   touches = kept.touches;
   plans = kept.plans;
   items = kept.items;
-  made = subst (TouchesMade before after) (append-nil kept.touches) (TouchesMade-append before middle after kept.touches [] kept.made none.made);
+  made = subst (TouchesMade before after) (append-nil kept.touches)
+      (TouchesMade-append before middle after kept.touches [] kept.made none.made);
   states = all_map (λ (t : MadeTouch). knew t.plan.cell t.seen) (λ (t : MadeTouch). knows t.plan.cell t.seen)
       (λ t k. keeps t.plan.cell t.seen k) kept.touches kept.states;
 }
@@ -69,7 +79,8 @@ updates_fewer (touch ∷ touches) = omega (
 )
 
 -- no more updates than touches
-pub share_left : (before after : Face) (knows : ℕ → Cell → Type 0) (kept_before kept_after : List Item) (issue : ℕ) (planned : List PlannedTouch) →
+pub share_left : (before after : Face) (knows : ℕ → Cell → Type 0) (kept_before kept_after : List Item) (issue : ℕ)
+    (planned : List PlannedTouch) →
     TouchesKept before after knows kept_before kept_after issue planned → before.share ≤ after.share + length planned
 share_left before after knows kept_before kept_after issue planned kept =
     omega (arith, kept.made.share, updates_fewer kept.touches, length-map kept.touches plan_of, ap length kept.plans)

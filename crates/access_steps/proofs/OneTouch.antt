@@ -1,5 +1,6 @@
 -- One touch of a cell, from what the calls of a memory say.
-use Rattle.std.proofs.Common.{◌≡◌, ℕ, ◌+◌, List, [], ◌∷◌, ◌++◌, refl, sym, ap, subst, append-nil, ◌∙◌, arith, Option, Some, None, IfSome}
+use Rattle.std.proofs.Common.{◌≡◌, ℕ, ◌+◌, List, [], ◌∷◌, ◌++◌, refl, sym, ap, subst, append-nil, ◌∙◌, arith, Option}
+use Rattle.std.proofs.Common.{Some, None, IfSome}
 use Rattle.std.specs.Prelude.{slice_set}
 use Rattle.std.specs.Option.{option_map}
 use Rattle.call_rules.specs.declared.cells.Cell.{Cell}
@@ -10,9 +11,11 @@ use Rattle.cell_face.specs.Faces.{Face, Update, Looks, Updates, Moves, Rose, IsT
 use Rattle.access_steps.specs.TouchesMade.{TouchesMade, TouchesOne, TouchesNone, cells_left, SeesEach}
 
 -- the cells after the one update
-told_once : (told : Option (List Cell)) (cell : ℕ) (seen : Cell) (change : Change) (bits : ℕ) → bits ≡ next seen.bits change →
+told_once : (told : Option (List Cell)) (cell : ℕ) (seen : Cell) (change : Change) (bits : ℕ) →
+    bits ≡ next seen.bits change →
     IfSome told (λ cells. seen ≡ cell_at cells cell) →
-    option_map (λ cells. slice_set cells cell (state_after bits seen)) told ≡ option_map (λ cells. cells_after cells cell (Some change)) told
+    option_map (λ cells. slice_set cells cell (state_after bits seen)) told ≡ option_map
+    (λ cells. cells_after cells cell (Some change)) told
 told_once None cell seen change bits e same = refl
 told_once (Some cells) cell seen change bits e same = ap (λ (it : List Cell). Some it)
     (ap (λ n. slice_set cells cell (state_after n seen)) e
@@ -20,18 +23,21 @@ told_once (Some cells) cell seen change bits e same = ap (λ (it : List Cell). S
 
 states_once : (told : Option (List Cell)) (cell : ℕ) (seen : Cell) (change : Option Change) (element : ℕ) →
     IfSome told (λ cells. seen ≡ cell_at cells cell) →
-    IfSome told (λ cells. SeesEach cells (record { plan = record { element = element; cell = cell; change = change }; seen = seen } ∷ []))
+    IfSome told (λ cells. SeesEach cells
+    (record { plan = record { element = element; cell = cell; change = change }; seen = seen } ∷ []))
 states_once None cell seen change element same = tt
 states_once (Some cells) cell seen change element same = (same, tt)
 
 -- an update of the state that the cell has, where it is told
-pub updates_once : (before after : Face) (cell : ℕ) (seen : Cell) (change : Change) (bits : ℕ) → bits ≡ next seen.bits change →
+pub updates_once : (before after : Face) (cell : ℕ) (seen : Cell) (change : Change) (bits : ℕ) →
+    bits ≡ next seen.bits change →
     IsToldAt before cell seen → Updates before after cell seen bits → TouchesOne before after cell (Some change) seen
 updates_once before after cell seen change bits e same made = record {
   made = λ element. record {
     stays = made.stays;
     share = made.share;
-    updates = made.updates ∙ ap (λ n. option_map (λ us. us ++ record { cell = cell; place = seen.place; before = seen.bits; after = n } ∷ []) before.updates) e;
+    updates = made.updates ∙ ap (λ n. option_map
+        (λ us. us ++ record { cell = cell; place = seen.place; before = seen.bits; after = n } ∷ []) before.updates) e;
     told = made.told ∙ told_once before.told cell seen change bits e same;
     states = states_once before.told cell seen (Some change) element same;
     not_below = (made.not_below, tt);
@@ -76,7 +82,8 @@ pub moves_once : (before middle after : Face) (cell : ℕ) (seen later : Cell) �
     Moves middle after cell seen later → TouchesNone before after
 moves_once before middle after cell seen later look move =
     let told : before.told ≡ None = untold before.told cell seen look.told_state
-    (subst (λ (t : Option (List Cell)). IfSome t (λ cells. seen.place ≡ (cell_at cells cell).place → ⊥)) look.unwritten.told move.told_place) in
+    (subst (λ (t : Option (List Cell)). IfSome t (λ cells. seen.place ≡ (cell_at cells cell).place → ⊥))
+    look.unwritten.told move.told_place) in
     record {
       made = record {
         stays = record {

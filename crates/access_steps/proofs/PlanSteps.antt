@@ -1,5 +1,7 @@
 -- The touches that an access asks for, from what is written of its call.
-use Rattle.std.proofs.Common.{◌≡◌, ℕ, zero, suc, ◌+◌, ◌-◌, ◌*◌, ◌/◌, ◌%◌, ◌<◌, ◌≤◌, Bool, true, false, not, cond, List, [], ◌∷◌, ◌++◌, length, map, get_or, refl, ap, ◌∙◌, subst, arith, Option, Some, None, IfSome, IsSome, IsTrue, IsSomeAnd}
+use Rattle.std.proofs.Common.{◌≡◌, ℕ, zero, suc, ◌+◌, ◌-◌, ◌*◌, ◌/◌, ◌%◌, ◌<◌, ◌≤◌, Bool, true, false, not, cond, List}
+use Rattle.std.proofs.Common.{[], ◌∷◌, ◌++◌, length, map, get_or, refl, ap, ◌∙◌, subst, arith, Option, Some, None}
+use Rattle.std.proofs.Common.{IfSome, IsSome, IsTrue, IsSomeAnd}
 use Rattle.std.proofs.lemmas.List.{length-map, map-append}
 use Rattle.std.specs.List.{AllByRecursion}
 use Rattle.std.specs.Option.{ForSome, option_map_or, option_and_then}
@@ -10,7 +12,8 @@ use Rattle.rma_types.specs.declared.dtypes.Dtype.TheVariants.{Int8, Int16, Int32
 use Rattle.rma_types.specs.declared.scripts.Layout.{Layout}
 use Rattle.rma_types.specs.Datatypes.{size_of}
 use Rattle.call_rules.specs.declared.elements.Change.{Change}
-use Rattle.call_rules.specs.Actions.{Action, Creates, Frees, Attaches, Detaches, Synchronises, Meets, Moves, EndsRequest, Transfer, transfer_in, action_of}
+use Rattle.call_rules.specs.Actions.{Action, Creates, Frees, Attaches, Detaches, Synchronises, Meets, Moves}
+use Rattle.call_rules.specs.Actions.{EndsRequest, Transfer, transfer_in, action_of}
 use Rattle.call_rules.specs.Elements.{Fits}
 use Rattle.call_rules.specs.Numbers.{patterns_of}
 use Rattle.call_rules.specs.declared.elements.Piece.{Piece}
@@ -18,36 +21,44 @@ use Rattle.call_rules.specs.Pieces.{numbers_from, first_cell}
 use Rattle.call_rules.specs.Ranks.{natural}
 use Rattle.call_rules.specs.Transfers.{bytes_of, change_of, is_no_op}
 use Rattle.call_rules.specs.WellFormed.{IsWrittenTransfer, IsWrittenAction, IsWrittenCall}
-use Rattle.access_steps.specs.Plans.{element_size, element_count, is_update, change_by, PlannedTouch, touch_at, piece_of, planned_touch, planned_touches, IsAccessOf}
+use Rattle.access_steps.specs.Plans.{element_size, element_count, is_update, change_by, PlannedTouch, touch_at}
+use Rattle.access_steps.specs.Plans.{piece_of, planned_touch, planned_touches, IsAccessOf}
 
 numbers_from-suc : (first n : ℕ) → numbers_from first (suc n) ≡ numbers_from first n ++ (first + n) ∷ []
 numbers_from-suc first zero = let e : first ≡ first + 0 = omega arith in ap (λ (k : ℕ). k ∷ []) e
 numbers_from-suc first (suc n) =
     let e : first + 1 + n ≡ first + suc n = omega arith in
-    ap (λ (ks : List ℕ). first ∷ ks) (numbers_from-suc (first + 1) n ∙ ap (λ (k : ℕ). numbers_from (first + 1) n ++ k ∷ []) e)
+    ap (λ (ks : List ℕ). first ∷ ks)
+    (numbers_from-suc (first + 1) n ∙ ap (λ (k : ℕ). numbers_from (first + 1) n ++ k ∷ []) e)
 
 pub length-numbers_from : (first n : ℕ) → length (numbers_from first n) ≡ n
 length-numbers_from first zero = refl
 length-numbers_from first (suc n) = ap suc (length-numbers_from (first + 1) n)
 
-pub length-planned : (layout : Layout) (access : Access) (call : Call) (first n : ℕ) → length (planned_touches layout access call first n) ≡ n
-length-planned layout access call first n = length-map (numbers_from first n) (planned_touch layout access call) ∙ length-numbers_from first n
+pub length-planned : (layout : Layout) (access : Access) (call : Call) (first n : ℕ) →
+    length (planned_touches layout access call first n) ≡ n
+length-planned layout access call first n = length-map (numbers_from first n) (planned_touch layout access call)
+    ∙ length-numbers_from first n
 
 -- one element more
 pub planned_more : (layout : Layout) (access : Access) (call : Call) (from element : ℕ) → from ≤ element →
-    planned_touches layout access call from (element + 1 - from) ≡ planned_touches layout access call from (element - from) ++ planned_touch layout access call element ∷ []
+    planned_touches layout access call from (element + 1 - from) ≡ planned_touches layout access call from
+    (element - from) ++ planned_touch layout access call element ∷ []
 planned_more layout access call from element le =
     let more : element + 1 - from ≡ suc (element - from) = omega arith in
     let here : from + (element - from) ≡ element = omega arith in
     ap (planned_touches layout access call from) more
     ∙ (ap (map (planned_touch layout access call)) (numbers_from-suc from (element - from))
-    ∙ (map-append (planned_touch layout access call) (numbers_from from (element - from)) ((from + (element - from)) ∷ [])
-    ∙ ap (λ (k : ℕ). planned_touches layout access call from (element - from) ++ planned_touch layout access call k ∷ []) here))
+    ∙ (map-append (planned_touch layout access call) (numbers_from from (element - from))
+    ((from + (element - from)) ∷ [])
+    ∙ ap (λ (k : ℕ). planned_touches layout access call from (element - from) ++ planned_touch layout access call k
+    ∷ []) here))
 
 abbrev size_by : Option Transfer → ℕ
 size_by o = option_map_or (λ (t : Transfer). size_of t.dtype) o 1
 
-multiple : (dtype : Dtype) (lo element : ℕ) → lo % size_of dtype ≡ 0 → (lo + element * size_of dtype) % size_of dtype ≡ 0
+multiple : (dtype : Dtype) (lo element : ℕ) → lo % size_of dtype ≡ 0 → (lo + element * size_of dtype) % size_of dtype ≡
+    0
 multiple Int8 lo element e = omega arith
 multiple Int16 lo element e = omega arith
 multiple Int32 lo element e = omega arith
@@ -92,7 +103,8 @@ some_pattern Uint16 = omega arith
 some_pattern Uint32 = omega arith
 some_pattern Byte = omega arith
 
-operand_below : (n : ℕ) (operands : List ℕ) (k : ℕ) → 0 < n → AllByRecursion (λ pattern. pattern < n) operands → get_or operands k 0 < n
+operand_below : (n : ℕ) (operands : List ℕ) (k : ℕ) → 0 < n → AllByRecursion (λ pattern. pattern < n) operands →
+    get_or operands k 0 < n
 operand_below n [] k some all = some
 operand_below n (x ∷ xs) zero some all = all.0
 operand_below n (x ∷ xs) (suc k) some all = operand_below n xs k some all.1
@@ -122,8 +134,10 @@ fits_in (Some t) element address w e = choice_fits (is_no_op t.op) _ (record {
 })
 
 -- the change of an element at a multiple of its size fits its cell
-pub fits_by : (call : Call) (element address : ℕ) → IsWrittenCall call → address % element_size call ≡ 0 → ForSome (change_by call element (address % 4)) Fits
-fits_by call element address w e = fits_in (transfer_in (action_of call)) element address (written_in (action_of call) w) e
+pub fits_by : (call : Call) (element address : ℕ) → IsWrittenCall call → address % element_size call ≡ 0 →
+    ForSome (change_by call element (address % 4)) Fits
+fits_by call element address w e = fits_in (transfer_in (action_of call)) element address
+    (written_in (action_of call) w) e
 
 multiple_in : (o : Option Transfer) (access : Access) (element : ℕ) →
     IsSomeAnd o (λ t. (access.kind ≡ t.kind) × (access.len ≡ bytes_of t) × (access.lo % size_of t.dtype ≡ 0)) →
@@ -131,7 +145,8 @@ multiple_in : (o : Option Transfer) (access : Access) (element : ℕ) →
 multiple_in None access element a = elim a [ ]
 multiple_in (Some t) access element a = multiple t.dtype access.lo element a.2
 
-pub multiple_of : (call : Call) (access : Access) (element : ℕ) → IsAccessOf call access → (access.lo + element * element_size call) % element_size call ≡ 0
+pub multiple_of : (call : Call) (access : Access) (element : ℕ) → IsAccessOf call access →
+    (access.lo + element * element_size call) % element_size call ≡ 0
 multiple_of call access element a = multiple_in (transfer_in (action_of call)) access element a
 
 count_in : (o : Option Transfer) (access : Access) →
@@ -140,31 +155,39 @@ count_in : (o : Option Transfer) (access : Access) →
 count_in None access a = elim a [ ]
 count_in (Some t) access a = ap (λ n. n / size_of t.dtype) a.1 ∙ quotient t.dtype (natural t.count)
 
-pub count_is : (call : Call) (access : Access) → IsAccessOf call access → access.len / element_size call ≡ element_count call
+pub count_is : (call : Call) (access : Access) → IsAccessOf call access →
+    access.len / element_size call ≡ element_count call
 count_is call access a = count_in (transfer_in (action_of call)) access a
 
 choice_updates : (reads : Bool) (change : Change) → IsSome (cond reads None (Some change)) → IsTrue (not reads)
 choice_updates true change some = absurd (cc)
 choice_updates false change some = refl
 
-update_in : (o : Option Transfer) (element first_byte : ℕ) → IsSome (option_and_then (λ (t : Transfer). change_of t element first_byte) o) →
+update_in : (o : Option Transfer) (element first_byte : ℕ) →
+    IsSome (option_and_then (λ (t : Transfer). change_of t element first_byte) o) →
     IsTrue (option_map_or (λ (t : Transfer). not (is_no_op t.op)) o false)
 update_in None element first_byte some = absurd (cc)
 update_in (Some t) element first_byte some = choice_updates (is_no_op t.op) _ some
 
 -- where there is a change, the call is an update
-pub update_by_change : (call : Call) (element first_byte : ℕ) → IsSome (change_by call element first_byte) → IsTrue (is_update call)
+pub update_by_change : (call : Call) (element first_byte : ℕ) → IsSome (change_by call element first_byte) →
+    IsTrue (is_update call)
 update_by_change call element first_byte some = update_in (transfer_in (action_of call)) element first_byte some
 
 -- where an element lies, from the first cell, the access's address, the element's number and its size
 abbrev pub piece_by : ℕ → ℕ → ℕ → ℕ → Piece
-piece_by first lo element size = record { cell = first + (lo + element * size) / 4; first_byte = (lo + element * size) % 4 }
+piece_by first lo element size = record {
+  cell = first + (lo + element * size) / 4;
+  first_byte =
+      (lo + element * size) % 4;
+}
 
 pub piece_is : (layout : Layout) (access : Access) (call : Call) (element first size : ℕ) (piece : Piece) →
     piece ≡ piece_by first access.lo element size → first ≡ first_cell layout access.target → size ≡ element_size call →
     piece ≡ piece_of layout access call element
 piece_is layout access call element first size piece e f s = e
-    ∙ (ap (λ (n : ℕ). piece_by n access.lo element size) f ∙ ap (λ (n : ℕ). piece_by (first_cell layout access.target) access.lo element n) s)
+    ∙ (ap (λ (n : ℕ). piece_by n access.lo element size) f
+    ∙ ap (λ (n : ℕ). piece_by (first_cell layout access.target) access.lo element n) s)
 
 abbrev pub plan_by : ℕ → Piece → Option Change → PlannedTouch
 plan_by element piece change = record { element = element; cell = piece.cell; change = change }

@@ -1,4 +1,5 @@
--- The touches that an access asks for: one for each element, on its cell, with its change. MPI 3.1, sections 11.3 and 11.7.1.
+-- The touches that an access asks for: one for each element, on its cell, with its change. MPI 3.1, sections 11.3 and
+-- 11.7.1.
 use Rattle.std.specs.Prelude.{◌≡◌, ◌<◌, ℕ, ◌+◌, ◌*◌, ◌%◌, ◌^◌, Bool, false, not, List, map, Option, IsSomeAnd}
 use Rattle.std.specs.Option.{option_map_or, option_and_then}
 use Rattle.rma_types.specs.declared.accesses.Access.{Access}
@@ -26,7 +27,8 @@ is_update call = option_map_or (λ (t : Transfer). not (is_no_op t.op)) (transfe
 
 -- the change that a call makes to one of its elements, at a first byte of the cell; none where it reads
 abbrev pub change_by : Call → ℕ → ℕ → Option Change
-change_by call element first_byte = option_and_then (λ (t : Transfer). change_of t element first_byte) (transfer_of call)
+change_by call element first_byte = option_and_then (λ (t : Transfer). change_of t element first_byte)
+    (transfer_of call)
 
 -- where an element of an access lies
 abbrev pub piece_of : Layout → Access → Call → ℕ → Piece
@@ -39,7 +41,12 @@ pub record PlannedTouch : Type 0 where
   pub change : Option Change
 
 abbrev pub touch_at : Call → ℕ → Piece → PlannedTouch
-touch_at call element piece = record { element = element; cell = piece.cell; change = change_by call element piece.first_byte }
+touch_at call element piece = record {
+  element = element;
+  cell = piece.cell;
+  change = change_by call element
+      piece.first_byte;
+}
 
 -- the touch of an element
 abbrev pub planned_touch : Layout → Access → Call → ℕ → PlannedTouch
@@ -49,7 +56,8 @@ planned_touch layout access call element = touch_at call element (piece_of layou
 abbrev pub planned_touches : Layout → Access → Call → ℕ → ℕ → List PlannedTouch
 planned_touches layout access call first count = map (planned_touch layout access call) (numbers_from first count)
 
--- the access is the one that the call makes: its kind, its bytes, and an address that is a multiple of the element's size
+-- the access is the one that the call makes: its kind, its bytes, and an address that is a multiple of the element's
+-- size
 abbrev pub IsAccessOf : Call → Access → Type 0
 IsAccessOf call access = IsSomeAnd (transfer_of call)
     (λ t. (access.kind ≡ t.kind) × (access.len ≡ bytes_of t) × (access.lo % size_of t.dtype ≡ 0))

@@ -28,7 +28,13 @@ item_of issue touch = Touch issue touch.plan.element touch.plan.cell touch.seen.
 -- the update of a cell from this state on, where there is a change
 abbrev pub update_by : ℕ → Cell → Option Change → List Update
 update_by cell seen None = []
-update_by cell seen (Some change) = record { cell = cell; place = seen.place; before = seen.bits; after = next seen.bits change } ∷ []
+update_by cell seen (Some change) = record {
+  cell = cell;
+  place = seen.place;
+  before = seen.bits;
+  after = next seen.bits
+      change;
+} ∷ []
 
 -- the updates among the touches
 abbrev pub updates_of : List MadeTouch → List Update
@@ -56,9 +62,11 @@ cells_left cells (touch ∷ touches) = cells_left (cells_after cells touch.plan.
 abbrev pub SeesEach : List Cell → List MadeTouch → Type 0
 SeesEach cells [] = Unit {0}
 SeesEach cells (touch ∷ touches) =
-    (touch.seen ≡ cell_at cells touch.plan.cell) × SeesEach (cells_after cells touch.plan.cell touch.plan.change) touches
+    (touch.seen ≡ cell_at cells touch.plan.cell) × SeesEach (cells_after cells touch.plan.cell touch.plan.change)
+    touches
 
--- What the touches did. told and states: where the memory tells its cells. not_below, raised and order: the lowest places
+-- What the touches did. told and states: where the memory tells its cells. not_below, raised and order: the lowest
+-- places
 -- at the call and after it, and the places of touches of one cell.
 pub record TouchesMade (before after : Face) (touches : List MadeTouch) : Type 0 where
   pub stays : Stays before after
@@ -71,7 +79,8 @@ pub record TouchesMade (before after : Face) (touches : List MadeTouch) : Type 0
   pub order : IsInOrder touches
 
 -- touches of these plans were made, one item was kept of each, and the state of each is known
-pub record TouchesKept (before after : Face) (knows : ℕ → Cell → Type 0) (kept_before kept_after : List Item) (issue : ℕ) (planned : List PlannedTouch) : Type 0 where
+pub record TouchesKept (before after : Face) (knows : ℕ → Cell → Type 0) (kept_before kept_after : List Item)
+    (issue : ℕ) (planned : List PlannedTouch) : Type 0 where
   pub touches : List MadeTouch
   pub plans : map plan_of touches ≡ planned
   pub items : kept_after ≡ kept_before ++ map (item_of issue) touches
@@ -79,13 +88,15 @@ pub record TouchesKept (before after : Face) (knows : ℕ → Cell → Type 0) (
   pub states : AllByRecursion (λ touch. knows touch.plan.cell touch.seen) touches
 
 -- a memory that tells its cells: they and the items are those of the elements touched one after another
-pub record IsTouchEach (t : Transfer) (pieces : List Piece) (issue from : ℕ) (cells : List Cell) (told : Option (List Cell)) (kept_before kept_after : List Item) : Type 0 where
+pub record IsTouchEach (t : Transfer) (pieces : List Piece) (issue from : ℕ) (cells : List Cell)
+    (told : Option (List Cell)) (kept_before kept_after : List Item) : Type 0 where
   pub cells_after : told ≡ Some (touch_each t issue from pieces cells).cells
   pub items : kept_after ≡ kept_before ++ (touch_each t issue from pieces cells).items
 
 -- one touch was made of a cell, on this state, as whatever element
 pub record TouchesOne (before after : Face) (cell : ℕ) (change : Option Change) (seen : Cell) : Type 0 where
-  pub made : (element : ℕ) → TouchesMade before after (record { plan = record { element = element; cell = cell; change = change }; seen = seen } ∷ [])
+  pub made : (element : ℕ) → TouchesMade before after
+      (record { plan = record { element = element; cell = cell; change = change }; seen = seen } ∷ [])
   pub moves : after.moves ≡ before.moves
 
 -- no touch was made, since an attempt came too late; the memory does not tell its cells, or this could not be

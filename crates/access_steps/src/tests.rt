@@ -42,7 +42,8 @@ fn add_one(
     touch_on(memory, &call, 0, &access, layout, 0, log)
 }
 
-/// int8 127 plus 1 wraps to -128, and the bytes beside it stay; uint32 4294967295 plus 1 is 0. The items have the states
+/// int8 127 plus 1 wraps to -128, and the bytes beside it stay; uint32 4294967295 plus 1 is 0. The items have the
+/// states
 /// before.
 #[test]
 fn sums_wrap_and_neighbours_stay(rt: HostRuntime) -> Result<(), Fail> {

@@ -1,5 +1,6 @@
 //! The touches of an access.
-ghost use Rattle.std.specs.Prelude.{◌≡◌, ◌+◌, ◌-◌, ◌*◌, ◌/◌, ◌%◌, ◌^◌, ◌<◌, ◌≤◌, ℕ, drop, false, Some, IsTrue, IsSome, IfOk, IfSome, MatchResult, MatchBool};
+ghost use Rattle.std.specs.Prelude.{◌≡◌, ◌+◌, ◌-◌, ◌*◌, ◌/◌, ◌%◌, ◌^◌, ◌<◌, ◌≤◌, ℕ, drop, false, Some, IsTrue, IsSome};
+ghost use Rattle.std.specs.Prelude.{IfOk, IfSome, MatchResult, MatchBool};
 ghost use Rattle.std.specs.Option.{ForSome};
 ghost use Rattle.call_rules.specs.Actions.{transfer_of};
 ghost use Rattle.call_rules.specs.Elements.{Fits, next};
@@ -36,7 +37,8 @@ fn is_whole_sum(change: &Change) -> bool
     is_whole && change.op == Op::Sum && change.compare.is_none()
 }
 
-/// Changes one cell: the sum of a whole cell is one add, and every other update one load and one attempt. Gives the state
+/// Changes one cell: the sum of a whole cell is one add, and every other update one load and one attempt. Gives the
+/// state
 /// before the change.
 fn update_cell<M: Memory>(mem: &mut M, cell: u32, change: &Change) -> Result<Seen, Moved>
     requires cell { cell < cell_count (M.face mem.old) }
@@ -100,7 +102,8 @@ fn piece_after(first_cell: u32, lo: u32, element: u32, size: u32) -> Piece
 }
 
 /// Touches the elements of an access from `from` on, in ascending order, until all are touched or an attempt came too
-/// late. One Touch item is kept of each element touched; `issue` is the index of the access's Issue item in the same log.
+/// late. One Touch item is kept of each element touched; `issue` is the index of the access's Issue item in the same
+/// log.
 /// It takes no memory.
 pub fn touch_on<M: Memory, L: Keep>(
     mem: &mut M,

@@ -1,5 +1,6 @@
 -- What a step at the board adds to the rank's log, and to the rows: no touch, and an item for each row.
-use Rattle.std.proofs.Common.{◌≡◌, ℕ, ◌+◌, Bool, true, false, cond, List, [], ◌∷◌, ◌++◌, length, Option, Some, None, refl, sym, subst, append_assoc, append-nil, length-append}
+use Rattle.std.proofs.Common.{◌≡◌, ℕ, ◌+◌, Bool, true, false, cond, List, [], ◌∷◌, ◌++◌, length, Option, Some, None}
+use Rattle.std.proofs.Common.{refl, sym, subst, append_assoc, append-nil, length-append}
 use Rattle.std.specs.Option.{option_map_or}
 use Rattle.rma_types.specs.declared.accesses.Step.{Step}
 use Rattle.rma_types.specs.declared.accesses.Step.TheVariants.{Arrive, Leave, One}
@@ -13,9 +14,11 @@ use Rattle.board_rules.specs.Questions.{question}
 use Rattle.board_rules.specs.Rounds.{all_arrived}
 use Rattle.lawful_runs.specs.Items.{is_touch, is_entry}
 use Rattle.lawful_runs.specs.Stages.{Stage}
-use Rattle.rank_rules.specs.Courses.{Course, OneNull, OneIssue, LookUpAndIssue, OneFlush, OneRequest, ArriveAndLeave, EntryOrTested, OneEntry, course_of}
+use Rattle.rank_rules.specs.Courses.{Course, OneNull, OneIssue, LookUpAndIssue, OneFlush, OneRequest, ArriveAndLeave}
+use Rattle.rank_rules.specs.Courses.{EntryOrTested, OneEntry, course_of}
 use Rattle.step_runs.specs.Agents.{Agent, finished, opened, next_call}
-use Rattle.step_runs.specs.BoardSteps.{AtBoard, next_row, waiting, entered, enter_by, test_by, leave, leave_if_entered, first_entry, entry_of, board_step}
+use Rattle.step_runs.specs.BoardSteps.{AtBoard, next_row, waiting, entered, enter_by, test_by, leave, leave_if_entered}
+use Rattle.step_runs.specs.BoardSteps.{first_entry, entry_of, board_step}
 
 -- the items of a step at the board, the first entry of which has this place, and the rows that it puts
 pub data AreItemsOfRows (at : ℕ) : List Item → List Row → Type 0 where

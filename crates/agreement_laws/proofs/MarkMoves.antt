@@ -1,5 +1,6 @@
 -- Every move but an entry keeps the marks of a log.
-use Rattle.std.proofs.Common.{◌≡◌, ℕ, suc, ◌+◌, ◌<◌, ◌≤◌, ◌⊎◌, inl, inr, false, List, [], ◌∷◌, ◌++◌, length, Option, Some, None, refl, ap, sym, ◌∙◌, subst, arith, length-append}
+use Rattle.std.proofs.Common.{◌≡◌, ℕ, suc, ◌+◌, ◌<◌, ◌≤◌, ◌⊎◌, inl, inr, false, List, [], ◌∷◌, ◌++◌, length, Option}
+use Rattle.std.proofs.Common.{Some, None, refl, ap, sym, ◌∙◌, subst, arith, length-append}
 use Rattle.std.specs.Prelude.{map, slice_get}
 use Rattle.std.specs.List.{AllByRecursion}
 use Rattle.std.specs.Option.{option_map_or}
@@ -19,17 +20,20 @@ use Rattle.rank_laws.proofs.DataPaths.{its_transfer}
 use Rattle.rank_laws.proofs.Histories.{most_same, most_join}
 use Rattle.rank_laws.proofs.Inductions.{Keeps}
 use Rattle.rank_laws.proofs.Lists.{each_turned, each_at, get_rest}
-use Rattle.rank_laws.proofs.Moves.{Point, IsPlainItem, course_at, Learns, Rises, Ends, RefusesAlone, IsRefused, Tests, Passes, Enters, Issues, IssuesWhole, Draws, Delivers}
+use Rattle.rank_laws.proofs.Moves.{Point, IsPlainItem, course_at, Learns, Rises, Ends, RefusesAlone, IsRefused, Tests}
+use Rattle.rank_laws.proofs.Moves.{Passes, Enters, Issues, IssuesWhole, Draws, Delivers}
 use Rattle.rank_laws.proofs.Pendings.{IsUntouched}
 use Rattle.rank_laws.proofs.Touching.{issued_still}
 use Rattle.rank_laws.proofs.TouchMoves.{KeepsTouches, touches_kept, made_by, made_is}
 use Rattle.rank_laws.specs.Deliveries.{place_after, AreTouches, AreTouchesOf}
 use Rattle.rank_laws.specs.Fronts.{Lows, AreAtMost, Put}
-use Rattle.rank_rules.specs.Courses.{Course, OneNull, OneIssue, LookUpAndIssue, OneFlush, OneRequest, ArriveAndLeave, EntryOrTested, OneEntry}
+use Rattle.rank_rules.specs.Courses.{Course, OneNull, OneIssue, LookUpAndIssue, OneFlush, OneRequest, ArriveAndLeave}
+use Rattle.rank_rules.specs.Courses.{EntryOrTested, OneEntry}
 use Rattle.rank_rules.specs.declared.pending.PendingAccess.{PendingAccess}
 use Rattle.step_runs.specs.Agents.{Agent}
 use Rattle.step_runs.specs.BoardSteps.{next_row}
-use Rattle.agreement_laws.proofs.Marks.{Mark, AreRising, Marking, IsRight, AreMarked, AreMore, marked_rises, marked_more, quiet_more}
+use Rattle.agreement_laws.proofs.Marks.{Mark, AreRising, Marking, IsRight, AreMarked, AreMore, marked_rises}
+use Rattle.agreement_laws.proofs.Marks.{marked_more, quiet_more}
 
 -- the marking of a rank's log
 abbrev pub marking_of : Stage → Agent → List Put → Marking

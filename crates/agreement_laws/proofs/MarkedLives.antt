@@ -1,5 +1,6 @@
 -- The log of a rank is marked through its whole history.
-use Rattle.std.proofs.Common.{true, ◌≡◌, ℕ, zero, suc, ◌+◌, inl, inr, List, [], ◌∷◌, ◌++◌, length, Option, Some, None, refl, ap, sym, ◌∙◌, subst, arith, append_assoc, length-append}
+use Rattle.std.proofs.Common.{true, ◌≡◌, ℕ, zero, suc, ◌+◌, inl, inr, List, [], ◌∷◌, ◌++◌, length, Option, Some, None}
+use Rattle.std.proofs.Common.{refl, ap, sym, ◌∙◌, subst, arith, append_assoc, length-append}
 use Rattle.std.specs.Prelude.{slice_get, remove}
 use Rattle.std.specs.List.{AllByRecursion}
 use Rattle.std.proofs.lemmas.List.{length-map}
@@ -24,7 +25,8 @@ use Rattle.rank_rules.specs.declared.pending.PendingAccess.{PendingAccess}
 use Rattle.step_runs.specs.Agents.{Agent}
 use Rattle.step_runs.specs.BoardSteps.{board_step}
 use Rattle.agreement_laws.proofs.BoardItems.{AreItemsOfRows, NoItem, Quiet, Single, Double, board_adds}
-use Rattle.agreement_laws.proofs.Marks.{Mark, Marking, AreMarked, AreMore, marked_rises, marked_learns, marked_more, quiet_more}
+use Rattle.agreement_laws.proofs.Marks.{Mark, Marking, AreMarked, AreMore, marked_rises, marked_learns, marked_more}
+use Rattle.agreement_laws.proofs.Marks.{quiet_more}
 use Rattle.agreement_laws.proofs.MarkMoves.{marking_of, access_more, HasMarksAt, marks_kept}
 
 -- ---- a step at the board

@@ -6,8 +6,10 @@ use Rattle.std.specs.Option.{option_map_or}
 use Rattle.std.proofs.lemmas.Bool.{and_parts, or_cases}
 use Rattle.rma_types.specs.declared.accesses.Step.{Step}
 use Rattle.rma_types.specs.declared.accesses.Step.TheVariants.{Arrive, Leave, One}
-use Rattle.call_rules.specs.Actions.{Synchronisation, Fences, Posts, Starts, Completes, Waits, Locks, Unlocks, Flushes, Syncs, synchronisation_of}
-use Rattle.board_rules.specs.Edges.{Event, are_on_one_window, is_arrive_to_leave, are_of_one_round, is_started_by, is_waited_for_by, is_locked_after, is_edge_by, is_matched_one, is_edge}
+use Rattle.call_rules.specs.Actions.{Synchronisation, Fences, Posts, Starts, Completes, Waits, Locks, Unlocks, Flushes}
+use Rattle.call_rules.specs.Actions.{Syncs, synchronisation_of}
+use Rattle.board_rules.specs.Edges.{Event, are_on_one_window, is_arrive_to_leave, are_of_one_round, is_started_by}
+use Rattle.board_rules.specs.Edges.{is_waited_for_by, is_locked_after, is_edge_by, is_matched_one, is_edge}
 use Rattle.board_rules.specs.Locks.{lock_of, unlock_of}
 use Rattle.board_rules.specs.Posts.{group_of_post, group_of_start, is_complete, is_wait}
 use Rattle.order_laws.proofs.Members.{In, any_in, some_of}

@@ -1,6 +1,8 @@
 -- Each touch of an RMA access is made when it is due, as a log grows. Touches at the log's end are owed: the next item
 -- that is no touch is one that must wait for them.
-use Rattle.std.proofs.Common.{◌≡◌, ℕ, zero, suc, ◌+◌, ◌-◌, ◌<◌, ◌≤◌, inl, inr, Bool, true, false, not, ◌&&◌, ◌||◌, List, [], ◌∷◌, ◌++◌, length, take, drop, Option, Some, None, refl, sym, ◌∙◌, ap, subst, arith, length-drop}
+use Rattle.std.proofs.Common.{◌≡◌, ℕ, zero, suc, ◌+◌, ◌-◌, ◌<◌, ◌≤◌, inl, inr, Bool, true, false, not, ◌&&◌, ◌||◌, List}
+use Rattle.std.proofs.Common.{[], ◌∷◌, ◌++◌, length, take, drop, Option, Some, None, refl, sym, ◌∙◌, ap, subst, arith}
+use Rattle.std.proofs.Common.{length-drop}
 use Rattle.std.specs.Prelude.{slice_get, ◌==◌}
 use Rattle.std.specs.List.{AllByRecursion, filter, list_any}
 use Rattle.std.specs.Option.{option_map_or}
@@ -15,7 +17,8 @@ use Rattle.assembled_laws.proofs.NextItems.{next_after_none, next_stays, next_wi
 use Rattle.board_rules.specs.Entries.{Row}
 use Rattle.call_rules.specs.Pieces.{numbers_from}
 use Rattle.lawful_runs.specs.Accesses.{issued_at}
-use Rattle.lawful_runs.specs.DelayLaw.{is_unfinished, pending_at, next_untouched, leads_to, is_due_at, is_due, is_remote}
+use Rattle.lawful_runs.specs.DelayLaw.{is_unfinished, pending_at, next_untouched, leads_to, is_due_at, is_due}
+use Rattle.lawful_runs.specs.DelayLaw.{is_remote}
 use Rattle.lawful_runs.specs.Items.{is_touch}
 use Rattle.lawful_runs.specs.Stages.{Stage, RankOfRun, calls_here}
 use Rattle.lawful_runs.specs.TouchLaw.{issued_in, is_local, is_awaiting, issue_of, issues_touched}

@@ -4,7 +4,8 @@ use Rattle.std.specs.Prelude.{nat_lt}
 use Rattle.rma_types.specs.declared.schedules.Delay.TheVariants.{End as EndDelay}
 use Rattle.rma_record.specs.declared.items.Item.TheVariants.{Issue, Tested, Refused, Ended}
 use Rattle.assembled_laws.proofs.DueDeliveries.{delivered_due, issued_due}
-use Rattle.assembled_laws.proofs.DueMoves.{IsBefore, HasDue, KeepsDue, first_pays, alone_pays, issue_pays, pushed, ending, entering, plain_named, refused_later}
+use Rattle.assembled_laws.proofs.DueMoves.{IsBefore, HasDue, KeepsDue, first_pays, alone_pays, issue_pays, pushed}
+use Rattle.assembled_laws.proofs.DueMoves.{ending, entering, plain_named, refused_later}
 use Rattle.assembled_laws.proofs.PendingElements.{made_has_elements}
 use Rattle.assembled_laws.proofs.Unfinished.{HasElements}
 use Rattle.call_laws.proofs.CallMoves.{after_some}
@@ -13,7 +14,8 @@ use Rattle.lawful_runs.specs.Stages.{Stage, calls_at, shapes_in}
 use Rattle.rank_laws.proofs.AwaitMoves.{KeepsAwaited, awaited_kept}
 use Rattle.rank_laws.proofs.Inductions.{KeepsIn}
 use Rattle.rank_laws.proofs.Lists.{each_append}
-use Rattle.rank_laws.proofs.Moves.{Point, course_at, Move, move_weaker, Learns, Rises, Ends, RefusesAlone, IsRefused, Tests, Passes, Enters, Issues, IssuesWhole, Draws, Delivers}
+use Rattle.rank_laws.proofs.Moves.{Point, course_at, Move, move_weaker, Learns, Rises, Ends, RefusesAlone, IsRefused}
+use Rattle.rank_laws.proofs.Moves.{Tests, Passes, Enters, Issues, IssuesWhole, Draws, Delivers}
 use Rattle.rank_laws.proofs.TouchMoves.{plain_by_course}
 use Rattle.step_runs.specs.Agents.{Agent, next_call, kept}
 use Rattle.step_runs.specs.BoardSteps.{next_row}

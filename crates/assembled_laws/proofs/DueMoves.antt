@@ -1,5 +1,6 @@
 -- Every move of a rank that makes steps keeps that touches are made when they are due, where the delay is end.
-use Rattle.std.proofs.Common.{◌≡◌, ℕ, suc, ◌+◌, ◌<◌, ◌≤◌, ◌⊎◌, inl, inr, Bool, true, false, not, ◌&&◌, ◌||◌, List, [], ◌∷◌, ◌++◌, Option, Some, None, refl, sym, ◌∙◌, ap, subst, arith}
+use Rattle.std.proofs.Common.{◌≡◌, ℕ, suc, ◌+◌, ◌<◌, ◌≤◌, ◌⊎◌, inl, inr, Bool, true, false, not, ◌&&◌, ◌||◌, List, []}
+use Rattle.std.proofs.Common.{◌∷◌, ◌++◌, Option, Some, None, refl, sym, ◌∙◌, ap, subst, arith}
 use Rattle.std.specs.Prelude.{slice_get, ◌==◌, IfSome}
 use Rattle.std.specs.List.{AllByRecursion, list_any}
 use Rattle.std.specs.Option.{option_map_or}
@@ -11,7 +12,8 @@ use Rattle.rma_types.specs.declared.calls.Call.{Call}
 use Rattle.rma_types.specs.declared.classes.Class.{Class}
 use Rattle.rma_types.specs.declared.scripts.Part.{Part}
 use Rattle.rma_record.specs.declared.items.Item.{Item}
-use Rattle.rma_record.specs.declared.items.Item.TheVariants.{Issue, Null, Touch, Flush, Request, Entry, Tested, Refused, Ended}
+use Rattle.rma_record.specs.declared.items.Item.TheVariants.{Issue, Null, Touch, Flush, Request, Entry, Tested, Refused}
+use Rattle.rma_record.specs.declared.items.Item.TheVariants.{Ended}
 use Rattle.assembled_laws.proofs.Due.{AreDue, ForCall, ForEnd, AreOwed, Pays, due_push, owed_push}
 use Rattle.assembled_laws.proofs.Unfinished.{HasElements}
 use Rattle.call_laws.proofs.KnownMoves.{KnowsLog}
@@ -22,9 +24,11 @@ use Rattle.lawful_runs.specs.TouchLaw.{begins_awaiting}
 use Rattle.rank_laws.proofs.Awaiting.{rank_of}
 use Rattle.rank_laws.proofs.AwaitMoves.{KeepsAwaited}
 use Rattle.rank_laws.proofs.Lists.{each_turned, each_append}
-use Rattle.rank_laws.proofs.Moves.{Point, course_at, Begins, Entering, OnlyEntry, LookUp, Arriving, Leaving, IsPlainItem, Issuing}
+use Rattle.rank_laws.proofs.Moves.{Point, course_at, Begins, Entering, OnlyEntry, LookUp, Arriving, Leaving}
+use Rattle.rank_laws.proofs.Moves.{IsPlainItem, Issuing}
 use Rattle.rank_laws.proofs.Touching.{IsTouchOf}
-use Rattle.rank_rules.specs.Courses.{Course, OneNull, OneIssue, LookUpAndIssue, OneFlush, OneRequest, ArriveAndLeave, EntryOrTested, OneEntry}
+use Rattle.rank_rules.specs.Courses.{Course, OneNull, OneIssue, LookUpAndIssue, OneFlush, OneRequest, ArriveAndLeave}
+use Rattle.rank_rules.specs.Courses.{EntryOrTested, OneEntry}
 use Rattle.rank_rules.specs.Knowledge.{Knowledge, own_class}
 use Rattle.rank_rules.specs.Pending.{must_wait}
 use Rattle.rank_rules.specs.Requests.{Requests}

@@ -1,5 +1,6 @@
 -- The accesses that a log leaves to be touched are those that are pending, also between the touches of one of them.
-use Rattle.std.proofs.Common.{◌≡◌, ℕ, zero, suc, ◌+◌, ◌<◌, ◌≤◌, inl, inr, Bool, true, List, [], ◌∷◌, ◌++◌, length, Option, Some, None, refl, sym, ◌∙◌, ap, subst, arith, length-append}
+use Rattle.std.proofs.Common.{◌≡◌, ℕ, zero, suc, ◌+◌, ◌<◌, ◌≤◌, inl, inr, Bool, true, List, [], ◌∷◌, ◌++◌, length}
+use Rattle.std.proofs.Common.{Option, Some, None, refl, sym, ◌∙◌, ap, subst, arith, length-append}
 use Rattle.std.specs.Prelude.{slice_get}
 use Rattle.std.specs.List.{AllByRecursion, filter}
 use Rattle.std.specs.Option.{option_map_or}
@@ -18,7 +19,8 @@ use Rattle.rank_laws.proofs.Awaiting.{rank_of}
 use Rattle.rank_laws.proofs.DirectMoves.{touched_few, elements_count}
 use Rattle.rank_laws.proofs.Lists.{each_turned, each_at, Among, among_left, among_each}
 use Rattle.rank_laws.proofs.Pendings.{IsSettled, IsUntouched, HasTouches}
-use Rattle.rank_laws.proofs.Touching.{IsTouchOf, touched_by_other, touched_joined, touch_issues_nothing, made_at, issued_inside, issued_still, issued_before_touches, each_issued}
+use Rattle.rank_laws.proofs.Touching.{IsTouchOf, touched_by_other, touched_joined, touch_issues_nothing, made_at}
+use Rattle.rank_laws.proofs.Touching.{issued_inside, issued_still, issued_before_touches, each_issued}
 use Rattle.rank_rules.specs.declared.pending.PendingAccess.{PendingAccess}
 
 -- the access has an element

@@ -2,7 +2,8 @@
 use Rattle.std.specs.Prelude.{ℕ, Bool, not, ◌==◌, if◌then◌else◌, List, [], ◌∷◌, ◌++◌}
 use Rattle.std.specs.List.{filter, fold}
 use Rattle.rma_types.specs.declared.accesses.Step.{Step}
-use Rattle.call_rules.specs.Actions.{Action, Creates, Frees, Attaches, Detaches, Synchronises, Meets, Moves, EndsRequest, Transfer, action_of}
+use Rattle.call_rules.specs.Actions.{Action, Creates, Frees, Attaches, Detaches, Synchronises, Meets, Moves}
+use Rattle.call_rules.specs.Actions.{EndsRequest, Transfer, action_of}
 use Rattle.call_rules.specs.Ranks.{natural}
 use Rattle.call_rules.specs.Transfers.{rank_reached, bytes_of}
 use Rattle.rank_rules.specs.Ranges.{Range, covers}
@@ -13,7 +14,8 @@ use Rattle.board_rules.specs.Questions.{Question}
 abbrev pub ranges_after : List Range → Step → Action → List Range
 ranges_after ranges step (Creates creation) = ranges
 ranges_after ranges step (Frees win) = if is_arrive step then ranges else []
-ranges_after ranges step (Attaches win base bytes) = ranges ++ record { base = natural base; bytes = natural bytes } ∷ []
+ranges_after ranges step (Attaches win base bytes) = ranges ++ record { base = natural base; bytes = natural bytes }
+    ∷ []
 ranges_after ranges step (Detaches win base) = filter (λ (range : Range). not (range.base == natural base)) ranges
 ranges_after ranges step (Synchronises win s) = ranges
 ranges_after ranges step Meets = ranges
@@ -23,7 +25,8 @@ ranges_after ranges step (EndsRequest req) = ranges
 -- the ranges that a rank has attached to a window after the entries
 abbrev pub ranges_attached : List Act → ℕ → ℕ → List Range
 ranges_attached entries rank window =
-    fold (λ ranges (act : Act). ranges_after ranges act.row.step (action_of act.row.call)) [] (filter (is_by_on rank window) entries)
+    fold (λ ranges (act : Act). ranges_after ranges act.row.step (action_of act.row.call)) []
+    (filter (is_by_on rank window) entries)
 
 -- a byte of the transfer's range is not attached at its target; an address is a displacement there
 abbrev pub reaches_unattached : Question → Transfer → Bool

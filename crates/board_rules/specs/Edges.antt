@@ -1,6 +1,8 @@
--- Which entries lead to which: MPI 3.1, sections 11.5 and 11.7, in this project's profile of order. An edge leads from an
+-- Which entries lead to which: MPI 3.1, sections 11.5 and 11.7, in this project's profile of order. An edge leads from
+-- an
 -- entry that releases to one that acquires.
-use Rattle.std.specs.Prelude.{ℕ, ◌+◌, Bool, true, false, ◌&&◌, ◌||◌, ◌==◌, nat_lt, List, [], ◌∷◌, ◌++◌, Option, slice_index_or, ℤ}
+use Rattle.std.specs.Prelude.{ℕ, ◌+◌, Bool, true, false, ◌&&◌, ◌||◌, ◌==◌, nat_lt, List, [], ◌∷◌, ◌++◌, Option}
+use Rattle.std.specs.Prelude.{slice_index_or, ℤ}
 use Rattle.std.specs.List.{filter, list_any}
 use Rattle.std.specs.Option.{option_map_or}
 use Rattle.rma_types.specs.declared.accesses.Step.{Step}
@@ -10,7 +12,8 @@ use Rattle.call_rules.specs.Actions.{Synchronisation, synchronisation_of}
 use Rattle.call_rules.specs.Ranks.{is_member}
 use Rattle.board_rules.specs.Entries.{Row, collective_of, is_collective}
 use Rattle.board_rules.specs.Locks.{Held, held_here, locks_asked, is_given_back, do_clash, lock_of, unlock_of}
-use Rattle.board_rules.specs.Posts.{group_of_post, group_of_start, is_complete, is_wait, naming, posts, starts, completes, completed, last_posted}
+use Rattle.board_rules.specs.Posts.{group_of_post, group_of_start, is_complete, is_wait, naming, posts, starts}
+use Rattle.board_rules.specs.Posts.{completes, completed, last_posted}
 use Rattle.board_rules.specs.Questions.{Question, question}
 use Rattle.board_rules.specs.Rounds.{rounds_begun}
 
@@ -51,7 +54,8 @@ are_of_one_round a b = are_on_one_window a b
 
 -- ---- posts and starts, completes and waits
 
--- the k-th post of t that names o, and the k-th start of o that names t; the groups are those of the post and of the start
+-- the k-th post of t that names o, and the k-th start of o that names t; the groups are those of the post and of the
+-- start
 abbrev pub is_started_by : Event → List ℕ → Event → List ℕ → Bool
 is_started_by a posted b started =
     is_member b.asked.rank posted && is_member a.asked.rank started
@@ -86,12 +90,14 @@ abbrev pub is_edge_by : Event → Event → Synchronisation → Synchronisation 
 is_edge_by a b first second =
     list_any (λ posted. list_any (is_started_by a posted b) (group_of_start second)) (group_of_post first)
     || (is_complete first && is_wait second && is_waited_for_by a b)
-    || option_map_or (λ unlocked. option_map_or (is_locked_after a unlocked b) (lock_of second) false) (unlock_of first) false
+    || option_map_or (λ unlocked. option_map_or (is_locked_after a unlocked b) (lock_of second) false)
+    (unlock_of first) false
 
 -- both are of step One, and the second synchronisation comes after the first
 abbrev pub is_matched_one : Event → Event → Step → Step → Bool
 is_matched_one a b One One = option_map_or
-    (λ first. option_map_or (is_edge_by a b first) (synchronisation_of b.asked.call) false) (synchronisation_of a.asked.call) false
+    (λ first. option_map_or (is_edge_by a b first) (synchronisation_of b.asked.call) false)
+    (synchronisation_of a.asked.call) false
 is_matched_one a b One Arrive = false
 is_matched_one a b One Leave = false
 is_matched_one a b Arrive step = false

@@ -1,11 +1,14 @@
 -- The entries of the board, in the order of their places: this project's profile of MPI 3.1, sections 11.2 and 11.5.
-use Rattle.std.specs.Prelude.{ℕ, ◌-◌, Bool, true, false, ◌&&◌, ◌==◌, if◌then◌else◌, List, [], ◌∷◌, ◌++◌, map, is_some, Option, Some, None}
+use Rattle.std.specs.Prelude.{ℕ, ◌-◌, Bool, true, false, ◌&&◌, ◌==◌, if◌then◌else◌, List, [], ◌∷◌, ◌++◌, map, is_some}
+use Rattle.std.specs.Prelude.{Option, Some, None}
 use Rattle.std.specs.List.{count_by, filter, flat_map}
 use Rattle.std.specs.Option.{option_map_or}
 use Rattle.rma_types.specs.declared.accesses.Step.{Step}
 use Rattle.rma_types.specs.declared.accesses.Step.TheVariants.{Arrive, Leave, One}
 use Rattle.rma_types.specs.declared.calls.Call.{Call}
-use Rattle.call_rules.specs.Actions.{Action, Creates, Frees, Attaches, Detaches, Synchronises, Meets, Moves, EndsRequest, Synchronisation, Fences, Posts, Starts, Completes, Waits, Locks, Unlocks, Flushes, Syncs, action_of, creation_of, synchronisation_of, window_named}
+use Rattle.call_rules.specs.Actions.{Action, Creates, Frees, Attaches, Detaches, Synchronises, Meets, Moves}
+use Rattle.call_rules.specs.Actions.{EndsRequest, Synchronisation, Fences, Posts, Starts, Completes, Waits, Locks}
+use Rattle.call_rules.specs.Actions.{Unlocks, Flushes, Syncs, action_of, creation_of, synchronisation_of, window_named}
 use Rattle.rank_rules.specs.Windows.{window_number}
 
 -- an entry: the rank, the number of its call in the rank's list, the call, and the step
@@ -65,7 +68,8 @@ is_by_on rank window act = act.row.rank == rank && act.window == window
 
 -- the synchronisations of a rank on a window, in order
 abbrev pub synchronisations : List Act → ℕ → ℕ → List Synchronisation
-synchronisations entries rank window = flat_map (λ (act : Act). option_map_or (λ s. s ∷ []) (synchronisation_of act.row.call) [])
+synchronisations entries rank window = flat_map
+    (λ (act : Act). option_map_or (λ s. s ∷ []) (synchronisation_of act.row.call) [])
     (filter (is_by_on rank window) entries)
 
 -- ---- collective calls
@@ -130,4 +134,5 @@ first_step call = if is_some (collective_of call) then Arrive else One
 -- the calls with which a rank has arrived at a collective on a window, one for each round
 abbrev pub arrivals : List Act → Collective → ℕ → ℕ → List Call
 arrivals entries collective rank window = map (λ (act : Act). act.row.call) (filter
-    (λ (act : Act). is_by_on rank window act && is_arrive act.row.step && is_collective collective act.row.call) entries)
+    (λ (act : Act). is_by_on rank window act && is_arrive act.row.step && is_collective collective act.row.call)
+    entries)

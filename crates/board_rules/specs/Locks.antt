@@ -1,10 +1,12 @@
 -- The locks that are held: MPI 3.1, section 11.5.3.
-use Rattle.std.specs.Prelude.{ℕ, Bool, true, false, not, ◌&&◌, ◌||◌, ◌==◌, List, [], ◌∷◌, ◌++◌, map, Option, Some, None, ℤ}
+use Rattle.std.specs.Prelude.{ℕ, Bool, true, false, not, ◌&&◌, ◌||◌, ◌==◌, List, [], ◌∷◌, ◌++◌, map, Option, Some, None}
+use Rattle.std.specs.Prelude.{ℤ}
 use Rattle.std.specs.List.{filter, fold, list_any}
 use Rattle.std.specs.Option.{option_map_or}
 use Rattle.rma_types.specs.declared.calls.Lock.{Lock}
 use Rattle.rma_types.specs.declared.calls.Lock.TheVariants.{Shared, Exclusive}
-use Rattle.call_rules.specs.Actions.{Synchronisation, Fences, Posts, Starts, Completes, Waits, Locks as LocksWith, Unlocks, Flushes, Syncs, synchronisation_of}
+use Rattle.call_rules.specs.Actions.{Synchronisation, Fences, Posts, Starts, Completes, Waits, Locks as LocksWith}
+use Rattle.call_rules.specs.Actions.{Unlocks, Flushes, Syncs, synchronisation_of}
 use Rattle.call_rules.specs.Pieces.{numbers_from}
 use Rattle.call_rules.specs.Ranks.{natural}
 use Rattle.board_rules.specs.Entries.{Act}
@@ -74,7 +76,8 @@ held_after ranks rank window held (Posts group asserts) = held
 held_after ranks rank window held (Starts group asserts) = held
 held_after ranks rank window held Completes = held
 held_after ranks rank window held (Waits tests) = held
-held_after ranks rank window held (LocksWith kind target asserts) = held ++ locks_at rank window kind (targets_of ranks target)
+held_after ranks rank window held (LocksWith kind target asserts) = held ++ locks_at rank window kind
+    (targets_of ranks target)
 held_after ranks rank window held (Unlocks target) =
     filter (λ (one : Held). not (is_given_back rank window target one)) held
 held_after ranks rank window held (Flushes target local) = held

@@ -1,11 +1,13 @@
 -- The rounds of collective calls: MPI 3.1, sections 11.2, 11.5.1 and 11.5.5, in this project's profile.
-use Rattle.std.specs.Prelude.{ℕ, Bool, true, false, not, ◌&&◌, nat_le, List, [], ◌∷◌, length, Option, Some, None, slice_get}
+use Rattle.std.specs.Prelude.{ℕ, Bool, true, false, not, ◌&&◌, nat_le, List, [], ◌∷◌, length, Option, Some, None}
+use Rattle.std.specs.Prelude.{slice_get}
 use Rattle.std.specs.List.{list_all, list_any, flat_map}
 use Rattle.std.specs.Option.{option_map_or}
 use Rattle.rma_types.specs.declared.calls.Asserts.{Asserts}
 use Rattle.rma_types.specs.declared.calls.Call.{Call}
 use Rattle.rma_types.specs.declared.calls.Flavor.{Flavor}
-use Rattle.call_rules.specs.Actions.{Creation, Synchronisation, Fences, Posts, Starts, Completes, Waits, Locks, Unlocks, Flushes, Syncs, creation_of, synchronisation_of}
+use Rattle.call_rules.specs.Actions.{Creation, Synchronisation, Fences, Posts, Starts, Completes, Waits, Locks, Unlocks}
+use Rattle.call_rules.specs.Actions.{Flushes, Syncs, creation_of, synchronisation_of}
 use Rattle.call_rules.specs.Pieces.{numbers_from}
 use Rattle.rank_rules.specs.Windows.{is_same_flavor}
 use Rattle.board_rules.specs.Entries.{collective_of, arrivals}

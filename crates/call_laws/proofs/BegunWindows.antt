@@ -1,5 +1,6 @@
 -- The windows that a rank has begun to make by its entries are those that it knows, and the one that it is making.
-use Rattle.std.proofs.Common.{◌≡◌, ℕ, ◌+◌, ◌-◌, ◌≤◌, Bool, true, false, cond, List, [], ◌∷◌, ◌++◌, length, Option, Some, None, refl, sym, ◌∙◌, ap, subst, arith, length-append}
+use Rattle.std.proofs.Common.{◌≡◌, ℕ, ◌+◌, ◌-◌, ◌≤◌, Bool, true, false, cond, List, [], ◌∷◌, ◌++◌, length, Option, Some}
+use Rattle.std.proofs.Common.{None, refl, sym, ◌∙◌, ap, subst, arith, length-append}
 use Rattle.std.specs.Prelude.{◌&&◌, ◌==◌, ◌≢◌, is_some, map}
 use Rattle.std.specs.List.{count_by, filter, AllByRecursion}
 use Rattle.std.specs.Option.{option_map_or}
@@ -12,9 +13,13 @@ use Rattle.rma_types.specs.declared.calls.Call.{Call}
 use Rattle.rma_types.specs.declared.scripts.Part.{Part}
 use Rattle.rma_record.specs.declared.items.Item.{Item}
 use Rattle.rma_record.specs.declared.items.Item.TheVariants.{Entry}
-use Rattle.board_rules.specs.Entries.{Row, Act, acts, acts_after, window_of, round_of, is_arrive, is_creation, names_window, begins_window, creations, is_by_on, Collective, Creation as CreationRound, is_collective, arrivals}
-use Rattle.call_rules.specs.Actions.{Action, Creates, Frees, Attaches, Detaches, Synchronises, Meets, Moves, EndsRequest, Creation, action_of, creation_in, creation_of, window_in_action}
-use Rattle.call_laws.proofs.Teaching.{name_made, no_name, created_grows, learns_call, IsPlain, plain_created, arrive_is_plain, look_up_is_plain, leave_ends, look_up_moves, transfer_makes_none}
+use Rattle.board_rules.specs.Entries.{Row, Act, acts, acts_after, window_of, round_of, is_arrive, is_creation}
+use Rattle.board_rules.specs.Entries.{names_window, begins_window, creations, is_by_on, Collective}
+use Rattle.board_rules.specs.Entries.{Creation as CreationRound, is_collective, arrivals}
+use Rattle.call_rules.specs.Actions.{Action, Creates, Frees, Attaches, Detaches, Synchronises, Meets, Moves}
+use Rattle.call_rules.specs.Actions.{EndsRequest, Creation, action_of, creation_in, creation_of, window_in_action}
+use Rattle.call_laws.proofs.Teaching.{name_made, no_name, created_grows, learns_call, IsPlain, plain_created}
+use Rattle.call_laws.proofs.Teaching.{arrive_is_plain, look_up_is_plain, leave_ends, look_up_moves, transfer_makes_none}
 use Rattle.lawful_runs.specs.Stages.{Stage, calls_at}
 use Rattle.rank_laws.proofs.Moves.{course_at, Begins}
 use Rattle.rank_laws.proofs.Shapes.{acts_joined, creation_is_collective}

@@ -1,5 +1,6 @@
 -- In an assembled run each log has the items of the calls of its rank.
-use Rattle.std.proofs.Common.{◌≡◌, ℕ, inl, inr, true, false, List, [], ◌∷◌, Option, Some, None, IsTrue, refl, sym, ◌∙◌, ap, subst, append-nil}
+use Rattle.std.proofs.Common.{◌≡◌, ℕ, inl, inr, true, false, List, [], ◌∷◌, Option, Some, None, IsTrue, refl, sym, ◌∙◌}
+use Rattle.std.proofs.Common.{ap, subst, append-nil}
 use Rattle.std.specs.Prelude.{slice_get, IsSomeAnd}
 use Rattle.rma_types.specs.declared.accesses.Step.TheVariants.{Arrive}
 use Rattle.rma_types.specs.declared.calls.Call.{Call}
@@ -8,7 +9,8 @@ use Rattle.rma_record.specs.declared.items.Item.TheVariants.{Entry, Ended}
 use Rattle.board_rules.specs.Entries.{Row}
 use Rattle.call_laws.proofs.CallMoves.{HasCalls, calls_kept}
 use Rattle.call_laws.proofs.KnownMoves.{KnowsAlways}
-use Rattle.call_laws.proofs.Standing.{untouched_touches, knows_untouched, view_of, OpensCall, FinishedAlways, Inside, Standing, IsOutside, IsInside, IsPast, past_has_none}
+use Rattle.call_laws.proofs.Standing.{untouched_touches, knows_untouched, view_of, OpensCall, FinishedAlways, Inside}
+use Rattle.call_laws.proofs.Standing.{Standing, IsOutside, IsInside, IsPast, past_has_none}
 use Rattle.call_laws.proofs.Stopping.{WaitsAt, WaitsFirst, WaitsToLeave, waits_there}
 use Rattle.call_laws.proofs.Teaching.{look_up_moves}
 use Rattle.call_laws.specs.Calls.{AssembledRunsHaveItemsOfCalls}
@@ -24,7 +26,8 @@ use Rattle.rank_laws.proofs.Touching.{touches_of_own}
 use Rattle.rank_laws.specs.Deliveries.{IsDelivered}
 use Rattle.rank_laws.specs.Fronts.{Lows, first_lows, Put, rows_put}
 use Rattle.rank_laws.specs.Lives.{Stops, Drains, Stays, Drained, HasLived}
-use Rattle.rank_rules.specs.Courses.{Course, OneNull, OneIssue, LookUpAndIssue, OneFlush, OneRequest, ArriveAndLeave, EntryOrTested, OneEntry, course_of}
+use Rattle.rank_rules.specs.Courses.{Course, OneNull, OneIssue, LookUpAndIssue, OneFlush, OneRequest, ArriveAndLeave}
+use Rattle.rank_rules.specs.Courses.{EntryOrTested, OneEntry, course_of}
 use Rattle.rank_rules.specs.Knowledge.{Knowledge, own_class}
 use Rattle.rank_rules.specs.declared.pending.PendingAccess.{PendingAccess}
 use Rattle.step_runs.specs.Agents.{Agent, new_agent, next_call}

@@ -1,5 +1,6 @@
 -- Every move keeps that the items of a rank are those of its calls, in their order.
-use Rattle.std.proofs.Common.{◌≡◌, ℕ, suc, ◌⊎◌, inl, inr, true, false, List, [], ◌∷◌, ◌++◌, length, Option, Some, None, refl, sym, ◌∙◌, ap, subst}
+use Rattle.std.proofs.Common.{◌≡◌, ℕ, suc, ◌⊎◌, inl, inr, true, false, List, [], ◌∷◌, ◌++◌, length, Option, Some, None}
+use Rattle.std.proofs.Common.{refl, sym, ◌∙◌, ap, subst}
 use Rattle.std.specs.Prelude.{IsSomeAnd}
 use Rattle.rma_types.specs.declared.accesses.Access.{Access}
 use Rattle.rma_types.specs.declared.accesses.Step.{Step}
@@ -12,7 +13,9 @@ use Rattle.board_rules.specs.Board.{Refuse, decide}
 use Rattle.board_rules.specs.Entries.{Row, window_of}
 use Rattle.call_laws.proofs.FirstEntries.{nothing_refused}
 use Rattle.call_laws.proofs.KnownMoves.{KnowsLog, KnowsAlways, knows_longer, known_kept}
-use Rattle.call_laws.proofs.Standing.{untouched_push, untouched_touches, knows_untouched, view_of, OpensCall, Outside, Standing, standing_longer, outside_of, inside_of, accepted, view_after, one_item, second_item, first_item, past_all}
+use Rattle.call_laws.proofs.Standing.{untouched_push, untouched_touches, knows_untouched, view_of, OpensCall, Outside}
+use Rattle.call_laws.proofs.Standing.{Standing, standing_longer, outside_of, inside_of, accepted, view_after, one_item}
+use Rattle.call_laws.proofs.Standing.{second_item, first_item, past_all}
 use Rattle.call_laws.proofs.Teaching.{nothing_learnt, arrive_accepts, look_up_accepts, look_up_moves}
 use Rattle.call_rules.specs.Actions.{Transfer, transfer_of}
 use Rattle.lawful_runs.specs.CallItems.{untouched, AreItemsBy, AreItemsOfCourse, IsBoardRefusal}
@@ -21,9 +24,12 @@ use Rattle.lawful_runs.specs.Stages.{Stage, calls_at, shapes_in}
 use Rattle.rank_laws.proofs.BoardMoves.{refused_by}
 use Rattle.rank_laws.proofs.CallKinds.{moves_nothing}
 use Rattle.rank_laws.proofs.Inductions.{Keeps}
-use Rattle.rank_laws.proofs.Moves.{Point, point, course_at, Begins, step_by, Entering, OnlyEntry, LookUp, Arriving, Leaving, IsPlainItem, Issuing, Learns, Rises, Ends, RefusesAlone, IsRefused, Tests, Passes, Enters, Issues, IssuesWhole, Draws, Delivers}
+use Rattle.rank_laws.proofs.Moves.{Point, point, course_at, Begins, step_by, Entering, OnlyEntry, LookUp, Arriving}
+use Rattle.rank_laws.proofs.Moves.{Leaving, IsPlainItem, Issuing, Learns, Rises, Ends, RefusesAlone, IsRefused, Tests}
+use Rattle.rank_laws.proofs.Moves.{Passes, Enters, Issues, IssuesWhole, Draws, Delivers}
 use Rattle.rank_laws.proofs.Touching.{touches_own, touches_of_own}
-use Rattle.rank_rules.specs.Courses.{Course, OneNull, OneIssue, LookUpAndIssue, OneFlush, OneRequest, ArriveAndLeave, EntryOrTested, OneEntry, has_entry, access_of}
+use Rattle.rank_rules.specs.Courses.{Course, OneNull, OneIssue, LookUpAndIssue, OneFlush, OneRequest, ArriveAndLeave}
+use Rattle.rank_rules.specs.Courses.{EntryOrTested, OneEntry, has_entry, access_of}
 use Rattle.rank_rules.specs.Knowledge.{Knowledge, own_class, learn}
 use Rattle.step_runs.specs.Agents.{Agent, next_call, kept, finished, opened}
 use Rattle.step_runs.specs.BoardSteps.{next_row}

@@ -8,16 +8,21 @@ use Rattle.rma_types.specs.declared.accesses.Step.TheVariants.{Arrive, Leave, On
 use Rattle.rma_types.specs.declared.calls.Call.{Call}
 use Rattle.rma_types.specs.declared.calls.Flavor.TheVariants.{Dynamic}
 use Rattle.rma_types.specs.declared.classes.Class.{Class}
-use Rattle.rma_types.specs.declared.classes.Class.TheVariants.{Flavor as FlavorClass, Assert as AssertClass, Sync as SyncClass}
+use Rattle.rma_types.specs.declared.classes.Class.TheVariants.{Flavor as FlavorClass, Assert as AssertClass}
+use Rattle.rma_types.specs.declared.classes.Class.TheVariants.{Sync as SyncClass}
 use Rattle.board_rules.specs.Board.{refuse_if, arrive_refusal, one_refusal, meets_post, refusal}
 use Rattle.board_rules.specs.Entries.{Collective, arrivals, collective_of}
 use Rattle.board_rules.specs.Posts.{is_posted}
 use Rattle.board_rules.specs.Questions.{Question}
-use Rattle.board_rules.specs.Rounds.{arrivals_of, rounds_begun, round_arrivals, is_differing_creation, is_differing_fence}
-use Rattle.call_rules.specs.Actions.{Action, Creates, Frees, Attaches, Detaches, Synchronises, Meets, Moves, EndsRequest, Synchronisation, Fences, Posts, Starts, Completes, Waits, Locks, Unlocks, Flushes, Syncs, Transfer, Target, Own, Null, Named, action_of}
+use Rattle.board_rules.specs.Rounds.{arrivals_of, rounds_begun, round_arrivals, is_differing_creation}
+use Rattle.board_rules.specs.Rounds.{is_differing_fence}
+use Rattle.call_rules.specs.Actions.{Action, Creates, Frees, Attaches, Detaches, Synchronises, Meets, Moves}
+use Rattle.call_rules.specs.Actions.{EndsRequest, Synchronisation, Fences, Posts, Starts, Completes, Waits, Locks}
+use Rattle.call_rules.specs.Actions.{Unlocks, Flushes, Syncs, Transfer, Target, Own, Null, Named, action_of}
 use Rattle.call_rules.specs.Pieces.{numbers_from}
 use Rattle.rank_laws.proofs.Moves.{step_by}
-use Rattle.rank_rules.specs.Courses.{OneIssue, LookUpAndIssue, has_entry, is_dynamic, course_of, course_of_action, course_of_synchronisation, course_of_transfer}
+use Rattle.rank_rules.specs.Courses.{OneIssue, LookUpAndIssue, has_entry, is_dynamic, course_of, course_of_action}
+use Rattle.rank_rules.specs.Courses.{course_of_synchronisation, course_of_transfer}
 use Rattle.rank_rules.specs.Windows.{Window, RankWindows, is_same_flavor}
 
 -- what an entry asks before there is any

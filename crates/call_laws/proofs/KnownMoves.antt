@@ -1,5 +1,6 @@
 -- Every move keeps that a rank knows what its log says, whatever entries are put later.
-use Rattle.std.proofs.Common.{◌≡◌, ℕ, false, List, [], ◌∷◌, ◌++◌, length, Some, None, refl, sym, ◌∙◌, ap, subst, append_assoc}
+use Rattle.std.proofs.Common.{◌≡◌, ℕ, false, List, [], ◌∷◌, ◌++◌, length, Some, None, refl, sym, ◌∙◌, ap, subst}
+use Rattle.std.proofs.Common.{append_assoc}
 use Rattle.std.specs.List.{AllByRecursion}
 use Rattle.rma_types.specs.declared.accesses.Step.{Step}
 use Rattle.rma_types.specs.declared.accesses.Step.TheVariants.{Arrive, Leave, One}
@@ -9,14 +10,18 @@ use Rattle.rma_record.specs.declared.items.Item.{Item}
 use Rattle.rma_record.specs.declared.items.Item.TheVariants.{Issue, Entry, Tested, Refused, Ended}
 use Rattle.board_rules.specs.Board.{Allow, decide}
 use Rattle.board_rules.specs.Entries.{Row}
-use Rattle.call_laws.proofs.BegunWindows.{IsOpen, HasBegunWindows, begun_by_others, numbers_at, begun_ending, begun_leaving, begun_looking_up, begun_arriving, later_creates_none}
+use Rattle.call_laws.proofs.BegunWindows.{IsOpen, HasBegunWindows, begun_by_others, numbers_at, begun_ending}
+use Rattle.call_laws.proofs.BegunWindows.{begun_leaving, begun_looking_up, begun_arriving, later_creates_none}
 use Rattle.call_laws.proofs.LeavingCreations.{parts_stay}
-use Rattle.call_laws.proofs.Teaching.{IsPlain, TeachesNothing, plain_alike, plain_unmade, call_alike, learns_call, passing_is_plain, issue_is_plain, arrive_is_plain, look_up_is_plain, only_is_plain, leave_ends, transfer_makes_none}
+use Rattle.call_laws.proofs.Teaching.{IsPlain, TeachesNothing, plain_alike, plain_unmade, call_alike, learns_call}
+use Rattle.call_laws.proofs.Teaching.{passing_is_plain, issue_is_plain, arrive_is_plain, look_up_is_plain}
+use Rattle.call_laws.proofs.Teaching.{only_is_plain, leave_ends, transfer_makes_none}
 use Rattle.call_rules.specs.Actions.{creation_of}
 use Rattle.lawful_runs.specs.Stages.{Stage, calls_at, known_at, shapes_in}
 use Rattle.rank_laws.proofs.Awaiting.{rank_of, known_push, touches_teach_nothing}
 use Rattle.rank_laws.proofs.Inductions.{Keeps}
-use Rattle.rank_laws.proofs.Moves.{Point, point, Entering, OnlyEntry, LookUp, Arriving, Leaving, Learns, Rises, Ends, RefusesAlone, IsRefused, Tests, Passes, Enters, Issues, IssuesWhole, Draws, Delivers}
+use Rattle.rank_laws.proofs.Moves.{Point, point, Entering, OnlyEntry, LookUp, Arriving, Leaving, Learns, Rises, Ends}
+use Rattle.rank_laws.proofs.Moves.{RefusesAlone, IsRefused, Tests, Passes, Enters, Issues, IssuesWhole, Draws, Delivers}
 use Rattle.rank_laws.proofs.Touching.{IsTouchOf, touches_own, touches_of_own}
 use Rattle.rank_rules.specs.Knowledge.{Knowledge, learn}
 use Rattle.step_runs.specs.Agents.{Agent, next_call, kept, finished}

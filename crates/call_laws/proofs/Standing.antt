@@ -1,6 +1,7 @@
 -- Where a rank stands in its calls: its items without touches are those of the calls that it has finished, and the
 -- first of the call in which it is.
-use Rattle.std.proofs.Common.{◌≡◌, ℕ, zero, suc, ◌+◌, ◌≤◌, ◌⊎◌, Bool, true, false, cond, List, [], ◌∷◌, ◌++◌, length, Option, Some, None, refl, sym, ◌∙◌, ap, subst, arith, add-one, append-nil, append_assoc}
+use Rattle.std.proofs.Common.{◌≡◌, ℕ, zero, suc, ◌+◌, ◌≤◌, ◌⊎◌, Bool, true, false, cond, List, [], ◌∷◌, ◌++◌, length}
+use Rattle.std.proofs.Common.{Option, Some, None, refl, sym, ◌∙◌, ap, subst, arith, add-one, append-nil, append_assoc}
 use Rattle.std.specs.Prelude.{slice_get, not, IsSomeAnd}
 use Rattle.std.specs.List.{fold, AllByRecursion}
 use Rattle.std.proofs.lemmas.List.Elements.{filter-append}
@@ -10,15 +11,18 @@ use Rattle.rma_types.specs.declared.calls.Call.{Call}
 use Rattle.rma_types.specs.declared.classes.Class.{Class}
 use Rattle.rma_types.specs.declared.scripts.Part.{Part}
 use Rattle.rma_record.specs.declared.items.Item.{Item}
-use Rattle.rma_record.specs.declared.items.Item.TheVariants.{Issue, Null, Touch, Flush, Request, Entry, Tested, Refused, Ended}
+use Rattle.rma_record.specs.declared.items.Item.TheVariants.{Issue, Null, Touch, Flush, Request, Entry, Tested, Refused}
+use Rattle.rma_record.specs.declared.items.Item.TheVariants.{Ended}
 use Rattle.board_rules.specs.Entries.{Row}
 use Rattle.call_laws.proofs.KnownMoves.{KnowsAlways, knows_longer}
-use Rattle.lawful_runs.specs.CallItems.{untouched, AreItemsOfCourse, IsBoardRefusal, AreItemsBy, AreItemsOf, AreFinished}
+use Rattle.lawful_runs.specs.CallItems.{untouched, AreItemsOfCourse, IsBoardRefusal, AreItemsBy, AreItemsOf}
+use Rattle.lawful_runs.specs.CallItems.{AreFinished}
 use Rattle.lawful_runs.specs.Items.{is_touch}
 use Rattle.lawful_runs.specs.Stages.{Stage, RankOfRun, calls_at, calls_here, first_knowledge, known_at, shapes_in}
 use Rattle.rank_laws.proofs.Awaiting.{rank_of}
 use Rattle.rank_laws.proofs.Touching.{IsTouchOf}
-use Rattle.rank_rules.specs.Courses.{Course, OneNull, OneIssue, LookUpAndIssue, OneFlush, OneRequest, ArriveAndLeave, EntryOrTested, OneEntry, course_of}
+use Rattle.rank_rules.specs.Courses.{Course, OneNull, OneIssue, LookUpAndIssue, OneFlush, OneRequest, ArriveAndLeave}
+use Rattle.rank_rules.specs.Courses.{EntryOrTested, OneEntry, course_of}
 use Rattle.rank_rules.specs.Knowledge.{Knowledge, own_class, learn}
 use Rattle.step_runs.specs.Agents.{Agent}
 

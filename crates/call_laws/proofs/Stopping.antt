@@ -1,5 +1,6 @@
 -- A rank that stops has ended, or stands at an entry that is not yet possible.
-use Rattle.std.proofs.Common.{◌≡◌, ℕ, ◌+◌, Bool, true, false, cond, not, ◌&&◌, List, [], ◌∷◌, ◌++◌, length, Option, Some, None, IsTrue, refl, sym, ◌∙◌, ap, arith, length-append}
+use Rattle.std.proofs.Common.{◌≡◌, ℕ, ◌+◌, Bool, true, false, cond, not, ◌&&◌, List, [], ◌∷◌, ◌++◌, length, Option}
+use Rattle.std.proofs.Common.{Some, None, IsTrue, refl, sym, ◌∙◌, ap, arith, length-append}
 use Rattle.std.specs.Prelude.{is_none}
 use Rattle.std.specs.Option.{option_map_or}
 use Rattle.rma_types.specs.declared.accesses.Step.{Step}
@@ -14,10 +15,13 @@ use Rattle.lawful_runs.specs.Stages.{Stage}
 use Rattle.rank_laws.proofs.CallKinds.{first_step_is}
 use Rattle.rank_laws.proofs.Histories.{both_left, both_right, is_none_of}
 use Rattle.rank_laws.proofs.Moves.{course_at, step_by}
-use Rattle.rank_rules.specs.Courses.{Course, OneNull, OneIssue, LookUpAndIssue, OneFlush, OneRequest, ArriveAndLeave, EntryOrTested, OneEntry, has_entry}
+use Rattle.rank_rules.specs.Courses.{Course, OneNull, OneIssue, LookUpAndIssue, OneFlush, OneRequest, ArriveAndLeave}
+use Rattle.rank_rules.specs.Courses.{EntryOrTested, OneEntry, has_entry}
 use Rattle.rank_rules.specs.Knowledge.{own_class}
-use Rattle.step_runs.specs.Agents.{Agent, next_call, finished, opened, must_draw, awaited_by, begins_with_entry, tries_entry}
-use Rattle.step_runs.specs.BoardSteps.{AtBoard, next_row, waiting, entered, enter_by, test_by, leave, leave_if_entered, first_entry, entry_of, board_step}
+use Rattle.step_runs.specs.Agents.{Agent, next_call, finished, opened, must_draw, awaited_by, begins_with_entry}
+use Rattle.step_runs.specs.Agents.{tries_entry}
+use Rattle.step_runs.specs.BoardSteps.{AtBoard, next_row, waiting, entered, enter_by, test_by, leave, leave_if_entered}
+use Rattle.step_runs.specs.BoardSteps.{first_entry, entry_of, board_step}
 
 -- the rank's next entry is not yet possible: the first of its call, or the Leave
 pub data WaitsAt (stage : Stage) (agent : Agent) (rows : List Row) (call : Call) : Type 0 where

@@ -1,5 +1,6 @@
 -- What an item of a log teaches its rank: it depends on the parts of a window only where a creation ends.
-use Rattle.std.proofs.Common.{◌≡◌, ℕ, ◌⊎◌, inl, inr, true, false, cond, List, [], ◌∷◌, ◌++◌, Option, Some, None, refl, sym, ◌∙◌, ap}
+use Rattle.std.proofs.Common.{◌≡◌, ℕ, ◌⊎◌, inl, inr, true, false, cond, List, [], ◌∷◌, ◌++◌, Option, Some, None, refl}
+use Rattle.std.proofs.Common.{sym, ◌∙◌, ap}
 use Rattle.std.specs.Prelude.{slice_get, is_none, is_some, not, ◌==◌}
 use Rattle.std.specs.List.{filter}
 use Rattle.std.specs.Option.{option_map_or}
@@ -10,11 +11,14 @@ use Rattle.rma_types.specs.declared.calls.Call.{Call}
 use Rattle.rma_types.specs.declared.scripts.Part.{Part}
 use Rattle.rma_record.specs.declared.items.Item.{Item}
 use Rattle.rma_record.specs.declared.items.Item.TheVariants.{Issue, Entry}
-use Rattle.call_rules.specs.Actions.{Action, Creates, Frees, Attaches, Detaches, Synchronises, Meets, Moves, EndsRequest, Creation, Transfer, action_of, creation_in, creation_of, transfer_in, transfer_of}
+use Rattle.call_rules.specs.Actions.{Action, Creates, Frees, Attaches, Detaches, Synchronises, Meets, Moves}
+use Rattle.call_rules.specs.Actions.{EndsRequest, Creation, Transfer, action_of, creation_in, creation_of, transfer_in}
+use Rattle.call_rules.specs.Actions.{transfer_of}
 use Rattle.lawful_runs.specs.Stages.{Stage, calls_at}
 use Rattle.rank_laws.proofs.CallKinds.{is_transfers, course_tells_transfer, moves_nothing}
 use Rattle.rank_laws.proofs.Moves.{course_at, Begins, IsPlainItem, Issuing}
-use Rattle.rank_rules.specs.Courses.{Course, OneNull, OneIssue, LookUpAndIssue, OneFlush, OneRequest, ArriveAndLeave, EntryOrTested, OneEntry, course_of, course_of_action}
+use Rattle.rank_rules.specs.Courses.{Course, OneNull, OneIssue, LookUpAndIssue, OneFlush, OneRequest, ArriveAndLeave}
+use Rattle.rank_rules.specs.Courses.{EntryOrTested, OneEntry, course_of, course_of_action}
 use Rattle.rank_rules.specs.Knowledge.{Knowledge, ends_call, accepted_by, known_after_call, known_after_number, learn}
 use Rattle.rank_rules.specs.Windows.{Window, RankWindows, next_number, windows_after}
 use Rattle.step_runs.specs.Agents.{Agent, next_call}

@@ -3,12 +3,18 @@
 use Rattle.std.specs.Prelude.{ℕ, Bool, true, false, List, [], ◌∷◌, length, Option, Some, None, ℤ, pos}
 use Rattle.std.specs.Option.{option_map_or}
 use Rattle.rma_types.specs.declared.accesses.Kind.{Kind}
-use Rattle.rma_types.specs.declared.accesses.Kind.TheVariants.{Get as GetKind, Put as PutKind, Acc as AccKind, Cas as CasKind, Load as LoadKind, Store as StoreKind}
+use Rattle.rma_types.specs.declared.accesses.Kind.TheVariants.{Get as GetKind, Put as PutKind, Acc as AccKind}
+use Rattle.rma_types.specs.declared.accesses.Kind.TheVariants.{Cas as CasKind, Load as LoadKind, Store as StoreKind}
 use Rattle.rma_types.specs.declared.calls.Asserts.{Asserts}
 use Rattle.rma_types.specs.declared.calls.Call.{Call}
-use Rattle.rma_types.specs.declared.calls.Call.TheVariants.{Allocate, Create, Dynamic, Free, Attach, Detach, Fence, Post, Start, Complete, WaitWin, TestWin, LockOne, Unlock, LockAll, UnlockAll, Flush, FlushAll, FlushLocal, FlushLocalAll, Sync, Barrier, Put, Get, Acc, GetAcc, Fop, Cas, Load, Store, WaitReq, TestReq}
+use Rattle.rma_types.specs.declared.calls.Call.TheVariants.{Allocate, Create, Dynamic, Free, Attach, Detach, Fence}
+use Rattle.rma_types.specs.declared.calls.Call.TheVariants.{Post, Start, Complete, WaitWin, TestWin, LockOne, Unlock}
+use Rattle.rma_types.specs.declared.calls.Call.TheVariants.{LockAll, UnlockAll, Flush, FlushAll, FlushLocal}
+use Rattle.rma_types.specs.declared.calls.Call.TheVariants.{FlushLocalAll, Sync, Barrier, Put, Get, Acc, GetAcc, Fop}
+use Rattle.rma_types.specs.declared.calls.Call.TheVariants.{Cas, Load, Store, WaitReq, TestReq}
 use Rattle.rma_types.specs.declared.calls.Flavor.{Flavor}
-use Rattle.rma_types.specs.declared.calls.Flavor.TheVariants.{Allocate as AllocateFlavor, Create as CreateFlavor, Dynamic as DynamicFlavor}
+use Rattle.rma_types.specs.declared.calls.Flavor.TheVariants.{Allocate as AllocateFlavor, Create as CreateFlavor}
+use Rattle.rma_types.specs.declared.calls.Flavor.TheVariants.{Dynamic as DynamicFlavor}
 use Rattle.rma_types.specs.declared.calls.Lock.{Lock}
 use Rattle.rma_types.specs.declared.calls.Lock.TheVariants.{Shared}
 use Rattle.rma_types.specs.declared.dtypes.Dtype.{Dtype}
@@ -49,8 +55,10 @@ pub record Creation : Type 0 where
   pub bytes : ℤ
   pub unit : ℤ
 
--- A call that opens or closes an epoch, or completes accesses within one (11.5). A wait that tests is testwin. A lock, an
--- unlock and a flush of no target are those of all ranks; lock_all is a shared lock. A local flush completes at the origin
+-- A call that opens or closes an epoch, or completes accesses within one (11.5). A wait that tests is testwin. A lock,
+-- an
+-- unlock and a flush of no target are those of all ranks; lock_all is a shared lock. A local flush completes at the
+-- origin
 -- alone.
 pub data Synchronisation : Type 0 where
   Fences : Asserts → Synchronisation
@@ -170,8 +178,10 @@ action_of (FlushLocal win target) = Synchronises win (Flushes (Some target) true
 action_of (FlushLocalAll win) = Synchronises win (Flushes None true)
 action_of (Sync win) = Synchronises win Syncs
 action_of Barrier = Meets
-action_of (Put req win target disp dtype values) = Moves (put_transfer req win (target_of target) disp dtype PutKind values)
-action_of (Get req win target disp dtype count) = Moves (get_transfer req win (target_of target) disp dtype GetKind count)
+action_of (Put req win target disp dtype values) = Moves
+    (put_transfer req win (target_of target) disp dtype PutKind values)
+action_of (Get req win target disp dtype count) = Moves
+    (get_transfer req win (target_of target) disp dtype GetKind count)
 action_of (Acc req win target disp dtype op values) =
     Moves (accumulate_transfer req win (target_of target) disp dtype op false values)
 action_of (GetAcc req win target disp dtype op values) =

@@ -1,9 +1,11 @@
 -- The operation on an element of a cell: MPI 3.1, sections 5.9.2, 11.3.1 and 11.3.4. A cell is 4 bytes, little-endian.
-use Rattle.std.specs.Prelude.{◌≡◌, ◌<◌, ◌≤◌, ℕ, ◌+◌, ◌*◌, ◌/◌, ◌%◌, ◌^◌, Bool, true, not, ◌&&◌, ◌||◌, ◌==◌, if◌then◌else◌, ◌+ℤ◌, ◌*ℤ◌, int_lt, bit_and, bit_or, bit_xor, Option, Some, None, IfSome}
+use Rattle.std.specs.Prelude.{◌≡◌, ◌<◌, ◌≤◌, ℕ, ◌+◌, ◌*◌, ◌/◌, ◌%◌, ◌^◌, Bool, true, not, ◌&&◌, ◌||◌, ◌==◌}
+use Rattle.std.specs.Prelude.{if◌then◌else◌, ◌+ℤ◌, ◌*ℤ◌, int_lt, bit_and, bit_or, bit_xor, Option, Some, None, IfSome}
 use Rattle.rma_types.specs.declared.dtypes.Dtype.{Dtype}
 use Rattle.rma_types.specs.Datatypes.{size_of}
 use Rattle.rma_types.specs.declared.ops.Op.{Op}
-use Rattle.rma_types.specs.declared.ops.Op.TheVariants.{Replace, NoOp, Max, Min, Sum, Prod, Land, Band, Lor, Bor, Lxor, Bxor}
+use Rattle.rma_types.specs.declared.ops.Op.TheVariants.{Replace, NoOp, Max, Min, Sum, Prod, Land, Band, Lor, Bor, Lxor}
+use Rattle.rma_types.specs.declared.ops.Op.TheVariants.{Bxor}
 use Rattle.call_rules.specs.declared.elements.Change.{Change}
 use Rattle.call_rules.specs.Numbers.{patterns_of, number_of, pattern_of}
 
@@ -55,10 +57,12 @@ abbrev pub next : ℕ → Change → ℕ
 next bits change =
     let old = element_in bits change.first_byte change.dtype in
     if meets change.compare change.dtype old
-    then with_element bits change.first_byte change.dtype (cut change.dtype (combined change.op change.dtype old (cut change.dtype change.operand)))
+    then with_element bits change.first_byte change.dtype
+    (cut change.dtype (combined change.op change.dtype old (cut change.dtype change.operand)))
     else bits
 
--- the element stands in the cell at a multiple of its size, and the operand and what it is compared with are its patterns
+-- the element stands in the cell at a multiple of its size, and the operand and what it is compared with are its
+-- patterns
 pub record Fits (change : Change) : Type 0 where
   pub aligned : change.first_byte % size_of change.dtype ≡ 0
   pub inside : change.first_byte + size_of change.dtype ≤ 4

@@ -38,12 +38,14 @@ base_for number address Dynamic = []
 
 -- a base for an allocate, and none for any other call
 abbrev pub base_at : ℕ → ℕ → Call → List CallBase
-base_at number address call = option_map_or (λ (creation : Creation). base_for number address creation.flavor) (creation_of call) []
+base_at number address call = option_map_or (λ (creation : Creation). base_for number address creation.flavor)
+    (creation_of call) []
 
 -- the bases of the calls from this number and this address on
 abbrev pub bases_from : ℕ → ℕ → List Call → List CallBase
 bases_from number address [] = []
-bases_from number address (call ∷ calls) = base_at number address call ++ bases_from (number + 1) (address + call_bytes call) calls
+bases_from number address (call ∷ calls) = base_at number address call ++ bases_from (number + 1)
+    (address + call_bytes call) calls
 
 -- each rank's space and calls
 abbrev pub ranks_of : Script → List (ℕ × List Call)

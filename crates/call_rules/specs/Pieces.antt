@@ -32,4 +32,5 @@ element_address access dtype element = access.lo + element * size_of dtype
 -- where the elements of an access lie, the first element first
 abbrev pub pieces : Layout → Access → Dtype → List Piece
 pieces layout access dtype =
-    map (λ element. piece_at layout access.target (element_address access dtype element)) (numbers_from 0 (access.len / size_of dtype))
+    map (λ element. piece_at layout access.target (element_address access dtype element))
+    (numbers_from 0 (access.len / size_of dtype))

@@ -31,10 +31,12 @@ pub record Touched : Type 0 where
   pub cells : List Cell
   pub items : List Item
 
--- the elements at these pieces are touched, the first of them having this number, each on its cell's state at that moment
+-- the elements at these pieces are touched, the first of them having this number, each on its cell's state at that
+-- moment
 abbrev pub touch_each : Transfer → ℕ → ℕ → List Piece → List Cell → Touched
 touch_each t issue element [] cells = record { cells = cells; items = [] }
 touch_each t issue element (piece ∷ pieces) cells =
     let seen = cell_at cells piece.cell in
-    let rest = touch_each t issue (element + 1) pieces (cells_after cells piece.cell (change_of t element piece.first_byte)) in
+    let rest = touch_each t issue (element + 1) pieces
+    (cells_after cells piece.cell (change_of t element piece.first_byte)) in
     record { cells = rest.cells; items = Touch issue element piece.cell seen.place seen.bits ∷ rest.items }

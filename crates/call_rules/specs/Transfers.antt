@@ -3,7 +3,8 @@ use Rattle.std.specs.Prelude.{ℕ, Bool, true, false, ◌*◌, Option, Some, Non
 use Rattle.rma_types.specs.declared.accesses.Kind.{Kind}
 use Rattle.rma_types.specs.declared.accesses.Kind.TheVariants.{Get, Put, Acc, Cas, Load, Store}
 use Rattle.rma_types.specs.declared.ops.Op.{Op}
-use Rattle.rma_types.specs.declared.ops.Op.TheVariants.{Replace, NoOp, Max, Min, Sum, Prod, Land, Band, Lor, Bor, Lxor, Bxor}
+use Rattle.rma_types.specs.declared.ops.Op.TheVariants.{Replace, NoOp, Max, Min, Sum, Prod, Land, Band, Lor, Bor, Lxor}
+use Rattle.rma_types.specs.declared.ops.Op.TheVariants.{Bxor}
 use Rattle.rma_types.specs.Datatypes.{size_of}
 use Rattle.call_rules.specs.declared.elements.Change.{Change}
 use Rattle.call_rules.specs.Actions.{Transfer, Target, Own, Null, Named}

@@ -9,7 +9,8 @@ length-greater [] (y ∷ ys) e = absurd (omega arith)
 length-greater (x ∷ xs) [] e = refl
 length-greater (x ∷ xs) (y ∷ ys) e = ap suc (length-greater xs ys (omega arith))
 
-get_or-greater : (xs ys : List ℕ) (k : ℕ) → length xs ≡ length ys → get_or (greater xs ys) k 0 ≡ max (get_or xs k 0) (get_or ys k 0)
+get_or-greater : (xs ys : List ℕ) (k : ℕ) → length xs ≡ length ys → get_or (greater xs ys) k 0 ≡ max (get_or xs k 0)
+    (get_or ys k 0)
 get_or-greater [] [] k e = refl
 get_or-greater [] (y ∷ ys) k e = absurd (omega arith)
 get_or-greater (x ∷ xs) [] k e = absurd (omega arith)

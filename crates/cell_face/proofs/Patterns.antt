@@ -16,30 +16,74 @@ pub record IsReplaced (bits weight old pattern whole : ℕ) : Type 0 where
 one_byte : (bits first_byte pattern : ℕ) → bits < 2 ^ 32 → first_byte + 1 ≤ 4 → pattern < 256 →
     IsReplaced bits (256 ^ first_byte) (bits / 256 ^ first_byte % 256) pattern
     (bits % 256 ^ first_byte + pattern * 256 ^ first_byte + bits / (256 ^ first_byte * 256) * (256 ^ first_byte * 256))
-one_byte bits zero pattern b i p = record { within = omega arith; small = omega arith; sum = omega arith; fits = omega arith }
-one_byte bits (suc zero) pattern b i p = record { within = omega arith; small = omega arith; sum = omega arith; fits = omega arith }
-one_byte bits (suc (suc zero)) pattern b i p = record { within = omega arith; small = omega arith; sum = omega arith; fits = omega arith }
-one_byte bits (suc (suc (suc zero))) pattern b i p = record { within = omega arith; small = omega arith; sum = omega arith; fits = omega arith }
+one_byte bits zero pattern b i p = record {
+  within = omega arith;
+  small = omega arith;
+  sum = omega arith;
+  fits = omega
+      arith;
+}
+one_byte bits (suc zero) pattern b i p = record {
+  within = omega arith;
+  small = omega arith;
+  sum = omega arith;
+  fits =
+      omega arith;
+}
+one_byte bits (suc (suc zero)) pattern b i p = record {
+  within = omega arith;
+  small = omega arith;
+  sum = omega arith;
+  fits = omega arith;
+}
+one_byte bits (suc (suc (suc zero))) pattern b i p = record
+    { within = omega arith; small = omega arith; sum = omega arith; fits = omega arith }
 one_byte bits (suc (suc (suc (suc n)))) pattern b i p = absurd (omega arith)
 
 two_bytes : (bits first_byte pattern : ℕ) → bits < 2 ^ 32 → first_byte + 2 ≤ 4 → pattern < 65536 →
     IsReplaced bits (256 ^ first_byte) (bits / 256 ^ first_byte % 65536) pattern
-    (bits % 256 ^ first_byte + pattern * 256 ^ first_byte + bits / (256 ^ first_byte * 65536) * (256 ^ first_byte * 65536))
-two_bytes bits zero pattern b i p = record { within = omega arith; small = omega arith; sum = omega arith; fits = omega arith }
-two_bytes bits (suc zero) pattern b i p = record { within = omega arith; small = omega arith; sum = omega arith; fits = omega arith }
-two_bytes bits (suc (suc zero)) pattern b i p = record { within = omega arith; small = omega arith; sum = omega arith; fits = omega arith }
+    (bits % 256 ^ first_byte + pattern * 256 ^ first_byte + bits / (256 ^ first_byte * 65536) *
+    (256 ^ first_byte * 65536))
+two_bytes bits zero pattern b i p = record {
+  within = omega arith;
+  small = omega arith;
+  sum = omega arith;
+  fits = omega
+      arith;
+}
+two_bytes bits (suc zero) pattern b i p = record {
+  within = omega arith;
+  small = omega arith;
+  sum = omega arith;
+  fits =
+      omega arith;
+}
+two_bytes bits (suc (suc zero)) pattern b i p = record {
+  within = omega arith;
+  small = omega arith;
+  sum = omega arith;
+  fits = omega arith;
+}
 two_bytes bits (suc (suc (suc n))) pattern b i p = absurd (omega arith)
 
 four_bytes : (bits first_byte pattern : ℕ) → bits < 2 ^ 32 → first_byte + 4 ≤ 4 → pattern < 4294967296 →
     IsReplaced bits (256 ^ first_byte) (bits / 256 ^ first_byte % 4294967296) pattern
-    (bits % 256 ^ first_byte + pattern * 256 ^ first_byte + bits / (256 ^ first_byte * 4294967296) * (256 ^ first_byte * 4294967296))
-four_bytes bits zero pattern b i p = record { within = omega arith; small = omega arith; sum = omega arith; fits = omega arith }
+    (bits % 256 ^ first_byte + pattern * 256 ^ first_byte + bits / (256 ^ first_byte * 4294967296) *
+    (256 ^ first_byte * 4294967296))
+four_bytes bits zero pattern b i p = record {
+  within = omega arith;
+  small = omega arith;
+  sum = omega arith;
+  fits = omega
+      arith;
+}
 four_bytes bits (suc n) pattern b i p = absurd (omega arith)
 
 -- `with_element` takes the old pattern out and puts the new one in
 pub with_element_is : (bits first_byte : ℕ) (dtype : Dtype) (pattern : ℕ) →
     bits < 2 ^ 32 → first_byte + size_of dtype ≤ 4 → pattern < patterns_of dtype →
-    IsReplaced bits (256 ^ first_byte) (element_in bits first_byte dtype) pattern (with_element bits first_byte dtype pattern)
+    IsReplaced bits (256 ^ first_byte) (element_in bits first_byte dtype) pattern
+    (with_element bits first_byte dtype pattern)
 with_element_is bits first_byte Int8 pattern b i p = one_byte bits first_byte pattern b i p
 with_element_is bits first_byte Uint8 pattern b i p = one_byte bits first_byte pattern b i p
 with_element_is bits first_byte Byte pattern b i p = one_byte bits first_byte pattern b i p

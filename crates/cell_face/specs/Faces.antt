@@ -1,6 +1,8 @@
--- What a memory shows of itself, and what its calls do to that. A cell is 4 bytes; a place is the number of updates that
+-- What a memory shows of itself, and what its calls do to that. A cell is 4 bytes; a place is the number of updates
+-- that
 -- the cell had before.
-use Rattle.std.specs.Prelude.{◌≡◌, ◌≢◌, ◌<◌, ◌≤◌, ◌⊎◌, ℕ, ◌+◌, ◌-◌, ◌^◌, List, [], ◌∷◌, ◌++◌, length, Option, IfSome, slice_index, slice_set}
+use Rattle.std.specs.Prelude.{◌≡◌, ◌≢◌, ◌<◌, ◌≤◌, ◌⊎◌, ℕ, ◌+◌, ◌-◌, ◌^◌, List, [], ◌∷◌, ◌++◌, length, Option, IfSome}
+use Rattle.std.specs.Prelude.{slice_index, slice_set}
 use Rattle.std.specs.Option.{option_map}
 use Rattle.call_rules.specs.declared.cells.Cell.{Cell}
 use Rattle.call_rules.specs.Touches.{cell_at}
@@ -12,8 +14,10 @@ pub record Update : Type 0 where
   pub before : ℕ
   pub after : ℕ
 
--- All plain data of a memory. lows: for each cell its lowest place, the least that may still be seen there. share: how many
--- updates may still be made. moves: how often an attempt came too late. updates: those made through this value, where it
+-- All plain data of a memory. lows: for each cell its lowest place, the least that may still be seen there. share: how
+-- many
+-- updates may still be made. moves: how often an attempt came too late. updates: those made through this value, where
+-- it
 -- tells them. told: the state of each cell, where it tells them.
 pub record Face : Type 0 where
   pub lows : List ℕ
@@ -71,7 +75,8 @@ pub record Updates (before after : Face) (cell : ℕ) (seen : Cell) (bits : ℕ)
   pub stays : Stays before after
   pub share : before.share ≤ after.share + 1
   pub moves : after.moves ≡ before.moves
-  pub updates : after.updates ≡ option_map (λ made. made ++ record { cell = cell; place = seen.place; before = seen.bits; after = bits } ∷ []) before.updates
+  pub updates : after.updates ≡ option_map
+      (λ made. made ++ record { cell = cell; place = seen.place; before = seen.bits; after = bits } ∷ []) before.updates
   pub told : after.told ≡ option_map (λ cells. slice_set cells cell (state_after bits seen)) before.told
   pub told_place : IfSome before.told (λ cells. seen.place ≡ (cell_at cells cell).place)
   pub not_below : low_at before cell ≤ seen.place
@@ -97,7 +102,8 @@ pub record Gives (before after : Face) (note_front : Option (List ℕ)) (note_or
 pub record Takes (before after : Face) (note_front : Option (List ℕ)) : Type 0 where
   pub unwritten : Unwritten before after
   pub moves : after.moves ≡ before.moves
-  pub raised : IfSome note_front (λ places. (cell : ℕ) → cell < cell_count before → slice_index places cell ≤ low_at after cell)
+  pub raised : IfSome note_front (λ places. (cell : ℕ) → cell < cell_count before →
+      slice_index places cell ≤ low_at after cell)
 
 -- what was known is still known
 abbrev pub Keeps : (ℕ → Cell → Type 0) → (ℕ → Cell → Type 0) → Type 0

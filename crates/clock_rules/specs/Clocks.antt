@@ -1,6 +1,7 @@
 -- Vector clocks of the entries of a run: for each entry, how many items of each log are before it or are it. MPI 3.1,
 -- section 11.7, in this project's profile of order.
-use Rattle.std.specs.Prelude.{ℕ, ◌+◌, ◌<◌, ◌≤◌, ◌≡◌, ◌⊎◌, max, Bool, ◌&&◌, ◌||◌, ◌==◌, nat_lt, nat_le, if◌then◌else◌, IsTrue, Contains, List, [], ◌∷◌, ◌++◌, map, replicate, slice_index, slice_set}
+use Rattle.std.specs.Prelude.{ℕ, ◌+◌, ◌<◌, ◌≤◌, ◌≡◌, ◌⊎◌, max, Bool, ◌&&◌, ◌||◌, ◌==◌, nat_lt, nat_le, if◌then◌else◌}
+use Rattle.std.specs.Prelude.{IsTrue, Contains, List, [], ◌∷◌, ◌++◌, map, replicate, slice_index, slice_set}
 use Rattle.std.specs.List.{list_any}
 use Rattle.rma_types.specs.declared.accesses.Id.{Id}
 use Rattle.rma_types.specs.declared.scripts.Script.{Script}

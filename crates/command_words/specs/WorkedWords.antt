@@ -8,12 +8,15 @@ use Rattle.command_words.specs.Words.{options_of}
 -- accepted: no words; values apart and after an equals sign
 pub record AreAccepted : Type 0 where
   pub none : options_of [] ≡ Some DEFAULT_OPTIONS
-  pub seed : options_of (codes "--mode=step" ∷ codes "--seed" ∷ codes "5" ∷ []) ≡ Some (record DEFAULT_OPTIONS { seed = 5 })
+  pub seed : options_of (codes "--mode=step" ∷ codes "--seed" ∷ codes "5" ∷ []) ≡ Some
+      (record DEFAULT_OPTIONS { seed = 5 })
   pub greedy : options_of (codes "--order" ∷ codes "greedy" ∷ []) ≡ Some (record DEFAULT_OPTIONS { order = Greedy })
-  pub end : options_of (codes "--delay=end" ∷ codes "--workers=016" ∷ []) ≡ Some (record DEFAULT_OPTIONS { delay = End; workers = 16 })
+  pub end : options_of (codes "--delay=end" ∷ codes "--workers=016" ∷ []) ≡ Some
+      (record DEFAULT_OPTIONS { delay = End; workers = 16 })
   pub ended : options_of (codes "--" ∷ []) ≡ Some DEFAULT_OPTIONS
 
--- refused: a word that is no option, an option without a value, twice, or with no value of its own, and a number that is none
+-- refused: a word that is no option, an option without a value, twice, or with no value of its own, and a number that
+-- is none
 pub record AreRefused : Type 0 where
   pub extra : options_of (codes "extra" ∷ []) ≡ None
   pub empty : options_of ([] ∷ []) ≡ None

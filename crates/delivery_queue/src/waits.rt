@@ -23,7 +23,8 @@ fn is_at(rank: i32, one: &PendingAccess) -> bool
     u32::from(one.access.target) == if rank < 0 { 0 } else { rank as u32 }
 }
 
-/// Whether the call must wait for the pending access before its first item. `requests` has, for each name, the number of
+/// Whether the call must wait for the pending access before its first item. `requests` has, for each name, the number
+/// of
 /// the call that made the live request of that name.
 fn must_wait(requests: &[Option<u32>; 64], call: &Call, one: &PendingAccess) -> bool
     requires { IsWrittenCall call.now }

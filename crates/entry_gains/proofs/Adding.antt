@@ -1,24 +1,32 @@
 -- The tables after one entry more are those of the entries with it.
-use Rattle.std.proofs.Common.{◌≡◌, ℕ, ◌<◌, ◌≤◌, Bool, true, false, ◌&&◌, List, [], ◌∷◌, ◌++◌, length, refl, ap, sym, subst, ◌∙◌, arith, Option, Some, None}
+use Rattle.std.proofs.Common.{◌≡◌, ℕ, ◌<◌, ◌≤◌, Bool, true, false, ◌&&◌, List, [], ◌∷◌, ◌++◌, length, refl, ap, sym}
+use Rattle.std.proofs.Common.{subst, ◌∙◌, arith, Option, Some, None}
 use Rattle.std.specs.List.{flat_map}
 use Rattle.std.specs.Option.{option_map_or}
 use Rattle.rma_types.specs.declared.accesses.Step.{Step}
 use Rattle.rma_types.specs.declared.accesses.Step.TheVariants.{Arrive, Leave, One}
-use Rattle.call_rules.specs.Actions.{Action, Creates, Frees, Synchronises, Meets as MeetsAll, Synchronisation, Fences, Posts as PostsTo, Starts as StartsTo, Completes as CompletesOne, Waits as WaitsFor, Locks as LocksWith, Unlocks as UnlocksOf, Flushes, Syncs, action_of, synchronisation_in, synchronisation_of}
+use Rattle.call_rules.specs.Actions.{Action, Creates, Frees, Synchronises, Meets as MeetsAll, Synchronisation, Fences}
+use Rattle.call_rules.specs.Actions.{Posts as PostsTo, Starts as StartsTo, Completes as CompletesOne, Waits as WaitsFor}
+use Rattle.call_rules.specs.Actions.{Locks as LocksWith, Unlocks as UnlocksOf, Flushes, Syncs, action_of}
+use Rattle.call_rules.specs.Actions.{synchronisation_in, synchronisation_of}
 use Rattle.call_rules.specs.Ranks.{members_of}
-use Rattle.board_rules.specs.Entries.{Act, Collective, Creation as CreationOf, Freeing as FreeingOf, Fence as FenceOf, Barrier as BarrierOf, collective_in, collective_of, is_arrive, is_collective, is_same_collective, synchronisations}
+use Rattle.board_rules.specs.Entries.{Act, Collective, Creation as CreationOf, Freeing as FreeingOf, Fence as FenceOf}
+use Rattle.board_rules.specs.Entries.{Barrier as BarrierOf, collective_in, collective_of, is_arrive, is_collective}
+use Rattle.board_rules.specs.Entries.{is_same_collective, synchronisations}
 use Rattle.board_rules.specs.Locks.{held_after, held_after_entry, held_locks}
 use Rattle.board_rules.specs.Posts.{group_of_start}
 use Rattle.entry_gains.specs.Deeds.{IsDeed, IsSynchronisationDeed}
 use Rattle.entry_gains.specs.Given.{meeting_of}
-use Rattle.entry_gains.specs.Ledgers.{Adds, AddsComplete, AddsLocks, AddsMeeting, HasTables, IsSide, Stays, round_key, side_key}
+use Rattle.entry_gains.specs.Ledgers.{Adds, AddsComplete, AddsLocks, AddsMeeting, HasTables, IsSide, Stays, round_key}
+use Rattle.entry_gains.specs.Ledgers.{side_key}
 use Rattle.entry_gains.specs.Tables.{side_at}
 use Rattle.entry_gains.specs.declared.deeds.Deed.{Deed}
 use Rattle.entry_gains.specs.declared.ledger.Ledger.{Ledger}
 use Rattle.entry_gains.proofs.DeedKinds.{locks_case, posts_case, starts_case, unlocks_case}
 use Rattle.entry_gains.proofs.LockSteps.{locks_kept, locks_set, unlocks_set}
 use Rattle.entry_gains.proofs.SideSteps.{complete_side, post_side, start_side}
-use Rattle.entry_gains.proofs.TableSteps.{IsQuiet, brought, few_made, sides_kept, sides_set, starts_brought, starts_kept, starts_set}
+use Rattle.entry_gains.proofs.TableSteps.{IsQuiet, brought, few_made, sides_kept, sides_set, starts_brought}
+use Rattle.entry_gains.proofs.TableSteps.{starts_kept, starts_set}
 use Rattle.entry_gains.proofs.RoundSteps.{rounds_kept, rounds_set}
 
 -- an entry that is no arrival

@@ -1,5 +1,6 @@
 -- The slots of an entry, by the tables, are those that the definitions name.
-use Rattle.std.proofs.Common.{◌≡◌, ℕ, ◌+◌, ◌-◌, ◌<◌, ◌≤◌, ◌==◌, Bool, true, false, not, ◌&&◌, cond, List, [], length, refl, ap, sym, ◌∙◌, arith, ⊎_elim, Option, Some, None, ℤ}
+use Rattle.std.proofs.Common.{◌≡◌, ℕ, ◌+◌, ◌-◌, ◌<◌, ◌≤◌, ◌==◌, Bool, true, false, not, ◌&&◌, cond, List, [], length}
+use Rattle.std.proofs.Common.{refl, ap, sym, ◌∙◌, arith, ⊎_elim, Option, Some, None, ℤ}
 use Rattle.std.proofs.lemmas.Bool.{cases_lt, le-ltb, lt-ltb}
 use Rattle.std.proofs.lemmas.List.{length-map}
 use Rattle.std.proofs.lemmas.List.Sums.{count_by-le-length, length-filter}
@@ -10,17 +11,24 @@ use Rattle.rma_types.specs.declared.accesses.Step.{Step}
 use Rattle.rma_types.specs.declared.accesses.Step.TheVariants.{Arrive, Leave, One}
 use Rattle.rma_types.specs.declared.calls.Lock.{Lock}
 use Rattle.rma_types.specs.declared.calls.Lock.TheVariants.{Shared, Exclusive}
-use Rattle.call_rules.specs.Actions.{Action, Creates, Frees, Synchronises, Meets as MeetsAll, Synchronisation, Fences, Posts as PostsTo, Starts as StartsTo, Completes as CompletesOne, Waits as WaitsFor, Locks as LocksWith, Unlocks as UnlocksOf, Flushes, Syncs, action_of, synchronisation_in, synchronisation_of}
+use Rattle.call_rules.specs.Actions.{Action, Creates, Frees, Synchronises, Meets as MeetsAll, Synchronisation, Fences}
+use Rattle.call_rules.specs.Actions.{Posts as PostsTo, Starts as StartsTo, Completes as CompletesOne, Waits as WaitsFor}
+use Rattle.call_rules.specs.Actions.{Locks as LocksWith, Unlocks as UnlocksOf, Flushes, Syncs, action_of}
+use Rattle.call_rules.specs.Actions.{synchronisation_in, synchronisation_of}
 use Rattle.call_rules.specs.Ranks.{is_member, members_of}
 use Rattle.rank_rules.specs.EpochTests.{is_wrong_rank}
-use Rattle.board_rules.specs.Entries.{Act, Collective, Creation as CreationOf, Freeing as FreeingOf, Fence as FenceOf, Barrier as BarrierOf, arrivals, collective_in, collective_of, is_arrive, is_by_on, is_collective}
+use Rattle.board_rules.specs.Entries.{Act, Collective, Creation as CreationOf, Freeing as FreeingOf, Fence as FenceOf}
+use Rattle.board_rules.specs.Entries.{Barrier as BarrierOf, arrivals, collective_in, collective_of, is_arrive, is_by_on}
+use Rattle.board_rules.specs.Entries.{is_collective}
 use Rattle.board_rules.specs.Locks.{is_exclusive}
 use Rattle.board_rules.specs.Posts.{completed, completes, last_posted, naming, posts, starts}
 use Rattle.board_rules.specs.Questions.{Question}
 use Rattle.board_rules.specs.Rounds.{rounds_begun}
 use Rattle.entry_gains.specs.Deeds.{IsDeed, IsReach, IsSynchronisationDeed}
-use Rattle.entry_gains.specs.Given.{given_slot, group_ended, is_reached, kind_held, meeting_of, reached_slot, read_slot, slot_arrived, slot_asked, slot_given, slot_left, slot_read, slot_synchronised}
-use Rattle.entry_gains.specs.Ledgers.{HasTables, deed_arrived, deed_given, deed_left, deed_read, kind_reached, round_key, side_key, start_key, step_given, step_read}
+use Rattle.entry_gains.specs.Given.{given_slot, group_ended, is_reached, kind_held, meeting_of, reached_slot, read_slot}
+use Rattle.entry_gains.specs.Given.{slot_arrived, slot_asked, slot_given, slot_left, slot_read, slot_synchronised}
+use Rattle.entry_gains.specs.Ledgers.{HasTables, deed_arrived, deed_given, deed_left, deed_read, kind_reached}
+use Rattle.entry_gains.specs.Ledgers.{round_key, side_key, start_key, step_given, step_read}
 use Rattle.entry_gains.specs.Plans.{slot_if, unlock_slot_of}
 use Rattle.entry_gains.specs.Tables.{begun_at, counted, held_at, is_within, lock_key, ordinals_at, side_at}
 use Rattle.entry_gains.specs.declared.deeds.Deed.{Deed}

@@ -1,5 +1,6 @@
 -- What one lock and one unlock more do to the kinds that are held.
-use Rattle.std.proofs.Common.{◌≡◌, ℕ, ◌<◌, ◌≤◌, ◌==◌, Bool, true, false, not, ◌&&◌, ◌||◌, cond, List, [], ◌∷◌, ◌++◌, refl, ap, sym, ◌∙◌, arith, Option, Some, None, ℤ}
+use Rattle.std.proofs.Common.{◌≡◌, ℕ, ◌<◌, ◌≤◌, ◌==◌, Bool, true, false, not, ◌&&◌, ◌||◌, cond, List, [], ◌∷◌, ◌++◌}
+use Rattle.std.proofs.Common.{refl, ap, sym, ◌∙◌, arith, Option, Some, None, ℤ}
 use Rattle.std.proofs.lemmas.Bool.{true≢false, eqb-true, eq-eqb, lt-ltb}
 use Rattle.std.proofs.lemmas.Grind.{fold-append}
 use Rattle.std.proofs.lemmas.List.Folds.{list_any-append}
@@ -10,7 +11,8 @@ use Rattle.rma_types.specs.declared.calls.Lock.{Lock}
 use Rattle.rma_types.specs.declared.calls.Lock.TheVariants.{Shared, Exclusive}
 use Rattle.call_rules.specs.Actions.{Locks as LocksWith, Unlocks as UnlocksOf, synchronisation_of}
 use Rattle.board_rules.specs.Entries.{Act}
-use Rattle.board_rules.specs.Locks.{Held, held_after, held_after_entry, held_locks, is_exclusive, is_given_back, locks_at, targets_of}
+use Rattle.board_rules.specs.Locks.{Held, held_after, held_after_entry, held_locks, is_exclusive, is_given_back}
+use Rattle.board_rules.specs.Locks.{locks_at, targets_of}
 use Rattle.entry_gains.specs.Deeds.{IsReach}
 use Rattle.entry_gains.specs.Given.{held_kind, is_held_at, is_reached}
 use Rattle.entry_gains.specs.Ledgers.{HasSameLocks, side_key}

@@ -1,20 +1,26 @@
 -- An edge leads from one entry to another exactly where the later one gains from a slot that the earlier one fills.
-use Rattle.std.proofs.Common.{◌≡◌, ℕ, ◌+◌, ◌<◌, ◌==◌, Bool, true, false, ◌&&◌, ◌||◌, refl, ap, sym, ◌∙◌, arith, Option, Some, None}
+use Rattle.std.proofs.Common.{◌≡◌, ℕ, ◌+◌, ◌<◌, ◌==◌, Bool, true, false, ◌&&◌, ◌||◌, refl, ap, sym, ◌∙◌, arith, Option}
+use Rattle.std.proofs.Common.{Some, None}
 use Rattle.std.proofs.lemmas.Bool.{true≢false, eqb-true, eq-eqb}
 use Rattle.std.specs.Option.{option_map_or}
 use Rattle.std.specs.Prelude.{nat_lt}
 use Rattle.rma_types.specs.declared.accesses.Step.{Step}
 use Rattle.rma_types.specs.declared.accesses.Step.TheVariants.{Arrive, Leave, One}
-use Rattle.call_rules.specs.Actions.{Synchronisation, Posts as PostsTo, Starts, Completes, Waits, Locks, Unlocks, synchronisation_of}
+use Rattle.call_rules.specs.Actions.{Synchronisation, Posts as PostsTo, Starts, Completes, Waits, Locks, Unlocks}
+use Rattle.call_rules.specs.Actions.{synchronisation_of}
 use Rattle.rank_rules.specs.EpochTests.{names_wrong_rank}
-use Rattle.board_rules.specs.Edges.{Event, are_of_one_round, are_on_one_window, is_arrive_to_leave, is_edge, is_edge_by, is_matched_one}
-use Rattle.board_rules.specs.Entries.{Collective, Creation, Freeing, Fence, Barrier, collective_of, is_collective, is_same_collective}
+use Rattle.board_rules.specs.Edges.{Event, are_of_one_round, are_on_one_window, is_arrive_to_leave, is_edge, is_edge_by}
+use Rattle.board_rules.specs.Edges.{is_matched_one}
+use Rattle.board_rules.specs.Entries.{Collective, Creation, Freeing, Fence, Barrier, collective_of, is_collective}
+use Rattle.board_rules.specs.Entries.{is_same_collective}
 use Rattle.board_rules.specs.Questions.{Question}
 use Rattle.board_rules.specs.Rounds.{rounds_begun}
-use Rattle.entry_gains.specs.Given.{do_meet, fills, given_slot, is_filled_by, is_slot, meeting_of, read_slot, slot_arrived, slot_asked, slot_given, slot_left, slot_read, slot_synchronised}
+use Rattle.entry_gains.specs.Given.{do_meet, fills, given_slot, is_filled_by, is_slot, meeting_of, read_slot}
+use Rattle.entry_gains.specs.Given.{slot_arrived, slot_asked, slot_given, slot_left, slot_read, slot_synchronised}
 use Rattle.entry_gains.specs.declared.slots.Slot.{Slot}
 use Rattle.entry_gains.specs.declared.slots.Slot.TheVariants.{Round, Post, Complete, Unlock}
-use Rattle.entry_gains.proofs.SlotLaws.{and_both, and_left, and_right, any_number, if_holds, is_slot_of, is_slot_to, number_case, or_first, same_truth}
+use Rattle.entry_gains.proofs.SlotLaws.{and_both, and_left, and_right, any_number, if_holds, is_slot_of, is_slot_to}
+use Rattle.entry_gains.proofs.SlotLaws.{number_case, or_first, same_truth}
 use Rattle.entry_gains.proofs.SlotPairs.{Pair, or_none, MayMeet, pair_of}
 use Rattle.entry_gains.proofs.PairEdges.{unlock_case, Edge, edge_of}
 

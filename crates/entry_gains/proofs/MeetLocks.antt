@@ -1,12 +1,14 @@
 -- The locks that an unlock gives back, by their slots.
-use Rattle.std.proofs.Common.{◌≡◌, cond, ℕ, ◌<◌, ◌==◌, Bool, true, false, not, ◌&&◌, ◌||◌, List, [], ◌∷◌, map, refl, ap, sym, ◌∙◌, arith, Option, Some, None, ℤ}
+use Rattle.std.proofs.Common.{◌≡◌, cond, ℕ, ◌<◌, ◌==◌, Bool, true, false, not, ◌&&◌, ◌||◌, List, [], ◌∷◌, map, refl, ap}
+use Rattle.std.proofs.Common.{sym, ◌∙◌, arith, Option, Some, None, ℤ}
 use Rattle.std.proofs.lemmas.Bool.{true≢false, eqb-true, eq-eqb, lt-ltb, ltb-true}
 use Rattle.std.specs.List.{filter, list_any}
 use Rattle.rma_types.specs.declared.calls.Lock.{Lock}
 use Rattle.rma_types.specs.declared.calls.Lock.TheVariants.{Shared, Exclusive}
 use Rattle.call_rules.specs.Ranks.{natural}
 use Rattle.board_rules.specs.Edges.{locks_given_back}
-use Rattle.board_rules.specs.Locks.{Held, do_clash, held_here, held_locks, is_exclusive, is_given_back, locks_asked, targets_of}
+use Rattle.board_rules.specs.Locks.{Held, do_clash, held_here, held_locks, is_exclusive, is_given_back, locks_asked}
+use Rattle.board_rules.specs.Locks.{targets_of}
 use Rattle.board_rules.specs.Questions.{Question}
 use Rattle.entry_gains.specs.Given.{held_kind, is_held_at, is_reached}
 use Rattle.entry_gains.specs.Plans.{unlock_slot_of}

@@ -1,5 +1,6 @@
 -- One slot more of a plan.
-use Rattle.std.proofs.Common.{◌≡◌, ℕ, zero, suc, ◌+◌, Bool, true, false, ◌||◌, cond, refl, ap, sym, ◌∙◌, arith, Option, Some, None}
+use Rattle.std.proofs.Common.{◌≡◌, ℕ, zero, suc, ◌+◌, Bool, true, false, ◌||◌, cond, refl, ap, sym, ◌∙◌, arith, Option}
+use Rattle.std.proofs.Common.{Some, None}
 use Rattle.std.specs.List.{fold, list_any}
 use Rattle.call_rules.specs.Pieces.{numbers_from}
 use Rattle.kept_rows.specs.Gifts.{Front}

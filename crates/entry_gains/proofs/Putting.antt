@@ -1,5 +1,6 @@
 -- What is kept after one entry more, and that a next entry gains what it should.
-use Rattle.std.proofs.Common.{◌≡◌, ℕ, zero, suc, ◌+◌, ◌<◌, ◌≤◌, Bool, false, cond, List, [], ◌∷◌, ◌++◌, length, refl, ap, sym, subst, ◌∙◌, arith, append-nil, append_assoc, Option, Some, None}
+use Rattle.std.proofs.Common.{◌≡◌, ℕ, zero, suc, ◌+◌, ◌<◌, ◌≤◌, Bool, false, cond, List, [], ◌∷◌, ◌++◌, length, refl}
+use Rattle.std.proofs.Common.{ap, sym, subst, ◌∙◌, arith, append-nil, append_assoc, Option, Some, None}
 use Rattle.std.proofs.lemmas.List.{length-append, length-map}
 use Rattle.std.specs.List.{AllByRecursion, fold, list_any}
 use Rattle.std.specs.Option.{option_map, option_map_or}
@@ -20,7 +21,8 @@ use Rattle.entry_gains.specs.Tables.{lock_key}
 use Rattle.std.specs.Map.{lookup}
 use Rattle.std.specs.Prelude.{slice_index}
 use Rattle.entry_gains.specs.Kept.{filled_with, gained_at, gained_from, has_slot_below, kept_at}
-use Rattle.entry_gains.specs.Ledgers.{Adds, HasTables, IsSide, Stays, round_key, side_key, start_key, step_given, step_read}
+use Rattle.entry_gains.specs.Ledgers.{Adds, HasTables, IsSide, Stays, round_key, side_key, start_key, step_given}
+use Rattle.entry_gains.specs.Ledgers.{step_read}
 use Rattle.entry_gains.specs.Plans.{plan_slot}
 use Rattle.entry_gains.specs.Slots.{front_at, joined, slot_eq}
 use Rattle.entry_gains.specs.declared.deeds.Deed.{Deed}

@@ -1,12 +1,14 @@
 -- What one entry more does to the table of rounds.
-use Rattle.std.proofs.Common.{◌≡◌, ℕ, ◌+◌, ◌<◌, ◌≤◌, ◌==◌, Bool, true, false, ◌&&◌, cond, List, [], ◌∷◌, ◌++◌, length, map, refl, ap, sym, ◌∙◌, arith, Some}
+use Rattle.std.proofs.Common.{◌≡◌, ℕ, ◌+◌, ◌<◌, ◌≤◌, ◌==◌, Bool, true, false, ◌&&◌, cond, List, [], ◌∷◌, ◌++◌, length}
+use Rattle.std.proofs.Common.{map, refl, ap, sym, ◌∙◌, arith, Some}
 use Rattle.std.proofs.lemmas.Bool.{eqb-true}
 use Rattle.std.proofs.lemmas.List.{length-append, map-append}
 use Rattle.std.proofs.lemmas.List.Elements.{filter-append}
 use Rattle.std.specs.List.{filter}
 use Rattle.std.specs.Option.{option_map_or}
 use Rattle.std.proofs.Math.Dec.{eqb}
-use Rattle.board_rules.specs.Entries.{Act, Collective, Creation, Freeing, Fence, Barrier, arrivals, collective_of, is_arrive, is_by_on, is_collective, is_same_collective}
+use Rattle.board_rules.specs.Entries.{Act, Collective, Creation, Freeing, Fence, Barrier, arrivals, collective_of}
+use Rattle.board_rules.specs.Entries.{is_arrive, is_by_on, is_collective, is_same_collective}
 use Rattle.entry_gains.specs.Given.{meeting_of}
 use Rattle.entry_gains.specs.Ledgers.{HasSameRounds, round_key}
 use Rattle.entry_gains.specs.Slots.{meeting_eq}

@@ -1,5 +1,6 @@
 -- Of two synchronisations with an edge the first fills a slot from which the second gains.
-use Rattle.std.proofs.Common.{◌≡◌, cond, ℕ, ◌+◌, ◌-◌, ◌<◌, ◌≤◌, ◌==◌, Bool, true, false, not, ◌&&◌, ◌||◌, List, [], ◌∷◌, refl, ap, sym, ◌∙◌, arith, Option, Some, None, ℤ, pos, negsuc}
+use Rattle.std.proofs.Common.{◌≡◌, cond, ℕ, ◌+◌, ◌-◌, ◌<◌, ◌≤◌, ◌==◌, Bool, true, false, not, ◌&&◌, ◌||◌, List, [], ◌∷◌}
+use Rattle.std.proofs.Common.{refl, ap, sym, ◌∙◌, arith, Option, Some, None, ℤ, pos, negsuc}
 use Rattle.std.proofs.lemmas.Bool.{true≢false, eqb-true, eq-eqb, le-ltb, lt-ltb, ltb-true}
 use Rattle.std.specs.List.{list_any}
 use Rattle.std.specs.Prelude.{nat_lt}
@@ -9,7 +10,8 @@ use Rattle.rma_types.specs.declared.calls.Lock.TheVariants.{Shared, Exclusive}
 use Rattle.call_rules.specs.Actions.{Synchronisation, Posts as PostsTo, Starts, Completes, Waits, Locks, Unlocks}
 use Rattle.call_rules.specs.Ranks.{is_member, members_of, natural}
 use Rattle.rank_rules.specs.EpochTests.{is_wrong_rank, names_wrong_rank}
-use Rattle.board_rules.specs.Edges.{Event, are_on_one_window, group_completed, is_edge_by, is_locked_after, is_started_by, is_waited_for_by}
+use Rattle.board_rules.specs.Edges.{Event, are_on_one_window, group_completed, is_edge_by, is_locked_after}
+use Rattle.board_rules.specs.Edges.{is_started_by, is_waited_for_by}
 use Rattle.board_rules.specs.Locks.{Held, do_clash, excludes, held_locks, is_exclusive, is_given_back, targets_of}
 use Rattle.board_rules.specs.Posts.{completed, last_posted, naming, posts, starts}
 use Rattle.board_rules.specs.Questions.{Question}

@@ -1,12 +1,16 @@
 -- What a call does to the tables, by what it is: MPI 3.1, section 11.5.
 use Rattle.std.specs.Prelude.{◌≡◌, ℕ, ◌<◌, Bool, false, List, Option, ℤ, slice_index_or}
 use Rattle.rma_types.specs.declared.calls.Lock.{Lock}
-use Rattle.call_rules.specs.Actions.{Action, Creates, Frees, Attaches, Detaches, Synchronises, Meets as MeetsAll, Moves, EndsRequest, Synchronisation, Fences, Posts as PostsTo, Starts as StartsTo, Completes as CompletesOne, Waits as WaitsFor, Locks as LocksWith, Unlocks as UnlocksOf, Flushes, Syncs}
+use Rattle.call_rules.specs.Actions.{Action, Creates, Frees, Attaches, Detaches, Synchronises, Meets as MeetsAll, Moves}
+use Rattle.call_rules.specs.Actions.{EndsRequest, Synchronisation, Fences, Posts as PostsTo, Starts as StartsTo}
+use Rattle.call_rules.specs.Actions.{Completes as CompletesOne, Waits as WaitsFor, Locks as LocksWith}
+use Rattle.call_rules.specs.Actions.{Unlocks as UnlocksOf, Flushes, Syncs}
 use Rattle.call_rules.specs.Ranks.{is_member, members_of}
 use Rattle.entry_gains.specs.Given.{is_reached}
 use Rattle.entry_gains.specs.Tables.{is_within}
 use Rattle.entry_gains.specs.declared.deeds.Deed.{Deed}
-use Rattle.entry_gains.specs.declared.deeds.Deed.TheVariants.{Nothing, Meets, Posts, Starts, Completes, Waits, Locks, Unlocks}
+use Rattle.entry_gains.specs.declared.deeds.Deed.TheVariants.{Nothing, Meets, Posts, Starts, Completes, Waits, Locks}
+use Rattle.entry_gains.specs.declared.deeds.Deed.TheVariants.{Unlocks}
 use Rattle.entry_gains.specs.declared.deeds.Reach.{Reach}
 use Rattle.entry_gains.specs.declared.slots.Meeting.TheVariants.{Creation, Freeing, Fence, Barrier}
 

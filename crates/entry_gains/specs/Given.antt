@@ -1,17 +1,20 @@
 -- The slots that an entry fills with its gift, and those from which a next entry gains: MPI 3.1, section 11.7, in this
 -- project's
 -- profile of order.
-use Rattle.std.specs.Prelude.{ℕ, ◌+◌, ◌-◌, Bool, true, false, ◌&&◌, ◌==◌, not, nat_lt, if◌then◌else◌, List, Option, Some, None, ℤ}
+use Rattle.std.specs.Prelude.{ℕ, ◌+◌, ◌-◌, Bool, true, false, ◌&&◌, ◌==◌, not, nat_lt, if◌then◌else◌, List, Option}
+use Rattle.std.specs.Prelude.{Some, None, ℤ}
 use Rattle.std.specs.List.{list_any}
 use Rattle.rma_types.specs.declared.accesses.Step.{Step}
 use Rattle.rma_types.specs.declared.accesses.Step.TheVariants.{Arrive, Leave, One}
 use Rattle.rma_types.specs.declared.calls.Lock.{Lock}
 use Rattle.rma_types.specs.declared.calls.Lock.TheVariants.{Shared, Exclusive}
-use Rattle.call_rules.specs.Actions.{Synchronisation, Fences, Posts as PostsTo, Starts, Completes, Waits, Locks, Unlocks, Flushes, Syncs, synchronisation_of}
+use Rattle.call_rules.specs.Actions.{Synchronisation, Fences, Posts as PostsTo, Starts, Completes, Waits, Locks}
+use Rattle.call_rules.specs.Actions.{Unlocks, Flushes, Syncs, synchronisation_of}
 use Rattle.call_rules.specs.Pieces.{numbers_from}
 use Rattle.call_rules.specs.Ranks.{is_member, members_of, natural}
 use Rattle.board_rules.specs.Edges.{Event}
-use Rattle.board_rules.specs.Entries.{Collective, Creation as CreationOf, Freeing as FreeingOf, Fence as FenceOf, Barrier as BarrierOf, collective_of}
+use Rattle.board_rules.specs.Entries.{Collective, Creation as CreationOf, Freeing as FreeingOf, Fence as FenceOf}
+use Rattle.board_rules.specs.Entries.{Barrier as BarrierOf, collective_of}
 use Rattle.board_rules.specs.Locks.{Held, held_locks, is_exclusive}
 use Rattle.board_rules.specs.Posts.{completed, completes, last_posted, naming, posts, starts}
 use Rattle.board_rules.specs.Questions.{Question}

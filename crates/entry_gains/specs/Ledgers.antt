@@ -1,5 +1,6 @@
 -- What the tables of all ranks say of the entries: MPI 3.1, section 11.5, in this project's profile.
-use Rattle.std.specs.Prelude.{◌≡◌, ℕ, ◌+◌, ◌-◌, ◌<◌, ◌≤◌, Bool, true, false, cond, ◌&&◌, ◌==◌, nat_lt, if◌then◌else◌, List, [], length, take, reverse, Option, Some, None, slice_index, slice_index_or}
+use Rattle.std.specs.Prelude.{◌≡◌, ℕ, ◌+◌, ◌-◌, ◌<◌, ◌≤◌, Bool, true, false, cond, ◌&&◌, ◌==◌, nat_lt, if◌then◌else◌}
+use Rattle.std.specs.Prelude.{List, [], length, take, reverse, Option, Some, None, slice_index, slice_index_or}
 use Rattle.std.specs.HashMap.{spare}
 use Rattle.std.specs.List.{count_by, flat_map}
 use Rattle.rma_types.specs.declared.accesses.Step.{Step}
@@ -12,9 +13,11 @@ use Rattle.board_rules.specs.Locks.{held_locks, is_exclusive}
 use Rattle.board_rules.specs.Posts.{group_of_post, group_of_start, is_complete, naming}
 use Rattle.entry_gains.specs.Given.{held_kind, meeting_of}
 use Rattle.entry_gains.specs.Plans.{slot_if, unlock_slot_of}
-use Rattle.entry_gains.specs.Tables.{ArePut, IsRaised, begun_at, counted, held_at, is_reached_below, is_within, lock_key, ordinals_at, round_eq, side_at, side_eq, start_eq, stronger}
+use Rattle.entry_gains.specs.Tables.{ArePut, IsRaised, begun_at, counted, held_at, is_reached_below, is_within}
+use Rattle.entry_gains.specs.Tables.{lock_key, ordinals_at, round_eq, side_at, side_eq, start_eq, stronger}
 use Rattle.entry_gains.specs.declared.deeds.Deed.{Deed}
-use Rattle.entry_gains.specs.declared.deeds.Deed.TheVariants.{Nothing, Meets, Posts, Starts, Completes, Waits, Locks, Unlocks}
+use Rattle.entry_gains.specs.declared.deeds.Deed.TheVariants.{Nothing, Meets, Posts, Starts, Completes, Waits, Locks}
+use Rattle.entry_gains.specs.declared.deeds.Deed.TheVariants.{Unlocks}
 use Rattle.entry_gains.specs.declared.deeds.Reach.{Reach}
 use Rattle.entry_gains.specs.declared.ledger.Ledger.{Ledger}
 use Rattle.entry_gains.specs.declared.slots.Meeting.{Meeting}

@@ -1,9 +1,11 @@
 -- The slots of a plan, by their indices.
-use Rattle.std.specs.Prelude.{ℕ, ◌-◌, Bool, true, false, ◌&&◌, not, ◌||◌, ◌==◌, nat_le, nat_lt, if◌then◌else◌, Option, Some, None, slice_index, slice_index_or}
+use Rattle.std.specs.Prelude.{ℕ, ◌-◌, Bool, true, false, ◌&&◌, not, ◌||◌, ◌==◌, nat_le, nat_lt, if◌then◌else◌, Option}
+use Rattle.std.specs.Prelude.{Some, None, slice_index, slice_index_or}
 use Rattle.rma_types.specs.declared.calls.Lock.{Lock}
 use Rattle.board_rules.specs.Locks.{is_exclusive}
 use Rattle.entry_gains.specs.declared.plans.Plan.{Plan}
-use Rattle.entry_gains.specs.declared.plans.Plan.TheVariants.{Nothing, One, Posts, Starts, Completes, Waits, Unlocks, Locks}
+use Rattle.entry_gains.specs.declared.plans.Plan.TheVariants.{Nothing, One, Posts, Starts, Completes, Waits, Unlocks}
+use Rattle.entry_gains.specs.declared.plans.Plan.TheVariants.{Locks}
 use Rattle.entry_gains.specs.declared.slots.Slot.{Slot}
 use Rattle.entry_gains.specs.declared.slots.Slot.TheVariants.{Post, Complete, Unlock}
 

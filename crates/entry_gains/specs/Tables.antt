@@ -1,5 +1,6 @@
 -- What the tables of ranks say: MPI 3.1, sections 11.5.2 and 11.5.3.
-use Rattle.std.specs.Prelude.{◌≡◌, ℕ, ◌+◌, ◌<◌, Bool, false, ◌&&◌, ◌==◌, nat_le, nat_lt, cond, min, List, replicate, Option, Some, None, slice_index, slice_index_or, unwrap_or}
+use Rattle.std.specs.Prelude.{◌≡◌, ℕ, ◌+◌, ◌<◌, Bool, false, ◌&&◌, ◌==◌, nat_le, nat_lt, cond, min, List, replicate}
+use Rattle.std.specs.Prelude.{Option, Some, None, slice_index, slice_index_or, unwrap_or}
 use Rattle.std.specs.HashMap.{HashMap, get}
 use Rattle.std.specs.declared.hash.BuildHasherDefault.{BuildHasherDefault}
 use Rattle.std.specs.declared.hash.FoldHasher.{FoldHasher}

@@ -21,9 +21,12 @@ pub(crate) struct Ledger {
 
 impl Ledger {
     ghost use Rattle.std.specs.Prelude.{◌≡◌, ◌<◌, ℕ, [], OnOk};
-    ghost use Rattle.entry_gains.specs.Ledgers.{Adds, AddsComplete, AddsPost, AddsStart, Arrives, HasRoom, HasTables, Stays, deed_arrived, deed_given, deed_left, deed_read, step_given, step_read};
+    ghost use Rattle.entry_gains.specs.Ledgers.{Adds, AddsComplete, AddsPost, AddsStart, Arrives, HasRoom, HasTables};
+    ghost use Rattle.entry_gains.specs.Ledgers.{Stays, deed_arrived, deed_given, deed_left, deed_read, step_given};
+    ghost use Rattle.entry_gains.specs.Ledgers.{step_read};
     ghost use Rattle.entry_gains.specs.Plans.{plan_slot};
-    ghost use Rattle.entry_gains.specs.declared.deeds.Deed.TheVariants.{Completes, Meets, Posts, Starts, Unlocks, Waits};
+    ghost use Rattle.entry_gains.specs.declared.deeds.Deed.TheVariants.{Completes, Meets, Posts, Starts, Unlocks};
+    ghost use Rattle.entry_gains.specs.declared.deeds.Deed.TheVariants.{Waits};
 
     /// No entry.
     pub(crate) fn new(alloc: Global) -> Ledger

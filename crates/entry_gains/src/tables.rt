@@ -1,7 +1,9 @@
 //! What ranks have done, in tables by window and rank.
 ghost use Rattle.std.specs.HashMap.{spare};
 ghost use Rattle.std.specs.Prelude.{◌≡◌, ◌≤◌, ◌<◌, ◌+◌, ◌&&◌, ℕ, cond, nat_le, nat_lt, slice_index_or, Some, None};
-ghost use Rattle.entry_gains.specs.Tables.{begun_at, side_at, ordinals_at, held_at, round_eq, side_eq, start_eq, lock_eq, stronger, counted, is_reached_below, is_within, lock_key, ArePut, IsRaised};
+ghost use Rattle.entry_gains.specs.Tables.{begun_at, side_at, ordinals_at, held_at, round_eq, side_eq, start_eq};
+ghost use Rattle.entry_gains.specs.Tables.{lock_eq, stronger, counted, is_reached_below, is_within, lock_key, ArePut};
+ghost use Rattle.entry_gains.specs.Tables.{IsRaised};
 ghost use Rattle.entry_gains.specs.declared.tables.RoundKey.{RoundKey};
 ghost use Rattle.entry_gains.specs.declared.tables.SideKey.{SideKey};
 ghost use Rattle.entry_gains.specs.declared.tables.StartKey.{StartKey};

@@ -1,17 +1,21 @@
 -- Kept calls and entries: what definitions see of them is what they see of the calls themselves.
-use Rattle.std.proofs.Common.{◌≡◌, ℕ, ◌+◌, ◌==◌, is_some, Bool, true, false, ◌&&◌, cond, List, [], ◌∷◌, ◌++◌, map, refl, ap, sym, ◌∙◌, Option, Some, None}
+use Rattle.std.proofs.Common.{◌≡◌, ℕ, ◌+◌, ◌==◌, is_some, Bool, true, false, ◌&&◌, cond, List, [], ◌∷◌, ◌++◌, map, refl}
+use Rattle.std.proofs.Common.{ap, sym, ◌∙◌, Option, Some, None}
 use Rattle.std.specs.List.{count_by, filter, find, flat_map, fold}
 use Rattle.std.specs.Option.{option_map, option_map_or}
 use Rattle.std.proofs.lemmas.List.{map-append}
 use Rattle.rma_types.specs.declared.calls.Call.{Call}
 use Rattle.rma_types.specs.declared.calls.Call.TheVariants.{Put, Acc, GetAcc, Store}
 use Rattle.rma_types.specs.declared.scripts.Layout.{Layout}
-use Rattle.call_rules.specs.Actions.{Action, Moves, Transfer, action_of, creation_in, creation_of, synchronisation_in, synchronisation_of, window_in_action, window_named}
+use Rattle.call_rules.specs.Actions.{Action, Moves, Transfer, action_of, creation_in, creation_of, synchronisation_in}
+use Rattle.call_rules.specs.Actions.{synchronisation_of, window_in_action, window_named}
 use Rattle.call_rules.specs.Pieces.{numbers_from}
 use Rattle.rank_rules.specs.Ranges.{Range}
 use Rattle.rank_rules.specs.Windows.{no_part, window_number}
 use Rattle.board_rules.specs.AttachedRanges.{ranges_after, ranges_attached}
-use Rattle.board_rules.specs.Entries.{Row, Act, Collective, acts, acts_after, arrivals, begins_window, collective_in, collective_of, creations, is_arrive, is_by_on, is_collective, is_same_collective, names_window, round_of, synchronisations, window_of}
+use Rattle.board_rules.specs.Entries.{Row, Act, Collective, acts, acts_after, arrivals, begins_window, collective_in}
+use Rattle.board_rules.specs.Entries.{collective_of, creations, is_arrive, is_by_on, is_collective, is_same_collective}
+use Rattle.board_rules.specs.Entries.{names_window, round_of, synchronisations, window_of}
 use Rattle.board_rules.specs.Locks.{held_after, held_after_entry, held_locks}
 use Rattle.board_rules.specs.Shapes.{part_brought, part_in, part_made, parts_of}
 use Rattle.kept_rows.specs.KeptCalls.{kept_call, kept_row}

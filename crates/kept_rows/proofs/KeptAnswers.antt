@@ -1,25 +1,34 @@
 -- The board's answer after kept entries is its answer after the entries themselves.
-use Rattle.std.proofs.Common.{◌≡◌, ℕ, ◌==◌, Bool, not, List, [], ◌∷◌, length, take, reverse, refl, ap, ◌∙◌, Option, Some, None, ℤ}
+use Rattle.std.proofs.Common.{◌≡◌, ℕ, ◌==◌, Bool, not, List, [], ◌∷◌, length, take, reverse, refl, ap, ◌∙◌, Option}
+use Rattle.std.proofs.Common.{Some, None, ℤ}
 use Rattle.std.specs.List.{count_by, filter, flat_map, list_all, list_any}
 use Rattle.std.specs.Option.{option_map_or}
 use Rattle.std.specs.Prelude.{nat_le, nat_lt, slice_get, slice_index_or}
 use Rattle.rma_types.specs.declared.accesses.Step.{Step}
 use Rattle.rma_types.specs.declared.accesses.Step.TheVariants.{Arrive, Leave, One}
-use Rattle.rma_types.specs.declared.classes.Class.TheVariants.{Flavor as FlavorClass, Assert as AssertClass, Sync as SyncClass, Range as RangeClass}
-use Rattle.call_rules.specs.Actions.{Action, Creates, Synchronises, Moves, Synchronisation, Fences, Posts, Starts, Waits, Locks, Transfer, action_of}
+use Rattle.rma_types.specs.declared.classes.Class.TheVariants.{Flavor as FlavorClass, Assert as AssertClass}
+use Rattle.rma_types.specs.declared.classes.Class.TheVariants.{Sync as SyncClass, Range as RangeClass}
+use Rattle.call_rules.specs.Actions.{Action, Creates, Synchronises, Moves, Synchronisation, Fences, Posts, Starts}
+use Rattle.call_rules.specs.Actions.{Waits, Locks, Transfer, action_of}
 use Rattle.call_rules.specs.Pieces.{numbers_from}
 use Rattle.call_rules.specs.Ranks.{members_of, natural}
 use Rattle.call_rules.specs.Transfers.{rank_reached, bytes_of}
 use Rattle.rank_rules.specs.Ranges.{covers}
 use Rattle.board_rules.specs.AttachedRanges.{reaches_unattached}
-use Rattle.board_rules.specs.Board.{arrive_refusal, decide, decision, decision_by, fence_refusal, is_allowed_now, may_enter_now, may_synchronise_now, meets_post, one_refusal, refusal, refuse_if, synchronisation_refusal}
+use Rattle.board_rules.specs.Board.{arrive_refusal, decide, decision, decision_by, fence_refusal, is_allowed_now}
+use Rattle.board_rules.specs.Board.{may_enter_now, may_synchronise_now, meets_post, one_refusal, refusal, refuse_if}
+use Rattle.board_rules.specs.Board.{synchronisation_refusal}
 use Rattle.board_rules.specs.Entries.{Row, arrivals, collective_of}
 use Rattle.board_rules.specs.Locks.{Held, are_free, do_clash, held_here, is_locked, locks_asked}
-use Rattle.board_rules.specs.Posts.{completed, completes, group_of_post, group_of_start, is_complete, is_posted, is_wait, last_posted, made_by, naming, posts, start_has_posts, starts, wait_has_completes}
+use Rattle.board_rules.specs.Posts.{completed, completes, group_of_post, group_of_start, is_complete, is_posted}
+use Rattle.board_rules.specs.Posts.{is_wait, last_posted, made_by, naming, posts, start_has_posts, starts}
+use Rattle.board_rules.specs.Posts.{wait_has_completes}
 use Rattle.board_rules.specs.Questions.{Question, question}
-use Rattle.board_rules.specs.Rounds.{all_arrived, arrivals_of, is_differing_creation, is_differing_fence, round_arrivals, rounds_begun}
+use Rattle.board_rules.specs.Rounds.{all_arrived, arrivals_of, is_differing_creation, is_differing_fence}
+use Rattle.board_rules.specs.Rounds.{round_arrivals, rounds_begun}
 use Rattle.kept_rows.specs.KeptRowLaws.{kept_acts, kept_rows}
-use Rattle.kept_rows.proofs.KeptActs.{acts_kept, arrivals_kept, held_kept, ranges_kept, synchronisations_kept, window_kept}
+use Rattle.kept_rows.proofs.KeptActs.{acts_kept, arrivals_kept, held_kept, ranges_kept, synchronisations_kept}
+use Rattle.kept_rows.proofs.KeptActs.{window_kept}
 
 -- the question after kept entries
 abbrev pub after_kept : Question → Question

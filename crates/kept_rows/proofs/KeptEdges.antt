@@ -1,5 +1,6 @@
 -- Edges between kept events are those between the events themselves.
-use Rattle.std.proofs.Common.{◌≡◌, ℕ, ◌+◌, ◌==◌, Bool, false, ◌&&◌, ◌||◌, List, [], length, refl, ap, ◌∙◌, Option, Some, None, ℤ}
+use Rattle.std.proofs.Common.{◌≡◌, ℕ, ◌+◌, ◌==◌, Bool, false, ◌&&◌, ◌||◌, List, [], length, refl, ap, ◌∙◌, Option, Some}
+use Rattle.std.proofs.Common.{None, ℤ}
 use Rattle.std.specs.List.{filter, list_any}
 use Rattle.std.specs.Option.{option_map_or}
 use Rattle.std.specs.Prelude.{nat_lt, slice_index_or}
@@ -8,14 +9,18 @@ use Rattle.rma_types.specs.declared.accesses.Step.TheVariants.{Arrive, Leave, On
 use Rattle.rma_types.specs.declared.calls.Lock.{Lock}
 use Rattle.call_rules.specs.Actions.{Synchronisation, synchronisation_of}
 use Rattle.call_rules.specs.Ranks.{is_member}
-use Rattle.board_rules.specs.Edges.{Event, are_of_one_round, are_on_one_window, group_completed, is_arrive_to_leave, is_edge, is_edge_by, is_locked_after, is_matched_one, is_started_by, is_waited_for_by}
+use Rattle.board_rules.specs.Edges.{Event, are_of_one_round, are_on_one_window, group_completed, is_arrive_to_leave}
+use Rattle.board_rules.specs.Edges.{is_edge, is_edge_by, is_locked_after, is_matched_one, is_started_by}
+use Rattle.board_rules.specs.Edges.{is_waited_for_by}
 use Rattle.board_rules.specs.Entries.{arrivals, collective_of, is_collective, is_same_collective}
 use Rattle.board_rules.specs.Locks.{do_clash, is_given_back, lock_of, locks_asked, unlock_of}
-use Rattle.board_rules.specs.Posts.{completed, completes, group_of_post, group_of_start, is_complete, is_wait, last_posted, naming, posts, starts}
+use Rattle.board_rules.specs.Posts.{completed, completes, group_of_post, group_of_start, is_complete, is_wait}
+use Rattle.board_rules.specs.Posts.{last_posted, naming, posts, starts}
 use Rattle.board_rules.specs.Rounds.{rounds_begun}
 use Rattle.kept_rows.specs.KeptRowLaws.{kept_acts, kept_event}
 use Rattle.kept_rows.proofs.KeptActs.{collective_kept, synchronisation_kept}
-use Rattle.kept_rows.proofs.KeptAnswers.{any_same, arrived_kept, completed_kept, completes_kept, here_kept, last_kept, posts_kept, starts_kept}
+use Rattle.kept_rows.proofs.KeptAnswers.{any_same, arrived_kept, completed_kept, completes_kept, here_kept, last_kept}
+use Rattle.kept_rows.proofs.KeptAnswers.{posts_kept, starts_kept}
 
 -- ---- rounds
 

@@ -1,4 +1,5 @@
--- The entries of the board with what their ranks gave with them, and what a next entry gains: MPI 3.1, section 11.7, in this
+-- The entries of the board with what their ranks gave with them, and what a next entry gains: MPI 3.1, section 11.7, in
+-- this
 -- project's profile of order.
 use Rattle.std.specs.Prelude.{ℕ, List, [], ◌∷◌, length, map, Option, Some, None, if◌then◌else◌}
 use Rattle.std.specs.List.{flat_map, fold, zip}
@@ -34,7 +35,8 @@ gifts_to ranks entries row =
     let rows = rows_given entries in
     flat_map (gift_to (next_event ranks rows row)) (zip (events_of ranks rows) entries)
 
--- what tokens with these fronts carry together: for each cell the greatest of their places; none where there is no token
+-- what tokens with these fronts carry together: for each cell the greatest of their places; none where there is no
+-- token
 abbrev pub gained_of : List Front → Option Front
 gained_of [] = None
 gained_of (front ∷ fronts) = Some (fold greater_front front fronts)

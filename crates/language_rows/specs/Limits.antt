@@ -49,7 +49,8 @@ sixteen = copies 16 (codes " 1")
 -- a group has at most 16 ranks, as it is written
 abbrev pub LimitsOfGroups : Type 0
 LimitsOfGroups =
-    Say (codes "ranks 2" ∷ codes "rank 0" ∷ (codes "post w31" ++ sixteen) ∷ []) (script ((Post 31 (replicate 16 (pos 1)) no_asserts ∷ []) ∷ [] ∷ []))
+    Say (codes "ranks 2" ∷ codes "rank 0" ∷ (codes "post w31" ++ sixteen) ∷ [])
+    (script ((Post 31 (replicate 16 (pos 1)) no_asserts ∷ []) ∷ [] ∷ []))
     × Fail (
     call_fails (codes "post w0" ++ sixteen ++ codes " 1") Limit
     ∷ call_fails (codes "start w0" ++ sixteen ++ codes " 1x nocheck") Limit
@@ -62,17 +63,22 @@ many_values = copies 256 (codes " 0")
 -- a call has at most 256 values
 abbrev pub LimitsOfValues : Type 0
 LimitsOfValues =
-    Say (codes "ranks 1" ∷ codes "rank 0" ∷ (codes "put w0 0 0 int8" ++ many_values) ∷ []) (script ((Put None 0 (Some (pos 0)) (pos 0) Int8 (replicate 256 0) ∷ []) ∷ []))
-    × Fail (call_fails (codes "put w0 0 0 int8" ++ many_values ++ codes " 0") Limit ∷ call_fails (codes "store w0 0 byte" ++ many_values ++ codes " x") Limit ∷ [])
+    Say (codes "ranks 1" ∷ codes "rank 0" ∷ (codes "put w0 0 0 int8" ++ many_values) ∷ [])
+    (script ((Put None 0 (Some (pos 0)) (pos 0) Int8 (replicate 256 0) ∷ []) ∷ []))
+    × Fail (call_fails (codes "put w0 0 0 int8" ++ many_values ++ codes " 0") Limit
+    ∷ call_fails (codes "store w0 0 byte" ++ many_values ++ codes " x") Limit ∷ [])
 
 -- the memory of all ranks has at most 65,536 bytes, of spaces and of allocates
 abbrev pub LimitsOfMemory : Type 0
 LimitsOfMemory = Fail (
     fails (codes "ranks 2" ∷ codes "space 0 65536" ∷ codes "space 1 1" ∷ []) 3 Limit
-    ∷ fails (codes "ranks 2" ∷ codes "space 0 65535" ∷ codes "space 1 0" ∷ codes "rank 1" ∷ codes "allocate w0 0 1" ∷ codes "allocate w0 1 1" ∷ []) 6 Limit
+    ∷ fails (codes "ranks 2" ∷ codes "space 0 65535" ∷ codes "space 1 0" ∷ codes "rank 1" ∷ codes "allocate w0 0 1"
+    ∷ codes "allocate w0 1 1" ∷ []) 6 Limit
     ∷ fails (codes "ranks 2" ∷ codes "rank 0 1" ∷ codes "allocate w0 32769 1" ∷ []) 3 Limit
-    ∷ fails (codes "ranks 1" ∷ codes "rank 0" ∷ codes "repeat 2" ∷ codes "allocate w0 32768 1" ∷ codes "end" ∷ codes "allocate w0 -5 1" ∷ codes "allocate w0 1 1" ∷ []) 7 Limit
-    ∷ fails (codes "ranks 1" ∷ codes "rank 0" ∷ codes "repeat 3" ∷ codes "allocate w0 32768 1" ∷ codes "barrier" ∷ codes "end" ∷ codes "barrier" ∷ []) 6 Limit
+    ∷ fails (codes "ranks 1" ∷ codes "rank 0" ∷ codes "repeat 2" ∷ codes "allocate w0 32768 1" ∷ codes "end"
+    ∷ codes "allocate w0 -5 1" ∷ codes "allocate w0 1 1" ∷ []) 7 Limit
+    ∷ fails (codes "ranks 1" ∷ codes "rank 0" ∷ codes "repeat 3" ∷ codes "allocate w0 32768 1" ∷ codes "barrier"
+    ∷ codes "end" ∷ codes "barrier" ∷ []) 6 Limit
     ∷ [])
 
 -- the script that 65,536 calls make: a repeat counts as its calls, and its last line does not count
@@ -85,9 +91,11 @@ IsTheLongest = Say longest (script (repeated 65536 (Barrier ∷ []) ∷ []))
 -- all ranks together have at most 65,536 calls
 abbrev pub LimitsOfCalls : Type 0
 LimitsOfCalls = Fail (
-    fails (codes "ranks 1" ∷ codes "rank 0" ∷ codes "repeat 65536" ∷ codes "barrier" ∷ codes "end" ∷ codes "barrier" ∷ []) 6 Limit
+    fails (codes "ranks 1" ∷ codes "rank 0" ∷ codes "repeat 65536" ∷ codes "barrier" ∷ codes "end" ∷ codes "barrier"
+    ∷ []) 6 Limit
     ∷ fails (codes "ranks 2" ∷ codes "rank 0 1" ∷ codes "repeat 32769" ∷ codes "barrier" ∷ codes "end" ∷ []) 5 Limit
-    ∷ fails (codes "ranks 1" ∷ codes "rank 0" ∷ codes "barrier" ∷ codes "repeat 65536" ∷ codes "barrier" ∷ codes "end" ∷ codes "walk" ∷ []) 6 Limit
+    ∷ fails (codes "ranks 1" ∷ codes "rank 0" ∷ codes "barrier" ∷ codes "repeat 65536" ∷ codes "barrier" ∷ codes "end"
+    ∷ codes "walk" ∷ []) 6 Limit
     ∷ [])
 
 -- a text of more than 1,048,576 bytes is refused, whatever it says

@@ -2,7 +2,11 @@
 use Rattle.std.specs.Prelude.{ℕ, pos, negsuc, true, false, List, [], ◌∷◌, codes, Some, None}
 use Rattle.rma_types.specs.declared.calls.Asserts.{Asserts}
 use Rattle.rma_types.specs.declared.calls.Call.{Call}
-use Rattle.rma_types.specs.declared.calls.Call.TheVariants.{Allocate, Create, Dynamic, Free, Attach, Detach, Fence, Post, Start, Complete, WaitWin, TestWin, LockOne, Unlock, LockAll, UnlockAll, Flush, FlushAll, FlushLocal, FlushLocalAll, Sync, Barrier, Put, Get, Acc, GetAcc, Fop, Cas, Load, Store, WaitReq, TestReq}
+use Rattle.rma_types.specs.declared.calls.Call.TheVariants.{Allocate, Create, Dynamic, Free, Attach, Detach, Fence}
+use Rattle.rma_types.specs.declared.calls.Call.TheVariants.{Post, Start, Complete, WaitWin, TestWin, LockOne, Unlock}
+use Rattle.rma_types.specs.declared.calls.Call.TheVariants.{LockAll, UnlockAll, Flush, FlushAll, FlushLocal}
+use Rattle.rma_types.specs.declared.calls.Call.TheVariants.{FlushLocalAll, Sync, Barrier, Put, Get, Acc, GetAcc, Fop}
+use Rattle.rma_types.specs.declared.calls.Call.TheVariants.{Cas, Load, Store, WaitReq, TestReq}
 use Rattle.rma_types.specs.declared.calls.Lock.TheVariants.{Shared, Exclusive}
 use Rattle.rma_types.specs.declared.dtypes.Dtype.TheVariants.{Int8, Int16, Int32, Uint8, Uint16, Uint32, Byte}
 use Rattle.rma_types.specs.declared.ops.Op.TheVariants.{Replace, NoOp, Max, Sum, Bxor}
@@ -182,5 +186,7 @@ AssertionsAreSaid = Say
 -- a space line of no bytes says what no space line says
 abbrev pub SpacesAreSaid : Type 0
 SpacesAreSaid =
-    Say (codes "ranks 2" ∷ codes "space 1 5" ∷ codes "space 0 0" ∷ []) (record { ranks = 2; spaces = 0 ∷ 5 ∷ []; calls = [] ∷ [] ∷ [] })
-    × AreCanonical (codes "ranks 2" ∷ codes "space 1 5" ∷ []) (record { ranks = 2; spaces = 0 ∷ 5 ∷ []; calls = [] ∷ [] ∷ [] })
+    Say (codes "ranks 2" ∷ codes "space 1 5" ∷ codes "space 0 0" ∷ [])
+    (record { ranks = 2; spaces = 0 ∷ 5 ∷ []; calls = [] ∷ [] ∷ [] })
+    × AreCanonical (codes "ranks 2" ∷ codes "space 1 5" ∷ [])
+    (record { ranks = 2; spaces = 0 ∷ 5 ∷ []; calls = [] ∷ [] ∷ [] })

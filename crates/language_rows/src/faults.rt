@@ -1,5 +1,6 @@
 //! Texts with their first faults.
-ghost use Rattle.language_rows.specs.Faults.{FaultsOfWords, FaultsOfNumbers, FaultsOfNames, FaultsOfShapes, FirstFaults, FaultsAtTheEnd};
+ghost use Rattle.language_rows.specs.Faults.{FaultsOfWords, FaultsOfNumbers, FaultsOfNames, FaultsOfShapes};
+ghost use Rattle.language_rows.specs.Faults.{FirstFaults, FaultsAtTheEnd};
 
 /// Each kind of fault, in texts with one fault.
 pub fn each_kind_of_fault()

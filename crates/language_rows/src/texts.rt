@@ -1,5 +1,7 @@
 //! Texts that are read.
-ghost use Rattle.language_rows.specs.Texts.{NoCallsAreSaid, OnePutIsSaid, EachCallIsSaid, SpacesAreSaid, BlanksAreSkipped, NumbersAreSpelled, BlocksAndRepeatsAreSaid, AssertionsAreSaid};
+ghost use Rattle.language_rows.specs.Texts.{NoCallsAreSaid, OnePutIsSaid, EachCallIsSaid, SpacesAreSaid};
+ghost use Rattle.language_rows.specs.Texts.{BlanksAreSkipped, NumbersAreSpelled, BlocksAndRepeatsAreSaid};
+ghost use Rattle.language_rows.specs.Texts.{AssertionsAreSaid};
 
 /// Canonical texts, which are read again as their scripts: a script without calls, one with two ranks, one with every
 /// form of a call's line, one with spaces.

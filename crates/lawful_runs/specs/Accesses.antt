@@ -26,7 +26,8 @@ transfer_at calls number = option_map_or transfer_of (slice_get calls number) No
 -- the access that an item issues, where the item has this index in a log with these calls
 abbrev pub issued_by : List Call → ℕ → Item → Option PendingAccess
 issued_by calls index (Issue number access) = option_map_or
-    (λ (t : Transfer). Some (record { index = index; number = number; access = access; fetches = t.fetches })) (transfer_at calls number) None
+    (λ (t : Transfer). Some (record { index = index; number = number; access = access; fetches = t.fetches }))
+    (transfer_at calls number) None
 issued_by calls index item = None
 
 -- the access whose Issue stands at the index of the log
@@ -46,7 +47,8 @@ pieces_of memory calls one =
 
 -- ---- touches
 
--- a touch: its name, the index of its access's Issue in its log, its element, its cell, its place, its bits, and the change
+-- a touch: its name, the index of its access's Issue in its log, its element, its cell, its place, its bits, and the
+-- change
 -- that it makes, if it is an update
 pub record Touching : Type 0 where
   pub id : Id

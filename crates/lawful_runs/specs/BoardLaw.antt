@@ -1,5 +1,6 @@
 -- The entries and looks of a lawful run: MPI 3.1, section 11.5, in this project's profile.
-use Rattle.std.specs.Prelude.{ℕ, ◌≡◌, ◌<◌, ◌≤◌, if◌then◌else◌, nat_lt, List, [], ◌∷◌, ◌++◌, length, take, slice_get, Some, IsSomeAnd, zero, suc}
+use Rattle.std.specs.Prelude.{ℕ, ◌≡◌, ◌<◌, ◌≤◌, if◌then◌else◌, nat_lt, List, [], ◌∷◌, ◌++◌, length, take, slice_get}
+use Rattle.std.specs.Prelude.{Some, IsSomeAnd, zero, suc}
 use Rattle.std.specs.List.{count_by, flat_map, AllByRecursion}
 use Rattle.rma_types.specs.declared.calls.Call.{Call}
 use Rattle.rma_types.specs.declared.scripts.Script.{Script}
@@ -23,7 +24,8 @@ NamesCallOf script rank item = Unit {0}
 abbrev pub NamesItsCall : Script → Named → Type 0
 NamesItsCall script one = NamesCallOf script one.id.rank one.item
 
--- The entries of all logs have the places from 0 on, each once, and each names a call of its rank. So the board's rows are
+-- The entries of all logs have the places from 0 on, each once, and each names a call of its rank. So the board's rows
+-- are
 -- these entries in the order of their places.
 pub record HasEntries (script : Script) (run : Run) : Type 0 where
   pub calls : AllByRecursion (NamesItsCall script) (named_items run)
@@ -40,7 +42,8 @@ AreAllowed ranks before (row ∷ rows) = (decide ranks before row ≡ Allow) × 
 abbrev pub IsLook : ℕ → List Row → ℕ → List Call → Item → Type 0
 IsLook ranks rows rank calls (Refused number class zero) = Unit {0}
 IsLook ranks rows rank calls (Refused number class (suc before)) =
-    IsSomeAnd (slice_get calls number) (λ call. shared_class ranks (take (suc before) rows) (first_row rank number call) ≡ Some class)
+    IsSomeAnd (slice_get calls number)
+    (λ call. shared_class ranks (take (suc before) rows) (first_row rank number call) ≡ Some class)
 IsLook ranks rows rank calls (Tested number seen) =
     IsSomeAnd (slice_get calls number) (λ call. decide ranks (take seen rows) (first_row rank number call) ≡ NotYet)
 IsLook ranks rows rank calls other = Unit {0}
@@ -60,7 +63,8 @@ moment_by other = []
 abbrev pub moments_in : List Item → List Moment
 moments_in log = flat_map moment_by log
 
--- The first stands before the second in a log. Places ascend. A look sees each entry before it, no fewer than a look before
+-- The first stands before the second in a log. Places ascend. A look sees each entry before it, no fewer than a look
+-- before
 -- it, and no entry after it.
 abbrev pub IsBefore : Moment → Moment → Type 0
 IsBefore (EntryAt first) (EntryAt second) = first < second

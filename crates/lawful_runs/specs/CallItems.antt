@@ -1,6 +1,8 @@
--- The items of the calls of a rank, in their order, up to its end or to the call at which it stands: MPI 3.1, section 11.5,
+-- The items of the calls of a rank, in their order, up to its end or to the call at which it stands: MPI 3.1, section
+-- 11.5,
 -- in this project's profile.
-use Rattle.std.specs.Prelude.{ℕ, zero, suc, ◌≡◌, ◌⊎◌, Bool, true, false, not, List, [], ◌∷◌, ◌++◌, length, slice_get, Option, Some, None, IsTrue, IsSomeAnd}
+use Rattle.std.specs.Prelude.{ℕ, zero, suc, ◌≡◌, ◌⊎◌, Bool, true, false, not, List, [], ◌∷◌, ◌++◌, length, slice_get}
+use Rattle.std.specs.Prelude.{Option, Some, None, IsTrue, IsSomeAnd}
 use Rattle.std.specs.List.{filter}
 use Rattle.rma_types.specs.declared.accesses.Step.TheVariants.{Arrive, Leave, One}
 use Rattle.rma_types.specs.declared.classes.Class.{Class}
@@ -12,7 +14,8 @@ use Rattle.board_rules.specs.Entries.{Row}
 use Rattle.lawful_runs.specs.BoardLaw.{first_row}
 use Rattle.lawful_runs.specs.Items.{is_touch}
 use Rattle.lawful_runs.specs.Stages.{RankOfRun, calls_here, known_at}
-use Rattle.rank_rules.specs.Courses.{Course, OneNull, OneIssue, LookUpAndIssue, OneFlush, OneRequest, ArriveAndLeave, EntryOrTested, OneEntry, course_of, has_entry, access_of}
+use Rattle.rank_rules.specs.Courses.{Course, OneNull, OneIssue, LookUpAndIssue, OneFlush, OneRequest, ArriveAndLeave}
+use Rattle.rank_rules.specs.Courses.{EntryOrTested, OneEntry, course_of, has_entry, access_of}
 use Rattle.rank_rules.specs.Knowledge.{Knowledge, own_class}
 
 -- the items other than touches
@@ -59,7 +62,8 @@ AreItemsOf here before number items = IsSomeAnd (slice_get (calls_here here) num
 abbrev pub AreFinished : RankOfRun → ℕ → List Item → Type 0
 AreFinished here zero items = items ≡ []
 AreFinished here (suc number) items =
-    (before : List Item) × (last : List Item) × (items ≡ before ++ last) × AreFinished here number before × AreItemsOf here before number last
+    (before : List Item) × (last : List Item) × (items ≡ before ++ last) × AreFinished here number before
+    × AreItemsOf here before number last
 
 -- after all entries of the run, the rank's next entry is neither allowed nor refused
 abbrev pub IsWaiting : RankOfRun → Row → Type 0
@@ -84,8 +88,10 @@ abbrev pub StandsAt : RankOfRun → List Item → ℕ → Call → List Item →
 StandsAt here before number call rest =
     let known = known_at here before in
     (own_class known call ≡ None)
-    × (((rest ≡ []) × IsTrue (may_stand (course_of known.windows call)) × IsWaiting here (first_row here.rank number call))
-    ⊎ ((place : ℕ) × (rest ≡ Entry number place Arrive ∷ []) × (course_of known.windows call ≡ ArriveAndLeave) × IsWaiting here (leave_row here.rank number call)))
+    × (((rest ≡ []) × IsTrue (may_stand (course_of known.windows call))
+    × IsWaiting here (first_row here.rank number call))
+    ⊎ ((place : ℕ) × (rest ≡ Entry number place Arrive ∷ []) × (course_of known.windows call ≡ ArriveAndLeave)
+    × IsWaiting here (leave_row here.rank number call)))
 
 -- all calls have their items and the rank has ended, or it stands at the call of this number
 abbrev pub EndsOrStands : RankOfRun → List Item → ℕ → List Item → Type 0

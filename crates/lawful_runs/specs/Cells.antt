@@ -1,6 +1,8 @@
--- The states of a cell, and the cells of a lawful run: MPI 3.1, section 11.7.1. Each update of a cell has one place among
+-- The states of a cell, and the cells of a lawful run: MPI 3.1, section 11.7.1. Each update of a cell has one place
+-- among
 -- them, and each touch reads the state at its place.
-use Rattle.std.specs.Prelude.{ℕ, zero, suc, ◌≡◌, ◌<◌, ◌≤◌, Bool, true, false, ◌==◌, if◌then◌else◌, nat_lt, List, length, map, slice_index, Option, Some, None}
+use Rattle.std.specs.Prelude.{ℕ, zero, suc, ◌≡◌, ◌<◌, ◌≤◌, Bool, true, false, ◌==◌, if◌then◌else◌, nat_lt, List, length}
+use Rattle.std.specs.Prelude.{map, slice_index, Option, Some, None}
 use Rattle.std.specs.List.{find, count_by, AllByRecursion}
 use Rattle.std.specs.Option.{option_map_or}
 use Rattle.rma_types.specs.declared.scripts.Script.{Script}
@@ -25,7 +27,8 @@ state updates zero = 0
 state updates (suc k) = option_map_or
     (λ (update : Touching). changed (state updates k) update.change) (find (has_place k) updates) (state updates k)
 
--- one of two touches on one cell stands before the other in a log: an update's place is passed, and a read's not fallen below
+-- one of two touches on one cell stands before the other in a log: an update's place is passed, and a read's not fallen
+-- below
 abbrev pub KeepsOrder : Touching → Touching → Type 0
 KeepsOrder first second = if_update (is_update first)
   where

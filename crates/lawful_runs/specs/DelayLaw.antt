@@ -1,9 +1,11 @@
 -- When the touches of an access stand, by the delay: this project's profile.
-use Rattle.std.specs.Prelude.{ℕ, ◌+◌, Bool, true, false, not, ◌&&◌, ◌||◌, ◌==◌, nat_lt, if◌then◌else◌, List, [], ◌∷◌, length, take, drop, slice_get, Option, Some, None, IsTrue, IfSome}
+use Rattle.std.specs.Prelude.{ℕ, ◌+◌, Bool, true, false, not, ◌&&◌, ◌||◌, ◌==◌, nat_lt, if◌then◌else◌, List, [], ◌∷◌}
+use Rattle.std.specs.Prelude.{length, take, drop, slice_get, Option, Some, None, IsTrue, IfSome}
 use Rattle.std.specs.List.{filter, list_any, AllByRecursion}
 use Rattle.std.specs.Option.{option_map_or}
 use Rattle.rma_types.specs.declared.schedules.Delay.{Delay}
-use Rattle.rma_types.specs.declared.schedules.Delay.TheVariants.{None as NoDelay, End as EndDelay, Seeded as SeededDelay}
+use Rattle.rma_types.specs.declared.schedules.Delay.TheVariants.{None as NoDelay, End as EndDelay}
+use Rattle.rma_types.specs.declared.schedules.Delay.TheVariants.{Seeded as SeededDelay}
 use Rattle.rma_record.specs.declared.items.Item.{Item}
 use Rattle.rma_record.specs.declared.items.Item.TheVariants.{Touch}
 use Rattle.call_rules.specs.Pieces.{numbers_from}
@@ -36,14 +38,16 @@ leads_to pending at issue =
 -- the item at the index must wait for the pending access at a place, which is that of the Issue or gave way to it
 abbrev pub is_due_for : RankOfRun → List Item → List PendingAccess → ℕ → ℕ → ℕ → Bool
 is_due_for here log pending issue index at = option_map_or
-    (λ (one : PendingAccess). waits_at here log index one && (one.index == issue || leads_to pending at issue)) (slice_get pending at) false
+    (λ (one : PendingAccess). waits_at here log index one && (one.index == issue || leads_to pending at issue))
+    (slice_get pending at) false
 
 -- the item at the index must wait for the access of this Issue, or for one that gave way to it
 abbrev pub is_due_at : RankOfRun → List Item → List PendingAccess → ℕ → ℕ → Bool
 is_due_at here log pending issue index =
     list_any (is_due_for here log pending issue index) (numbers_from 0 (length pending))
 
--- a touch of the access of this Issue, at the index of the log, is due: no item but touches follows, or the next other one
+-- a touch of the access of this Issue, at the index of the log, is due: no item but touches follows, or the next other
+-- one
 -- must wait for it
 abbrev pub is_due : RankOfRun → List Item → ℕ → ℕ → Bool
 is_due here log index issue =
@@ -52,7 +56,8 @@ is_due here log index issue =
 -- the access of this Issue is an RMA access
 abbrev pub is_remote : RankOfRun → List Item → ℕ → Bool
 is_remote here log issue =
-    option_map_or (λ (one : PendingAccess). not (is_local one.access.kind)) (issued_at (calls_here here) log issue) false
+    option_map_or (λ (one : PendingAccess). not (is_local one.access.kind)) (issued_at (calls_here here) log issue)
+    false
 
 -- With delay end, a touch of an RMA access is made when a call must have it: no item but touches follows, and the rank
 -- stands; or Ended does; or an item of a call that waits for this access, or for one that gave way to it.

@@ -14,7 +14,8 @@ use Rattle.lawful_runs.specs.DelayLaw.{KeepsDelay}
 use Rattle.lawful_runs.specs.Items.{has_ended}
 use Rattle.lawful_runs.specs.Logs.{log_of, rows_of}
 use Rattle.lawful_runs.specs.Stages.{RankOfRun, stage_of}
-use Rattle.lawful_runs.specs.TouchLaw.{IsTouchedWhole, HasItsIssue, IsLocalDirect, KeepsIssueOrder, IsAwaitedWhole, IsLookUpFollowed, issued_in, issues_touched}
+use Rattle.lawful_runs.specs.TouchLaw.{IsTouchedWhole, HasItsIssue, IsLocalDirect, KeepsIssueOrder, IsAwaitedWhole}
+use Rattle.lawful_runs.specs.TouchLaw.{IsLookUpFollowed, issued_in, issues_touched}
 
 -- the log of a rank
 pub record IsLawfulLog (here : RankOfRun) (log : List Item) : Type 0 where

@@ -69,7 +69,8 @@ entries_of run =
 -- the board's row that an item of a rank is: that of an entry, where its call is one of the rank's
 abbrev pub row_by : Script → ℕ → Item → List Row
 row_by script rank (Entry number place step) = option_map_or
-    (λ call. record { rank = rank; number = number; call = call; step = step } ∷ []) (slice_get (calls_of script rank) number) []
+    (λ call. record { rank = rank; number = number; call = call; step = step } ∷ [])
+    (slice_get (calls_of script rank) number) []
 row_by script rank item = []
 
 abbrev pub row_of : Script → Named → List Row

@@ -1,6 +1,8 @@
--- The touches of a log: each access whole, in order, after its Issue, and before what waits for it. MPI 3.1, section 11.7,
+-- The touches of a log: each access whole, in order, after its Issue, and before what waits for it. MPI 3.1, section
+-- 11.7,
 -- in this project's profile.
-use Rattle.std.specs.Prelude.{ℕ, ◌≡◌, ◌+◌, ◌<◌, Bool, true, false, not, ◌&&◌, ◌||◌, ◌==◌, if◌then◌else◌, List, [], ◌∷◌, length, take, drop, slice_get, IsTrue, IsSome, IsSomeAnd, IfSome}
+use Rattle.std.specs.Prelude.{ℕ, ◌≡◌, ◌+◌, ◌<◌, Bool, true, false, not, ◌&&◌, ◌||◌, ◌==◌, if◌then◌else◌, List, [], ◌∷◌}
+use Rattle.std.specs.Prelude.{length, take, drop, slice_get, IsTrue, IsSome, IsSomeAnd, IfSome}
 use Rattle.std.specs.List.{flat_map, list_any, AllByRecursion}
 use Rattle.std.specs.Option.{option_map_or}
 use Rattle.rma_types.specs.declared.accesses.Kind.{Kind}
@@ -71,7 +73,8 @@ IsLocalDirect here log one = IsTrue (is_local one.access.kind) → FollowsDirect
 abbrev pub KeepsIssueOrder : RankOfRun → List Item → ℕ → ℕ → Type 0
 KeepsIssueOrder here log first second =
     let issued = issued_at (calls_here here) log in
-    second < first → IfSome (issued first) (λ later. IfSome (issued second) (λ earlier. gives_way later earlier ≡ false))
+    second < first → IfSome (issued first)
+    (λ later. IfSome (issued second) (λ earlier. gives_way later earlier ≡ false))
 
 -- the index of the Issue of a touch
 abbrev pub issue_of : Item → List ℕ
@@ -88,7 +91,8 @@ issues_touched log = flat_map issue_of log
 abbrev pub begins_awaiting : RankOfRun → List Item → Item → PendingAccess → ℕ → Bool
 begins_awaiting here before item one number =
     not (is_own_refusal item) && not (list_any (belongs_to number) before)
-    && option_map_or (λ call. must_wait (known_at here before).requests call one) (slice_get (calls_here here) number) false
+    && option_map_or (λ call. must_wait (known_at here before).requests call one) (slice_get (calls_here here) number)
+    false
 
 -- the item must wait for the access: it is Ended, or the first item of a call that must
 abbrev pub is_awaiting : RankOfRun → List Item → PendingAccess → Item → Bool
@@ -102,7 +106,8 @@ waits_at here log index one = option_map_or (is_awaiting here (take index log) o
 -- each access that the item at the index must wait for is touched whole before it
 abbrev pub IsAwaitedWhole : RankOfRun → List Item → ℕ → Type 0
 IsAwaitedWhole here log index = AllByRecursion
-    (λ one. IsTrue (waits_at here log index one) → IsTouchedWhole here (take index log) one) (issued_in here (take index log))
+    (λ one. IsTrue (waits_at here log index one) → IsTouchedWhole here (take index log) one)
+    (issued_in here (take index log))
 
 -- the next item belongs to the call of this number, where that moves data
 abbrev pub IsFollowedByCall : List Item → ℕ → ℕ → Call → Type 0

@@ -1,5 +1,6 @@
 -- What a test finds among the locks of a table.
-use Rattle.std.proofs.Common.{◌≡◌, ◌≢◌, ℕ, zero, suc, ◌+◌, ◌<◌, ◌≤◌, Bool, true, false, not, ◌&&◌, ◌||◌, eqb, List, [], ◌∷◌, ◌++◌, length, get_or, set, take, replicate, refl, ap, sym, ◌∙◌, arith, pos, Some}
+use Rattle.std.proofs.Common.{◌≡◌, ◌≢◌, ℕ, zero, suc, ◌+◌, ◌<◌, ◌≤◌, Bool, true, false, not, ◌&&◌, ◌||◌, eqb, List, []}
+use Rattle.std.proofs.Common.{◌∷◌, ◌++◌, length, get_or, set, take, replicate, refl, ap, sym, ◌∙◌, arith, pos, Some}
 use Rattle.std.specs.List.{list_any}
 use Rattle.std.proofs.lemmas.Bool.{eq-eqb, ne_eqb}
 use Rattle.std.proofs.lemmas.List.{take_more, length-take-le}
@@ -9,7 +10,8 @@ use Rattle.rma_types.specs.declared.calls.Lock.TheVariants.{Shared as SharedLock
 use Rattle.board_rules.specs.Locks.{Held, is_given_back, excludes, do_clash}
 use Rattle.lock_table.specs.declared.targets.Target.{Target}
 use Rattle.lock_table.specs.declared.targets.Target.TheVariants.{Shared, Exclusive}
-use Rattle.lock_table.specs.HeldLocks.{lock, ranks_in, kept, locks_at_target, locks_from, is_holder, is_held_by, HasSameLocks}
+use Rattle.lock_table.specs.HeldLocks.{lock, ranks_in, kept, locks_at_target, locks_from, is_holder, is_held_by}
+use Rattle.lock_table.specs.HeldLocks.{HasSameLocks}
 use Rattle.lock_table.proofs.RankMasks.{any_filter, no_rank_in_zero}
 use Rattle.lock_table.proofs.TargetLocks.{shared_any, any_pointwise}
 
@@ -18,17 +20,24 @@ pub target_alike : (p q : Held → Bool) (window target : ℕ) →
     ((kind : Lock) (holder : ℕ) → p (lock window target kind holder) ≡ q (lock window target kind holder)) →
     (one : Target) → list_any p (locks_at_target window target one) ≡ list_any q (locks_at_target window target one)
 target_alike p q window target same (Shared holders) =
-    shared_any window target holders p ∙ (any_pointwise _ _ (λ rank. same SharedLock rank) (ranks_in 16 holders) ∙ sym (shared_any window target holders q))
+    shared_any window target holders p ∙ (any_pointwise _ _ (λ rank. same SharedLock rank) (ranks_in 16 holders)
+    ∙ sym (shared_any window target holders q))
 target_alike p q window target same (Exclusive holder) = ap (λ b. b || false) (same ExclusiveLock holder)
 
 -- two tests that agree on the locks from a target on
 pub from_alike : (p q : Held → Bool) (window first : ℕ) →
-    ((target : ℕ) → first ≤ target → (kind : Lock) (holder : ℕ) → p (lock window target kind holder) ≡ q (lock window target kind holder)) →
-    (targets : List Target) → list_any p (locks_from window first targets) ≡ list_any q (locks_from window first targets)
+    ((target : ℕ) → first ≤ target → (kind : Lock) (holder : ℕ) → p (lock window target kind holder) ≡ q
+    (lock window target kind holder)) →
+    (targets : List Target) → list_any p (locks_from window first targets) ≡ list_any q
+    (locks_from window first targets)
 from_alike p q window first same [] = refl
 from_alike p q window first same (one ∷ others) =
     list_any-append p (locks_at_target window first one) (locks_from window (first + 1) others)
-    ∙ (rw (target_alike p q window first (same first (omega arith)) one, from_alike p q window (first + 1) (λ target low. same target (omega arith)) others) refl
+    ∙ (rw (
+      target_alike p q window first (same first (omega arith)) one,
+      from_alike p q window (first + 1)
+          (λ target low. same target (omega arith)) others,
+    ) refl
     ∙ sym (list_any-append q (locks_at_target window first one) (locks_from window (first + 1) others)))
 
 pub none_in : {X : Type 0} (xs : List X) → list_any (λ (_ : X). false) xs ≡ false
@@ -48,7 +57,8 @@ table_any p q window first i [] d within other here = absurd (omega arith)
 table_any p q window first zero (one ∷ others) d within other here =
     list_any-append p (locks_at_target window first one) (locks_from window (first + 1) others)
     ∙ (ap (λ b. list_any p (locks_at_target window first one) || b)
-    (from_alike p (λ _. false) window (first + 1) (λ target low. other target (λ e. absurd (omega arith))) others ∙ none_in (locks_from window (first + 1) others))
+    (from_alike p (λ _. false) window (first + 1) (λ target low. other target (λ e. absurd (omega arith))) others
+    ∙ none_in (locks_from window (first + 1) others))
     ∙ (or_nothing (list_any p (locks_at_target window first one)) ∙ at_first))
   where
     at_first : list_any p (locks_at_target window first one) ≡ list_any q (locks_at_target window (first + 0) one)
@@ -58,7 +68,8 @@ table_any p q window first (suc i) (one ∷ others) d within other here =
     let e : first + suc i ≡ (first + 1) + i = omega arith in
     list_any-append p (locks_at_target window first one) (locks_from window (first + 1) others)
     ∙ (ap (λ b. b || list_any p (locks_from window (first + 1) others))
-    (target_alike p (λ _. false) window first (other first (λ e. absurd (omega arith))) one ∙ none_in (locks_at_target window first one))
+    (target_alike p (λ _. false) window first (other first (λ e. absurd (omega arith))) one
+    ∙ none_in (locks_at_target window first one))
     ∙ rw e (table_any p q window (first + 1) i others d (omega arith)
     (λ target ne. other target (λ same. ne (same ∙ e)))
     (λ kind holder. rw (sym e) (here kind holder))))
@@ -75,63 +86,85 @@ or_assoc true rest n = refl
 or_assoc false rest n = refl
 
 -- a target whose locks are one more
-pub table_with : (test : Held → Bool) (new : Held) (window first i : ℕ) (targets : List Target) (after d : Target) → i < length targets →
-    list_any test (locks_at_target window (first + i) after) ≡ (list_any test (locks_at_target window (first + i) (get_or targets i d)) || test new) →
-    list_any test (locks_from window first (set targets i after)) ≡ (list_any test (locks_from window first targets) || test new)
+pub table_with : (test : Held → Bool) (new : Held) (window first i : ℕ) (targets : List Target) (after d : Target) →
+    i < length targets →
+    list_any test (locks_at_target window (first + i) after) ≡
+    (list_any test (locks_at_target window (first + i) (get_or targets i d)) || test new) →
+    list_any test (locks_from window first (set targets i after)) ≡
+    (list_any test (locks_from window first targets) || test new)
 table_with test new window first i [] after d within more = absurd (omega arith)
 table_with test new window first zero (one ∷ others) after d within more =
     let e : first + 0 ≡ first = omega arith in
-    let here : list_any test (locks_at_target window first after) ≡ (list_any test (locks_at_target window first one) || test new) = rw (sym e) more in
+    let here : list_any test (locks_at_target window first after) ≡
+    (list_any test (locks_at_target window first one) || test new) = rw (sym e) more in
     list_any-append test (locks_at_target window first after) (locks_from window (first + 1) others)
     ∙ (ap (λ b. b || list_any test (locks_from window (first + 1) others)) here
-    ∙ (last_or (list_any test (locks_at_target window first one)) (test new) (list_any test (locks_from window (first + 1) others))
-    ∙ ap (λ b. b || test new) (sym (list_any-append test (locks_at_target window first one) (locks_from window (first + 1) others)))))
+    ∙ (last_or (list_any test (locks_at_target window first one)) (test new)
+    (list_any test (locks_from window (first + 1) others))
+    ∙ ap (λ b. b || test new) (sym (list_any-append test (locks_at_target window first one)
+    (locks_from window (first + 1) others)))))
 table_with test new window first (suc i) (one ∷ others) after d within more =
     let e : first + suc i ≡ (first + 1) + i = omega arith in
     let later = table_with test new window (first + 1) i others after d (omega arith) (rw (sym e) more) in
     list_any-append test (locks_at_target window first one) (locks_from window (first + 1) (set others i after))
     ∙ (ap (λ b. list_any test (locks_at_target window first one) || b) later
-    ∙ (or_assoc (list_any test (locks_at_target window first one)) (list_any test (locks_from window (first + 1) others)) (test new)
-    ∙ ap (λ b. b || test new) (sym (list_any-append test (locks_at_target window first one) (locks_from window (first + 1) others)))))
+    ∙ (or_assoc (list_any test (locks_at_target window first one))
+    (list_any test (locks_from window (first + 1) others)) (test new)
+    ∙ ap (λ b. b || test new) (sym (list_any-append test (locks_at_target window first one)
+    (locks_from window (first + 1) others)))))
 
 -- a target whose locks are those that a test keeps, which keeps all others
-pub table_kept : (keep test : Held → Bool) (window first i : ℕ) (targets : List Target) (after d : Target) → i < length targets →
+pub table_kept : (keep test : Held → Bool) (window first i : ℕ) (targets : List Target) (after d : Target) →
+    i < length targets →
     ((target : ℕ) → target ≢ first + i → (kind : Lock) (holder : ℕ) → keep (lock window target kind holder) ≡ true) →
-    list_any test (locks_at_target window (first + i) after) ≡ list_any (λ one. keep one && test one) (locks_at_target window (first + i) (get_or targets i d)) →
-    list_any test (locks_from window first (set targets i after)) ≡ list_any (λ one. keep one && test one) (locks_from window first targets)
+    list_any test (locks_at_target window (first + i) after) ≡ list_any (λ one. keep one && test one)
+    (locks_at_target window (first + i) (get_or targets i d)) →
+    list_any test (locks_from window first (set targets i after)) ≡ list_any (λ one. keep one && test one)
+    (locks_from window first targets)
 table_kept keep test window first i [] after d within all less = absurd (omega arith)
 table_kept keep test window first zero (one ∷ others) after d within all less =
     let e : first + 0 ≡ first = omega arith in
-    let here : list_any test (locks_at_target window first after) ≡ list_any (λ one. keep one && test one) (locks_at_target window first one) = rw (sym e) less in
+    let here : list_any test (locks_at_target window first after) ≡ list_any (λ one. keep one && test one)
+    (locks_at_target window first one) = rw (sym e) less in
     list_any-append test (locks_at_target window first after) (locks_from window (first + 1) others)
     ∙ (rw (
       here,
       from_alike test (λ one. keep one && test one) window (first + 1)
-          (λ target low kind holder. ap (λ b. b && test (lock window target kind holder)) (sym (all target (λ e. absurd (omega arith)) kind holder))) others,
+          (λ target low kind holder. ap (λ b. b && test (lock window target kind holder))
+          (sym (all target (λ e. absurd (omega arith)) kind holder))) others,
     ) refl
-    ∙ sym (list_any-append (λ one. keep one && test one) (locks_at_target window first one) (locks_from window (first + 1) others)))
+    ∙ sym (list_any-append (λ one. keep one && test one) (locks_at_target window first one)
+    (locks_from window (first + 1) others)))
 table_kept keep test window first (suc i) (one ∷ others) after d within all less =
     let e : first + suc i ≡ (first + 1) + i = omega arith in
-    let later = table_kept keep test window (first + 1) i others after d (omega arith) (λ target ne. all target (λ same. ne (same ∙ e))) (rw (sym e) less) in
+    let later = table_kept keep test window (first + 1) i others after d (omega arith)
+    (λ target ne. all target (λ same. ne (same ∙ e))) (rw (sym e) less) in
     list_any-append test (locks_at_target window first one) (locks_from window (first + 1) (set others i after))
     ∙ (rw (
       later,
       target_alike test (λ one. keep one && test one) window first
-          (λ kind holder. ap (λ b. b && test (lock window first kind holder)) (sym (all first (λ e. absurd (omega arith)) kind holder))) one,
+          (λ kind holder. ap (λ b. b && test (lock window first kind holder))
+          (sym (all first (λ e. absurd (omega arith)) kind holder))) one,
     ) refl
-    ∙ sym (list_any-append (λ one. keep one && test one) (locks_at_target window first one) (locks_from window (first + 1) others)))
+    ∙ sym (list_any-append (λ one. keep one && test one) (locks_at_target window first one)
+    (locks_from window (first + 1) others)))
 
 -- the locks of one target more
 pub from_append : (window first : ℕ) (targets : List Target) (one : Target) (test : Held → Bool) →
-    list_any test (locks_from window first (targets ++ one ∷ [])) ≡ (list_any test (locks_from window first targets) || list_any test (locks_at_target window (first + length targets) one))
+    list_any test (locks_from window first (targets ++ one ∷ [])) ≡
+    (list_any test (locks_from window first targets) || list_any test
+    (locks_at_target window (first + length targets) one))
 from_append window first [] one test =
     let e : first + 0 ≡ first = omega arith in
-    rw e (list_any-append test (locks_at_target window first one) [] ∙ or_nothing (list_any test (locks_at_target window first one)))
+    rw e (list_any-append test (locks_at_target window first one) []
+    ∙ or_nothing (list_any test (locks_at_target window first one)))
 from_append window first (other ∷ targets) one test =
     let e : first + suc (length targets) ≡ (first + 1) + length targets = omega arith in
     list_any-append test (locks_at_target window first other) (locks_from window (first + 1) (targets ++ one ∷ []))
     ∙ rw (e, from_append window (first + 1) targets one test)
-    (or_assoc (list_any test (locks_at_target window first other)) (list_any test (locks_from window (first + 1) targets)) (list_any test (locks_at_target window ((first + 1) + length targets) one))
+    (or_assoc (list_any test (locks_at_target window first other))
+    (list_any test (locks_from window (first + 1) targets))
+    (list_any test (locks_at_target window ((first + 1) + length targets) one))
     ∙ ap (λ b. b || list_any test (locks_at_target window ((first + 1) + length targets) one))
     (sym (list_any-append test (locks_at_target window first other) (locks_from window (first + 1) targets))))
 
@@ -157,7 +190,8 @@ pub clash_at : (window i rank : ℕ) (kind : Lock) (targets : List Target) (d : 
     ≡ list_any (λ (one : Held). excludes kind one.kind) (locks_at_target window i (get_or targets i d))
 clash_at window i rank kind targets d within =
     at_target (do_clash (lock window i kind rank)) (λ one. excludes kind one.kind) window i targets d within
-    (λ target ne other holder. clash window i kind rank target other holder ∙ rw (ne_eqb i target (λ same. ne (sym same))) refl)
+    (λ target ne other holder. clash window i kind rank target other holder
+    ∙ rw (ne_eqb i target (λ same. ne (sym same))) refl)
     (λ other holder. clash window i kind rank i other holder ∙ rw (eq-eqb i i refl) refl)
 
 pub held_at : (window i : ℕ) (targets : List Target) (d : Target) → i < length targets →
@@ -185,8 +219,10 @@ held_by_at window i rank targets d within =
 
 -- a lock more at one target
 pub granted : (window i rank : ℕ) (kind : Lock) (targets : List Target) (after d : Target) → i < length targets →
-    HasSameLocks (locks_at_target window i after) (locks_at_target window i (get_or targets i d) ++ lock window i kind rank ∷ []) →
-    HasSameLocks (locks_from window 0 (set targets i after)) (locks_from window 0 targets ++ lock window i kind rank ∷ [])
+    HasSameLocks (locks_at_target window i after)
+    (locks_at_target window i (get_or targets i d) ++ lock window i kind rank ∷ []) →
+    HasSameLocks (locks_from window 0 (set targets i after)) (locks_from window 0 targets ++ lock window i kind rank
+    ∷ [])
 granted window i rank kind targets after d within more test =
     let e : 0 + i ≡ i = omega arith in
     let new = lock window i kind rank in
@@ -194,8 +230,10 @@ granted window i rank kind targets after d within more test =
     (rw e (more test ∙ plus test (locks_at_target window i (get_or targets i d)) new))
     ∙ sym (plus test (locks_from window 0 targets) new)
   where
-    plus : (test : Held → Bool) (held : List Held) (new : Held) → list_any test (held ++ new ∷ []) ≡ (list_any test held || test new)
-    plus test held new = list_any-append test held (new ∷ []) ∙ ap (λ b. list_any test held || b) (or_nothing (test new))
+    plus : (test : Held → Bool) (held : List Held) (new : Held) → list_any test (held ++ new ∷ []) ≡
+        (list_any test held || test new)
+    plus test held new = list_any-append test held (new ∷ []) ∙ ap (λ b. list_any test held || b)
+        (or_nothing (test new))
 
 -- a lock less at one target
 pub released : (window i rank : ℕ) (targets : List Target) (after d : Target) → i < length targets →
@@ -205,7 +243,8 @@ released window i rank targets after d within less test =
     let e : 0 + i ≡ i = omega arith in
     let keep : Held → Bool = λ one. not (is_given_back rank window (Some (pos i)) one) in
     table_kept keep test window 0 i targets after d within
-    (λ target ne kind holder. rw (ne_eqb target i (λ same. ne (same ∙ sym e))) (stays (eqb holder rank && eqb window window)))
+    (λ target ne kind holder. rw (ne_eqb target i (λ same. ne (same ∙ sym e)))
+    (stays (eqb holder rank && eqb window window)))
     (rw e (less test ∙ any_filter keep test (locks_at_target window i (get_or targets i d))))
     ∙ sym (any_filter keep test (locks_from window 0 targets))
   where
@@ -220,12 +259,14 @@ no_locks window first (suc count) = rw (no_rank_in_zero 16, no_locks window (fir
 
 -- no exclusive lock up to one more target
 pub none_more : (window i : ℕ) (targets : List Target) (d : Target) → i < length targets → (test : Held → Bool) →
-    list_any test (locks_from window 0 (take i targets)) ≡ false → list_any test (locks_at_target window i (get_or targets i d)) ≡ false →
+    list_any test (locks_from window 0 (take i targets)) ≡ false →
+    list_any test (locks_at_target window i (get_or targets i d)) ≡ false →
     list_any test (locks_from window 0 (take (i + 1) targets)) ≡ false
 none_more window i targets d within test before here =
     let long : length (take i targets) ≡ i = length-take-le i targets (omega arith) in
     let e : 0 + length (take i targets) ≡ i = omega (arith, long) in
-    rw (take_more targets i d within) (from_append window 0 (take i targets) (get_or targets i d) test ∙ rw (before, e, here) refl)
+    rw (take_more targets i d within) (from_append window 0 (take i targets) (get_or targets i d) test
+    ∙ rw (before, e, here) refl)
 
 or_true : (b : Bool) → (b || true) ≡ true
 or_true true = refl
@@ -233,11 +274,14 @@ or_true false = refl
 
 -- a lock at one target is one of the table
 pub some_at : (window i : ℕ) (targets : List Target) (d : Target) → i < length targets → (test : Held → Bool) →
-    list_any test (locks_at_target window i (get_or targets i d)) ≡ true → list_any test (locks_from window 0 targets) ≡ true
-some_at window i targets d within test here = let e : 0 + i ≡ i = omega arith in some_from window 0 i targets d within test (rw e here)
+    list_any test (locks_at_target window i (get_or targets i d)) ≡ true →
+    list_any test (locks_from window 0 targets) ≡ true
+some_at window i targets d within test here = let e : 0 + i ≡ i = omega arith in some_from window 0 i targets d within
+    test (rw e here)
   where
     some_from : (window first i : ℕ) (targets : List Target) (d : Target) → i < length targets → (test : Held → Bool) →
-        list_any test (locks_at_target window (first + i) (get_or targets i d)) ≡ true → list_any test (locks_from window first targets) ≡ true
+        list_any test (locks_at_target window (first + i) (get_or targets i d)) ≡ true →
+        list_any test (locks_from window first targets) ≡ true
     some_from window first i [] d within test here = absurd (omega arith)
     some_from window first zero (one ∷ others) d within test here =
         let e : first + 0 ≡ first = omega arith in
@@ -245,6 +289,8 @@ some_at window i targets d within test here = let e : 0 + i ≡ i = omega arith 
         list_any-append test (locks_at_target window first one) (locks_from window (first + 1) others) ∙ rw found refl
     some_from window first (suc i) (one ∷ others) d within test here =
         let e : first + suc i ≡ (first + 1) + i = omega arith in
-        let found : list_any test (locks_from window (first + 1) others) ≡ true = some_from window (first + 1) i others d (omega arith) test (rw (sym e) here) in
+        let found : list_any test (locks_from window (first + 1) others) ≡ true = some_from window
+        (first + 1) i others d (omega arith) test (rw (sym e) here) in
         list_any-append test (locks_at_target window first one) (locks_from window (first + 1) others)
-        ∙ (ap (λ b. list_any test (locks_at_target window first one) || b) found ∙ or_true (list_any test (locks_at_target window first one)))
+        ∙ (ap (λ b. list_any test (locks_at_target window first one) || b) found
+        ∙ or_true (list_any test (locks_at_target window first one)))

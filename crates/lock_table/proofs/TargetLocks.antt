@@ -1,5 +1,6 @@
 -- What a test finds among the locks at one target.
-use Rattle.std.proofs.Common.{◌≡◌, ℕ, ◌-◌, ◌*◌, ◌%◌, ◌^◌, ◌<◌, Bool, true, false, not, ◌&&◌, ◌||◌, eqb, List, [], ◌∷◌, ◌++◌, map, refl, ap, sym, ◌∙◌, pos, Some}
+use Rattle.std.proofs.Common.{◌≡◌, ℕ, ◌-◌, ◌*◌, ◌%◌, ◌^◌, ◌<◌, Bool, true, false, not, ◌&&◌, ◌||◌, eqb, List, [], ◌∷◌}
+use Rattle.std.proofs.Common.{◌++◌, map, refl, ap, sym, ◌∙◌, pos, Some}
 use Rattle.std.specs.List.{list_any}
 use Rattle.std.specs.Prelude.{bit_and, bit_or}
 use Rattle.std.proofs.lemmas.Bool.{eq-eqb}
@@ -16,20 +17,25 @@ abbrev pub shared : ℕ → ℕ → ℕ → List Held
 shared window target holders = map (lock window target SharedLock) (ranks_in 16 holders)
 
 pub shared_any : (window target holders : ℕ) (test : Held → Bool) →
-    list_any test (shared window target holders) ≡ list_any (λ rank. test (lock window target SharedLock rank)) (ranks_in 16 holders)
+    list_any test (shared window target holders) ≡ list_any (λ rank. test (lock window target SharedLock rank))
+    (ranks_in 16 holders)
 shared_any window target holders test = any_map (lock window target SharedLock) test (ranks_in 16 holders)
 
-pub shared_held : (window target holders : ℕ) → holders < 2 ^ 16 → not (eqb holders 0) ≡ list_any (λ (_ : Held). true) (shared window target holders)
+pub shared_held : (window target holders : ℕ) → holders < 2 ^ 16 → not (eqb holders 0) ≡ list_any (λ (_ : Held). true)
+    (shared window target holders)
 shared_held window target holders small = sym (shared_any window target holders (λ _. true) ∙ some_in holders small)
 
-pub shared_free : (window target holders : ℕ) → holders < 2 ^ 16 → eqb holders 0 ≡ not (list_any (λ (one : Held). excludes ExclusiveLock one.kind) (shared window target holders))
-shared_free window target holders small = sym (ap not (sym (shared_held window target holders small)) ∙ twice (eqb holders 0))
+pub shared_free : (window target holders : ℕ) → holders < 2 ^ 16 →
+    eqb holders 0 ≡ not (list_any (λ (one : Held). excludes ExclusiveLock one.kind) (shared window target holders))
+shared_free window target holders small = sym (ap not (sym (shared_held window target holders small))
+    ∙ twice (eqb holders 0))
   where
     twice : (b : Bool) → not (not b) ≡ b
     twice true = refl
     twice false = refl
 
-pub shared_beside : (window target holders : ℕ) → list_any (λ (one : Held). excludes SharedLock one.kind) (shared window target holders) ≡ false
+pub shared_beside : (window target holders : ℕ) → list_any (λ (one : Held). excludes SharedLock one.kind)
+    (shared window target holders) ≡ false
 shared_beside window target holders =
     shared_any window target holders (λ one. excludes SharedLock one.kind) ∙ never (ranks_in 16 holders)
   where
@@ -39,7 +45,8 @@ shared_beside window target holders =
 
 pub shared_by : (window target holders rank : ℕ) → rank < 16 →
     not (eqb (bit_and holders (1 * 2 ^ rank % 65536)) 0) ≡ list_any (is_holder rank) (shared window target holders)
-shared_by window target holders rank within = is_in holders rank within ∙ sym (shared_any window target holders (is_holder rank))
+shared_by window target holders rank within = is_in holders rank within
+    ∙ sym (shared_any window target holders (is_holder rank))
 
 pub shared_with : (window target holders rank : ℕ) → rank < 16 → (test : Held → Bool) →
     list_any test (shared window target (bit_or holders (1 * 2 ^ rank % 65536)))
@@ -48,13 +55,16 @@ shared_with window target holders rank within test =
     shared_any window target (bit_or holders (1 * 2 ^ rank % 65536)) test
     ∙ (any_set (λ r. test (lock window target SharedLock r)) holders rank within
     ∙ sym (list_any-append test (shared window target holders) (lock window target SharedLock rank ∷ [])
-    ∙ rw (shared_any window target holders test) (ap (λ b. list_any (λ r. test (lock window target SharedLock r)) (ranks_in 16 holders) || b) (last (test (lock window target SharedLock rank))))))
+    ∙ rw (shared_any window target holders test)
+    (ap (λ b. list_any (λ r. test (lock window target SharedLock r)) (ranks_in 16 holders) || b)
+    (last (test (lock window target SharedLock rank))))))
   where
     last : (b : Bool) → (b || false) ≡ b
     last true = refl
     last false = refl
 
-pub any_pointwise : {X : Type 0} (p q : X → Bool) → ((x : X) → p x ≡ q x) → (xs : List X) → list_any p xs ≡ list_any q xs
+pub any_pointwise : {X : Type 0} (p q : X → Bool) → ((x : X) → p x ≡ q x) → (xs : List X) →
+    list_any p xs ≡ list_any q xs
 any_pointwise p q same [] = refl
 any_pointwise p q same (x ∷ xs) = rw (same x, any_pointwise p q same xs) refl
 
@@ -74,30 +84,38 @@ pub shared_without : (window target holders rank : ℕ) → rank < 16 → (test 
 shared_without window target holders rank within test =
     shared_any window target (bit_and holders (65535 - 1 * 2 ^ rank % 65536)) test
     ∙ (any_cleared (λ r. test (lock window target SharedLock r)) holders rank within
-    ∙ sym (any_filter (λ one. not (is_given_back rank window (Some (pos target)) one)) test (shared window target holders)
+    ∙ sym (any_filter (λ one. not (is_given_back rank window (Some (pos target)) one)) test
+    (shared window target holders)
     ∙ (shared_any window target holders (λ one. not (is_given_back rank window (Some (pos target)) one) && test one)
-    ∙ any_pointwise _ _ (λ r. ap (λ b. not b && test (lock window target SharedLock r)) (given_back_here window target SharedLock rank r)) (ranks_in 16 holders))))
+    ∙ any_pointwise _ _ (λ r. ap (λ b. not b && test (lock window target SharedLock r))
+    (given_back_here window target SharedLock rank r)) (ranks_in 16 holders))))
 
 pub exclusive_without_same : (window target rank holder : ℕ) → holder ≡ rank → (test : Held → Bool) →
-    list_any test (shared window target 0) ≡ list_any test (kept rank window target (lock window target ExclusiveLock holder ∷ []))
+    list_any test (shared window target 0) ≡ list_any test
+    (kept rank window target (lock window target ExclusiveLock holder ∷ []))
 exclusive_without_same window target rank holder e test =
     shared_any window target 0 test ∙ (none_in_zero (λ r. test (lock window target SharedLock r)) 16
-    ∙ sym (any_filter (λ one. not (is_given_back rank window (Some (pos target)) one)) test (lock window target ExclusiveLock holder ∷ [])
+    ∙ sym (any_filter (λ one. not (is_given_back rank window (Some (pos target)) one)) test
+    (lock window target ExclusiveLock holder ∷ [])
     ∙ gone))
   where
-    gone : list_any (λ one. not (is_given_back rank window (Some (pos target)) one) && test one) (lock window target ExclusiveLock holder ∷ []) ≡ false
+    gone : list_any (λ one. not (is_given_back rank window (Some (pos target)) one) && test one)
+        (lock window target ExclusiveLock holder ∷ []) ≡ false
     gone = rw (ap not (given_back_here window target ExclusiveLock rank holder ∙ eq-eqb holder rank e)) refl
 
 -- where no lock stands, no test finds one
-pub nothing_found : {X : Type 0} (xs : List X) → list_any (λ (_ : X). true) xs ≡ false → (test : X → Bool) → list_any test xs ≡ false
+pub nothing_found : {X : Type 0} (xs : List X) → list_any (λ (_ : X). true) xs ≡ false → (test : X → Bool) →
+    list_any test xs ≡ false
 nothing_found [] none test = refl
 nothing_found (x ∷ xs) none test = cc
 
 -- whether a lock is excluded doesn't go by the window or the target
 pub kind_alone : (kind : Lock) (window target window' target' : ℕ) (one : Target) →
-    list_any (λ (l : Held). excludes kind l.kind) (locks_at_target window target one) ≡ list_any (λ (l : Held). excludes kind l.kind) (locks_at_target window' target' one)
+    list_any (λ (l : Held). excludes kind l.kind) (locks_at_target window target one) ≡ list_any
+    (λ (l : Held). excludes kind l.kind) (locks_at_target window' target' one)
 kind_alone kind window target window' target' (Shared holders) =
-    shared_any window target holders (λ l. excludes kind l.kind) ∙ sym (shared_any window' target' holders (λ l. excludes kind l.kind))
+    shared_any window target holders (λ l. excludes kind l.kind)
+    ∙ sym (shared_any window' target' holders (λ l. excludes kind l.kind))
 kind_alone kind window target window' target' (Exclusive holder) = refl
 
 -- an exclusive lock excludes every other
@@ -106,5 +124,6 @@ pub exclusive_excludes : (window target : ℕ) (one : Target) →
     (test : Held → Bool) → list_any test (locks_at_target window target one) ≡ false
 exclusive_excludes window target one none test = nothing_found (locks_at_target window target one) none test
 
-pub last_one : {X : Type 0} (test : X → Bool) (xs : List X) (x : X) → list_any test xs ≡ false → (test x || false) ≡ list_any test (xs ++ x ∷ [])
+pub last_one : {X : Type 0} (test : X → Bool) (xs : List X) (x : X) → list_any test xs ≡ false →
+    (test x || false) ≡ list_any test (xs ++ x ∷ [])
 last_one test xs x none = sym (list_any-append test xs (x ∷ []) ∙ ap (λ b. b || (test x || false)) none)

@@ -8,7 +8,8 @@ use Rattle.rma_record.specs.declared.runs.Run.{Run}
 use Rattle.lawful_runs.specs.LawfulRun.{IsLawfulLog, rank_in}
 use Rattle.order_laws.specs.OrderLaws.{DelaysAreDrawn}
 
-log_drawn : (script : Script) (delay : Delay) (run : Run) (rank : ℕ) (log : List Item) → IsLawfulLog (rank_in script delay run rank) log → IsLawfulLog (rank_in script Seeded run rank) log
+log_drawn : (script : Script) (delay : Delay) (run : Run) (rank : ℕ) (log : List Item) →
+    IsLawfulLog (rank_in script delay run rank) log → IsLawfulLog (rank_in script Seeded run rank) log
 log_drawn script delay run rank log lawful = record {
   calls = lawful.calls;
   look_ups = lawful.look_ups;

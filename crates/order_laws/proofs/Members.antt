@@ -1,5 +1,6 @@
 -- Members of lists.
-use Rattle.std.proofs.Common.{◌≡◌, ℕ, zero, suc, ◌+◌, ◌<◌, ◌≤◌, ◌⊎◌, inl, inr, Bool, true, false, List, [], ◌∷◌, ◌++◌, Option, Some, None, refl, sym, subst, arith}
+use Rattle.std.proofs.Common.{◌≡◌, ℕ, zero, suc, ◌+◌, ◌<◌, ◌≤◌, ◌⊎◌, inl, inr, Bool, true, false, List, [], ◌∷◌, ◌++◌}
+use Rattle.std.proofs.Common.{Option, Some, None, refl, sym, subst, arith}
 use Rattle.std.specs.Prelude.{Contains, map}
 use Rattle.std.specs.List.{list_any, list_all, filter, flat_map}
 use Rattle.std.specs.Option.{option_map_or}
@@ -55,7 +56,8 @@ in_filter p (there {y} {xs} m) e = elim (cases_Bool (p y)) [
   | inr fails ↦ rw fails (in_filter p m e)
 ]
 
-kept_in : {X : Type 0} (p : X → Bool) (y : X) (ys : List X) {x : X} → p y ≡ true → (In x (filter p ys) → In x ys × (p x ≡ true)) → In x (y ∷ filter p ys) → In x (y ∷ ys) × (p x ≡ true)
+kept_in : {X : Type 0} (p : X → Bool) (y : X) (ys : List X) {x : X} → p y ≡ true →
+    (In x (filter p ys) → In x ys × (p x ≡ true)) → In x (y ∷ filter p ys) → In x (y ∷ ys) × (p x ≡ true)
 kept_in p y ys passes rest here = (here, passes)
 kept_in p y ys passes rest (there m) = let one = rest m in (there one.0, one.1)
 
@@ -66,7 +68,8 @@ filter_in p (y ∷ ys) {x} m = elim (cases_Bool (p y)) [
   | inr fails ↦ let rest = filter_in p ys (rw fails at m) in (there rest.0, rest.1)
 ]
 
-pub flat_map_in : {X Y : Type 0} (f : X → List Y) (xs : List X) {y : Y} → In y (flat_map f xs) → (x : X) × In x xs × In y (f x)
+pub flat_map_in : {X Y : Type 0} (f : X → List Y) (xs : List X) {y : Y} → In y (flat_map f xs) → (x : X) × In x xs
+    × In y (f x)
 flat_map_in f [] m = elim m [ ]
 flat_map_in f (x ∷ xs) m = elim (append_in (f x) m) [
   | inl a ↦ (x, here, a)
@@ -90,6 +93,7 @@ in_contains here = (0, omega arith, refl)
 in_contains (there m) = let rest = in_contains m in (suc rest.0, omega (arith, rest.1), rest.2)
 
 -- a test that is true of what there is: there is something, and the test is true of it
-pub some_of : {X : Type 0} (p : X → Bool) (o : Option X) → option_map_or p o false ≡ true → (x : X) × (o ≡ Some x) × (p x ≡ true)
+pub some_of : {X : Type 0} (p : X → Bool) (o : Option X) → option_map_or p o false ≡ true → (x : X) × (o ≡ Some x)
+    × (p x ≡ true)
 some_of p None h = absurd (false≢true h)
 some_of p (Some x) h = (x, refl, h)

@@ -18,14 +18,17 @@ same_truth false true there back = absurd (false≢true (back refl))
 same_truth false false there back = refl
 
 -- two tests that decide one order are one
-same_order : (script : Script) (run : Run) (one other : Id → Id → Bool) → IsOrder script run one → IsOrder script run other → one ≡ other
+same_order : (script : Script) (run : Run) (one other : Id → Id → Bool) → IsOrder script run one →
+    IsOrder script run other → one ≡ other
 same_order script run one other first second =
-    λ k a b. same_truth (one a b) (other a b) (λ h. (second a b).1 ((first a b).0 h)) (λ h. (first a b).1 ((second a b).0 h)) k
+    λ k a b. same_truth (one a b) (other a b) (λ h. (second a b).1 ((first a b).0 h))
+    (λ h. (first a b).1 ((second a b).0 h)) k
 
 pub one_list : FindingsAreOneList
 one_list script delay run lawful model =
     let before : Id → Id → Bool = is_counted (stamps_in script run) in
-    let decides : IsOrder script run before = clocks_decide script delay run lawful (stamps_in script run) (keep_laws script delay run lawful) in (
+    let decides : IsOrder script run before = clocks_decide script delay run lawful (stamps_in script run)
+    (keep_laws script delay run lawful) in (
       findings script run model before,
       (before, decides, refl),
       λ other are. are.2 ∙ ap (findings script run model) (same_order script run are.0 before are.1 decides),

@@ -4,7 +4,8 @@
 #![tactic(auto)]
 
 ghost use Rattle.order_laws.specs.ClockLaws.{ClocksDecide, StampsKeepLaws};
-ghost use Rattle.order_laws.specs.FindingLaws.{FindingsAreOneList, AccessesAscend, ReadsAreNoPair, PartnersAreLeast, EachPairIsFound};
+ghost use Rattle.order_laws.specs.FindingLaws.{FindingsAreOneList, AccessesAscend, ReadsAreNoPair, PartnersAreLeast};
+ghost use Rattle.order_laws.specs.FindingLaws.{EachPairIsFound};
 ghost use Rattle.order_laws.specs.OrderLaws.{IsTransitive, AgreesWithLogs, EdgesAscend, DelaysAreDrawn};
 
 /// The order of a run is transitive. In a lawful run it agrees with the order of each log, and each edge leads to an

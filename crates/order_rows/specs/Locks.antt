@@ -7,7 +7,8 @@ use Rattle.rma_types.specs.declared.findings.Model.TheVariants.{Unified}
 use Rattle.rma_types.specs.declared.findings.Rule.TheVariants.{S1, S2, S3}
 use Rattle.rma_types.specs.declared.scripts.Script.{Script}
 use Rattle.order_rules.specs.Findings.{findings}
-use Rattle.run_rows.specs.Locks.{puts_in_a_lock, flush_between_puts, put_then_get, get_then_put, two_sums, sum_and_max, two_datatypes, sum_and_read, load_without_sync, load_after_sync, store_beside_a_put}
+use Rattle.run_rows.specs.Locks.{puts_in_a_lock, flush_between_puts, put_then_get, get_then_put, two_sums, sum_and_max}
+use Rattle.run_rows.specs.Locks.{two_datatypes, sum_and_read, load_without_sync, load_after_sync, store_beside_a_put}
 use Rattle.run_rows.specs.Scripts.{allocate, lock, pair, plain_run, put, script, unlock}
 use Rattle.order_rows.specs.Judged.{Finds, IsDoneAt, IsVisibleAt, item, order_of}
 

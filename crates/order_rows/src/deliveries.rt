@@ -1,5 +1,6 @@
 //! Accesses that are touched after their calls.
-ghost use Rattle.order_rows.specs.Deliveries.{FindsTheLoadBeforeTheTouch, FindsTheLoadAfterTheTouch, FindsNoneWhereRanksWait};
+ghost use Rattle.order_rows.specs.Deliveries.{FindsTheLoadBeforeTheTouch, FindsTheLoadAfterTheTouch};
+ghost use Rattle.order_rows.specs.Deliveries.{FindsNoneWhereRanksWait};
 
 /// A load after a put in one epoch is a forbidden pair with it, whether the put is touched before the load or after
 /// it. In a run that stands there is no finding of one access (MPI 3.1, section 11.7).

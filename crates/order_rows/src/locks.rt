@@ -1,5 +1,10 @@
 //! Runs with locks.
-ghost use Rattle.order_rows.specs.Locks.{FindsTwoPuts, FindsNoneAfterAFlush, FindsTheGetOfAPut, FindsNoneAfterTheGet, FindsNoneOfSums, FindsOtherOperations, FindsOtherDatatypes, FindsNoneOfAReadBesideASum, FindsTheLoad, FindsNoneAfterASync, FindsTheStore, FindsNoStoreWhereUnified, FindsNoneAfterASharedUnlock, FindsPutsUnderSharedLocks, IsDoneByFlushAndUnlock, IsVisibleAtTheSync, ReachesTheLeaveOfABarrier};
+ghost use Rattle.order_rows.specs.Locks.{FindsTwoPuts, FindsNoneAfterAFlush, FindsTheGetOfAPut, FindsNoneAfterTheGet};
+ghost use Rattle.order_rows.specs.Locks.{FindsNoneOfSums, FindsOtherOperations, FindsOtherDatatypes};
+ghost use Rattle.order_rows.specs.Locks.{FindsNoneOfAReadBesideASum, FindsTheLoad, FindsNoneAfterASync, FindsTheStore};
+ghost use Rattle.order_rows.specs.Locks.{FindsNoStoreWhereUnified, FindsNoneAfterASharedUnlock};
+ghost use Rattle.order_rows.specs.Locks.{FindsPutsUnderSharedLocks, IsDoneByFlushAndUnlock, IsVisibleAtTheSync};
+ghost use Rattle.order_rows.specs.Locks.{ReachesTheLeaveOfABarrier};
 
 /// Two accesses of one rank to one place in one epoch are a forbidden pair, unless the first is done before the
 /// second: a put by a flush, and a get by a local flush too (MPI 3.1, sections 11.5.3, 11.5.4 and 11.7).

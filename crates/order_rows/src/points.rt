@@ -1,5 +1,7 @@
 //! The points of accesses.
-ghost use Rattle.order_rows.specs.Points.{IsDoneInLaterEpochs, IsTakenIn, IsGivenOut, IsVisibleWhereDone, IsDoneAtWaitAndComplete, IsDoneAtWait, IsDoneAtLocalFlush, IsNotDoneAtLocalFlush, IsDoneAtItsRequest};
+ghost use Rattle.order_rows.specs.Points.{IsDoneInLaterEpochs, IsTakenIn, IsGivenOut, IsVisibleWhereDone};
+ghost use Rattle.order_rows.specs.Points.{IsDoneAtWaitAndComplete, IsDoneAtWait, IsDoneAtLocalFlush};
+ghost use Rattle.order_rows.specs.Points.{IsNotDoneAtLocalFlush, IsDoneAtItsRequest};
 
 /// An RMA access is done at flushes and unlocks after it, in later epochs too. A read is done at its complete, at local
 /// flushes and at the end of its request beside, and no update is (MPI 3.1, sections 11.3.5, 11.5 and 11.7).
@@ -12,8 +14,10 @@ pub fn done_points_of_each_kind()
     ensures request { IsDoneAtItsRequest }
 {}
 
-/// An update is visible at synchronisations of the owner of the memory: a put at those that take in, once it is done, and a
-/// store at those that give out. In the unified model it is visible where it is done (MPI 3.1, sections 11.4 and 11.5.4).
+/// An update is visible at synchronisations of the owner of the memory: a put at those that take in, once it is done,
+/// and a
+/// store at those that give out. In the unified model it is visible where it is done (MPI 3.1, sections 11.4 and
+/// 11.5.4).
 pub fn visible_points_of_each_kind()
     ensures put { IsTakenIn }
     ensures store { IsGivenOut }

@@ -5,14 +5,17 @@ use Rattle.std.specs.Option.{option_map_or}
 use Rattle.rma_types.specs.declared.accesses.Id.{Id}
 use Rattle.rma_types.specs.declared.scripts.Script.{Script}
 use Rattle.rma_record.specs.declared.runs.Run.{Run}
-use Rattle.call_rules.specs.Actions.{Action, Creates, Frees, Attaches, Detaches, Synchronises, Meets, Moves, EndsRequest, Synchronisation, Fences, Posts, Starts, Completes, Waits, Locks, Unlocks, Flushes, Syncs, action_of, synchronisation_of}
+use Rattle.call_rules.specs.Actions.{Action, Creates, Frees, Attaches, Detaches, Synchronises, Meets, Moves}
+use Rattle.call_rules.specs.Actions.{EndsRequest, Synchronisation, Fences, Posts, Starts, Completes, Waits, Locks}
+use Rattle.call_rules.specs.Actions.{Unlocks, Flushes, Syncs, action_of, synchronisation_of}
 use Rattle.rank_rules.specs.Epochs.{AccessEpoch, Idle, FenceUnused, FenceUsed, StartTo, LocksAt, LockAll}
 use Rattle.rank_rules.specs.declared.pending.PendingAccess.{PendingAccess}
 use Rattle.rank_rules.specs.Pending.{is_towards, is_requested_by}
 use Rattle.board_rules.specs.Entries.{Fence, is_arrive, is_collective}
 use Rattle.board_rules.specs.Posts.{is_complete}
 use Rattle.order_rules.specs.Before.{NamedEvent, leads_to, events_in}
-use Rattle.order_rules.specs.CallSteps.{CallStep, IssuedAccess, steps_in, accesses_named, is_later_at_origin, is_later_on_window}
+use Rattle.order_rules.specs.CallSteps.{CallStep, IssuedAccess, steps_in, accesses_named, is_later_at_origin}
+use Rattle.order_rules.specs.CallSteps.{is_later_on_window}
 use Rattle.order_rules.specs.Roles.{is_rma_read, role_of}
 
 -- the entries of a run and the steps of its calls, among which points are looked for

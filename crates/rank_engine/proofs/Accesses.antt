@@ -1,5 +1,6 @@
 -- An access that lies in memory lies in the cells of the layout.
-use Rattle.std.proofs.Common.{◌≡◌, ℕ, zero, suc, ◌+◌, ◌*◌, ◌/◌, ◌<◌, ◌≤◌, List, [], ◌∷◌, Option, Some, sym, subst, arith}
+use Rattle.std.proofs.Common.{◌≡◌, ℕ, zero, suc, ◌+◌, ◌*◌, ◌/◌, ◌<◌, ◌≤◌, List, [], ◌∷◌, Option, Some, sym, subst}
+use Rattle.std.proofs.Common.{arith}
 use Rattle.std.specs.Prelude.{◌^◌}
 use Rattle.std.specs.List.{sum_by}
 use Rattle.std.specs.Option.{option_map_or}
@@ -64,7 +65,8 @@ cells_are_few script formed =
 
 pub bytes_are_few : (script : Script) → IsWellFormed script → (rank : ℕ) → bytes_at (layout script) rank ≤ 65536
 bytes_are_few script formed rank =
-    within (bytes_at (layout script) rank) (memory_of script) (few_bytes_in (ranks_of script) 0 rank) formed.limits.memory
+    within (bytes_at (layout script) rank) (memory_of script) (few_bytes_in (ranks_of script) 0 rank)
+    formed.limits.memory
   where
     within : (a b : ℕ) → a ≤ b → b ≤ 65536 → a ≤ 65536
     within a b h k = omega arith
@@ -89,7 +91,8 @@ lies_within script access call t formed moves long lies element below =
     let address : ℕ = access.lo + element * size_of t.dtype in
     let ends : address < access.lo + access.len =
     subst (λ n. address < access.lo + n) (sym long) (before_end t.dtype access.lo element (natural t.count) count) in
-    let inside = byte_is_inside script access.target address (lies.inside address (from access.lo (element * size_of t.dtype)) ends) in
+    let inside = byte_is_inside script access.target address
+    (lies.inside address (from access.lo (element * size_of t.dtype)) ends) in
     subst (λ (o : Option Transfer). let piece = piece_at (layout script) access.target
     (access.lo + element * option_map_or (λ (x : Transfer). size_of x.dtype) o 1) in
     (piece.cell < cells_of (layout script)) × (piece.cell < 2 ^ 32)) (sym moves)

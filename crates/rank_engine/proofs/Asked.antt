@@ -1,20 +1,29 @@
 -- A call that passed its rank's own tests may be asked of the board.
-use Rattle.std.proofs.Common.{◌≡◌, ℕ, ◌+◌, ◌<◌, ◌≤◌, Bool, true, false, cond, List, Some, None, refl, sym, ◌∙◌, ap, subst, arith}
+use Rattle.std.proofs.Common.{◌≡◌, ℕ, ◌+◌, ◌<◌, ◌≤◌, Bool, true, false, cond, List, Some, None, refl, sym, ◌∙◌, ap}
+use Rattle.std.proofs.Common.{subst, arith}
 use Rattle.std.specs.Prelude.{ℤ, pos, negsuc, int_lt, is_some}
 use Rattle.std.proofs.lemmas.Bool.{ltb-false}
 use Rattle.rma_types.specs.declared.accesses.Step.{Step}
 use Rattle.rma_types.specs.declared.accesses.Step.TheVariants.{Arrive, Leave, One}
 use Rattle.rma_types.specs.declared.calls.Call.{Call}
-use Rattle.rma_types.specs.declared.calls.Call.TheVariants.{Allocate, Create, Dynamic, Free, Attach, Detach, Fence, Post, Start, Complete, WaitWin, TestWin, LockOne, Unlock, LockAll, UnlockAll, Flush, FlushAll, FlushLocal, FlushLocalAll, Sync, Barrier, Put, Get, Acc, GetAcc, Fop, Cas, Load, Store, WaitReq, TestReq}
+use Rattle.rma_types.specs.declared.calls.Call.TheVariants.{Allocate, Create, Dynamic, Free, Attach, Detach, Fence}
+use Rattle.rma_types.specs.declared.calls.Call.TheVariants.{Post, Start, Complete, WaitWin, TestWin, LockOne, Unlock}
+use Rattle.rma_types.specs.declared.calls.Call.TheVariants.{LockAll, UnlockAll, Flush, FlushAll, FlushLocal}
+use Rattle.rma_types.specs.declared.calls.Call.TheVariants.{FlushLocalAll, Sync, Barrier, Put, Get, Acc, GetAcc, Fop}
+use Rattle.rma_types.specs.declared.calls.Call.TheVariants.{Cas, Load, Store, WaitReq, TestReq}
 use Rattle.rma_types.specs.declared.calls.Flavor.TheVariants.{Create as CreateFlavor}
 use Rattle.rma_types.specs.declared.scripts.Script.{Script}
 use Rattle.board_rules.specs.Entries.{collective_in, collective_of}
-use Rattle.call_rules.specs.Actions.{Action, Creates, Frees, Attaches, Detaches, Synchronises, Meets, Moves, EndsRequest, Synchronisation, Fences, Posts, Starts, Completes, Waits, Locks, Unlocks, Flushes, Syncs, Transfer, Target, Own, Null, Named, action_of}
+use Rattle.call_rules.specs.Actions.{Action, Creates, Frees, Attaches, Detaches, Synchronises, Meets, Moves}
+use Rattle.call_rules.specs.Actions.{EndsRequest, Synchronisation, Fences, Posts, Starts, Completes, Waits, Locks}
+use Rattle.call_rules.specs.Actions.{Unlocks, Flushes, Syncs, Transfer, Target, Own, Null, Named, action_of}
 use Rattle.call_rules.specs.Layout.{layout}
 use Rattle.call_rules.specs.Ranks.{natural}
 use Rattle.call_rules.specs.WellFormed.{IsWellFormed}
 use Rattle.lawful_runs.specs.Logs.{calls_of}
-use Rattle.rank_rules.specs.Courses.{Course, OneNull, OneIssue, LookUpAndIssue, OneFlush, OneRequest, ArriveAndLeave, EntryOrTested, OneEntry, course_of, course_of_action, course_of_synchronisation, course_of_transfer}
+use Rattle.rank_rules.specs.Courses.{Course, OneNull, OneIssue, LookUpAndIssue, OneFlush, OneRequest, ArriveAndLeave}
+use Rattle.rank_rules.specs.Courses.{EntryOrTested, OneEntry, course_of, course_of_action, course_of_synchronisation}
+use Rattle.rank_rules.specs.Courses.{course_of_transfer}
 use Rattle.rank_rules.specs.Epochs.{Epochs}
 use Rattle.rank_rules.specs.EpochTests.{epoch_class, epoch_tests}
 use Rattle.rank_rules.specs.Windows.{RankWindows}

@@ -1,5 +1,6 @@
 -- What a rank does in a step: where a call begins, where one was looked up, and where an access is at hand.
-use Rattle.std.proofs.Common.{◌≡◌, ℕ, ◌-◌, ◌<◌, true, false, cond, length, Option, Some, None, refl, sym, ◌∙◌, ap, subst}
+use Rattle.std.proofs.Common.{◌≡◌, ℕ, ◌-◌, ◌<◌, true, false, cond, length, Option, Some, None, refl, sym, ◌∙◌, ap}
+use Rattle.std.proofs.Common.{subst}
 use Rattle.std.specs.Prelude.{IfSome, is_none, is_some}
 use Rattle.std.specs.Option.{option_map_or}
 use Rattle.rma_types.specs.declared.calls.Call.{Call}

@@ -1,5 +1,6 @@
 -- The delivery of a pending access: what it asks, and what it leaves.
-use Rattle.std.proofs.Common.{◌≡◌, ℕ, zero, suc, ◌+◌, ◌-◌, ◌<◌, ◌≤◌, Bool, true, false, cond, List, [], ◌∷◌, ◌++◌, length, Some, refl, sym, ◌∙◌, ap, subst, arith}
+use Rattle.std.proofs.Common.{◌≡◌, ℕ, zero, suc, ◌+◌, ◌-◌, ◌<◌, ◌≤◌, Bool, true, false, cond, List, [], ◌∷◌, ◌++◌}
+use Rattle.std.proofs.Common.{length, Some, refl, sym, ◌∙◌, ap, subst, arith}
 use Rattle.std.specs.Prelude.{IsTrue, drop, map, remove, slice_get, slice_index, slice_set, ℤ, pos, negsuc}
 use Rattle.std.specs.List.{flat_map, sum_by}
 use Rattle.std.specs.Option.{option_map_or}
@@ -12,7 +13,8 @@ use Rattle.rma_record.specs.declared.items.Item.{Item}
 use Rattle.access_steps.specs.Plans.{element_count, is_update}
 use Rattle.access_steps.specs.TouchesMade.{MadeTouch, item_of}
 use Rattle.board_rules.specs.Entries.{creations}
-use Rattle.call_rules.specs.Actions.{Action, Creates, Frees, Attaches, Detaches, Synchronises, Meets, Moves, EndsRequest, Transfer, action_of, transfer_in}
+use Rattle.call_rules.specs.Actions.{Action, Creates, Frees, Attaches, Detaches, Synchronises, Meets, Moves}
+use Rattle.call_rules.specs.Actions.{EndsRequest, Transfer, action_of, transfer_in}
 use Rattle.call_rules.specs.declared.cells.Cell.{Cell}
 use Rattle.call_rules.specs.Ranks.{natural}
 use Rattle.call_rules.specs.WellFormed.{IsUpTo, IsWrittenAction}
@@ -87,7 +89,8 @@ left_at : (calls : List Call) (pending : List PendingAccess) (touched : List ℕ
 left_at calls [] touched at one here = absurd (cc here)
 left_at calls (other ∷ pending) [] zero one here =
     let same : other ≡ one = cc here in
-    subst (λ (p : PendingAccess). updates_by calls p ≤ 0 + (updates_by calls other + updates_left calls pending [])) same
+    subst (λ (p : PendingAccess). updates_by calls p ≤ 0 + (updates_by calls other + updates_left calls pending []))
+    same
     (omega arith)
 left_at calls (other ∷ pending) [] (suc at) one here =
     let rest = left_at calls pending [] at one here in
@@ -166,7 +169,8 @@ deliverable s at face sound room free first = record {
 
 pub delivered_sound : (s : RankState) (q : Queue) (at : ℕ) (done : Bool) (log : List Item) (face face_after : Face)
     (knows : ℕ → Cell → Type 0) (free : ℕ) (home : List ℕ) → IsSound s →
-    Delivers (queue_of s) q at done s.stage.layout (calls_at s.stage s.agent.rank) face face_after knows s.agent.log log →
+    Delivers (queue_of s) q at done s.stage.layout (calls_at s.stage s.agent.rank) face face_after knows s.agent.log log
+    →
     at < length s.agent.pending →
     IsSound (record {
       stage = s.stage;
@@ -201,7 +205,8 @@ delivered_sound s q at done log face face_after knows free home sound d within =
     rows : flat_map (row_by s.stage.script s.agent.rank) log ≡ own_rows s.stage s.agent
     rows =
         ap (flat_map (row_by s.stage.script s.agent.rank)) d.touches.items
-        ∙ (flat_map-append (row_by s.stage.script s.agent.rank) s.agent.log (map (item_of d.one.index) d.touches.touches)
+        ∙ (flat_map-append (row_by s.stage.script s.agent.rank) s.agent.log
+        (map (item_of d.one.index) d.touches.touches)
         ∙ (ap (λ r. own_rows s.stage s.agent ++ r)
         (touch_rows s.stage.script s.agent.rank d.one.index d.touches.touches)
         ∙ append-nil (own_rows s.stage s.agent)))
@@ -213,7 +218,8 @@ delivered_sound s q at done log face face_after knows free home sound d within =
     next_pending =
         let one_is : d.one ≡ here.one = cc (d.here, here.here) in
         let named : slice_get (calls_at s.stage s.agent.rank) here.one.number ≡ Some d.call =
-        subst (λ (p : PendingAccess). slice_get (calls_at s.stage s.agent.rank) p.number ≡ Some d.call) one_is d.named in
+        subst (λ (p : PendingAccess). slice_get (calls_at s.stage s.agent.rank) p.number ≡ Some d.call) one_is d.named
+        in
         let call_is : d.call ≡ here.is.call = cc (named, here.is.named) in
         record {
           call = here.is.call;
@@ -229,7 +235,8 @@ delivered_sound s q at done log face face_after knows free home sound d within =
       rank = sound.rank;
       windows = sound.windows;
       begun = sound.begun;
-      pending = pending_removed s.stage.layout (calls_at s.stage s.agent.rank) s.agent.pending s.touched at sound.pending;
+      pending = pending_removed s.stage.layout (calls_at s.stage s.agent.rank) s.agent.pending s.touched at
+          sound.pending;
       few = λ delay. short (length (remove s.agent.pending at)) (length s.agent.pending)
           (fewer s.agent.pending at) (sound.few delay);
       numbers = λ win. ap (λ r. creations r s.agent.rank win) rows ∙ sound.numbers win;

@@ -1,5 +1,6 @@
 -- A rank that ends a call without an entry, or a call before its first entry, stays sound.
-use Rattle.std.proofs.Common.{◌≡◌, ℕ, ◌+◌, ◌≤◌, Bool, false, List, [], ◌∷◌, ◌++◌, length, sym, ◌∙◌, ap, subst, arith, length-append}
+use Rattle.std.proofs.Common.{◌≡◌, ℕ, ◌+◌, ◌≤◌, Bool, false, List, [], ◌∷◌, ◌++◌, length, sym, ◌∙◌, ap, subst, arith}
+use Rattle.std.proofs.Common.{length-append}
 use Rattle.std.specs.Prelude.{◌==◌}
 use Rattle.std.specs.List.{count_by, flat_map}
 use Rattle.std.proofs.lemmas.Grind.{flat_map-append}
@@ -58,7 +59,8 @@ pub ended_sound : (s : RankState) (item : Item) (log : List Item) (epochs : List
       free = free;
       home = home;
     })
-ended_sound s item log epochs requests at entered drawn draws pending ended touched free home sound begun new none e waits
+ended_sound s item log epochs requests at entered drawn draws pending ended touched free home sound begun new none e
+    waits
     few = record {
       formed = sound.formed;
       layout = sound.layout;

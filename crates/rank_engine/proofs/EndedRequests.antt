@@ -4,9 +4,12 @@ use Rattle.std.specs.Prelude.{◌<◌}
 use Rattle.std.proofs.lemmas.Bool.{not-false}
 use Rattle.rma_types.specs.declared.calls.Call.{Call}
 use Rattle.rma_types.specs.declared.classes.Class.TheVariants.{Request}
-use Rattle.call_rules.specs.Actions.{Action, Creates, Frees, Attaches, Detaches, Synchronises, Meets, Moves, EndsRequest, Synchronisation, Fences, Posts, Starts, Completes, Waits, Locks, Unlocks, Flushes, Syncs, Transfer, Target, Own, Null, Named, action_of}
+use Rattle.call_rules.specs.Actions.{Action, Creates, Frees, Attaches, Detaches, Synchronises, Meets, Moves}
+use Rattle.call_rules.specs.Actions.{EndsRequest, Synchronisation, Fences, Posts, Starts, Completes, Waits, Locks}
+use Rattle.call_rules.specs.Actions.{Unlocks, Flushes, Syncs, Transfer, Target, Own, Null, Named, action_of}
 use Rattle.call_rules.specs.WellFormed.{IsWrittenAction, IsWrittenCall}
-use Rattle.rank_rules.specs.Courses.{OneIssue, LookUpAndIssue, OneRequest, EntryOrTested, OneEntry, course_of, course_of_action, course_of_synchronisation, course_of_transfer, is_dynamic}
+use Rattle.rank_rules.specs.Courses.{OneIssue, LookUpAndIssue, OneRequest, EntryOrTested, OneEntry, course_of}
+use Rattle.rank_rules.specs.Courses.{course_of_action, course_of_synchronisation, course_of_transfer, is_dynamic}
 use Rattle.rank_rules.specs.Knowledge.{Knowledge, known_after_call, own_class}
 use Rattle.rank_rules.specs.Requests.{is_live_request, request_class, without_request}
 use Rattle.rank_rules.specs.Windows.{RankWindows}
@@ -29,7 +32,8 @@ ends_it (EndsRequest name) req e = let same : name ≡ req = cc e in ap EndsRequ
 pub ended_knows : (known : Knowledge) (number : ℕ) (call : Call) (req : ℕ) → request_ended (action_of call) ≡ Some req →
     known_after_call no_shapes known number call ≡
     record known { requests = without_request known.requests req }
-ended_knows known number call req e = let is : action_of call ≡ EndsRequest req = ends_it (action_of call) req e in rw is refl
+ended_knows known number call req e = let is : action_of call ≡ EndsRequest req = ends_it (action_of call) req e in rw
+    is refl
 
 no_wait : (tests : Bool) → cond tests EntryOrTested OneEntry ≡ OneRequest → ⊥
 no_wait true e = cc e
@@ -37,10 +41,13 @@ no_wait false e = cc e
 
 no_issue : (known : RankWindows) (t : Transfer) (target : Target) → t.target ≡ target →
     course_of_transfer known t ≡ OneRequest → ⊥
-no_issue known t Own is e = let h = subst (λ (x : Target). course_of_transfer known (record t { target = x }) ≡ OneRequest) is e in cc h
-no_issue known t Null is e = let h = subst (λ (x : Target). course_of_transfer known (record t { target = x }) ≡ OneRequest) is e in cc h
+no_issue known t Own is e = let h = subst
+    (λ (x : Target). course_of_transfer known (record t { target = x }) ≡ OneRequest) is e in cc h
+no_issue known t Null is e = let h = subst
+    (λ (x : Target). course_of_transfer known (record t { target = x }) ≡ OneRequest) is e in cc h
 no_issue known t (Named rank) is e =
-    by_window (is_dynamic known t) (subst (λ (x : Target). course_of_transfer known (record t { target = x }) ≡ OneRequest) is e)
+    by_window (is_dynamic known t) (subst
+    (λ (x : Target). course_of_transfer known (record t { target = x }) ≡ OneRequest) is e)
   where
     by_window : (b : Bool) → cond b LookUpAndIssue OneIssue ≡ OneRequest → ⊥
     by_window true h = cc h

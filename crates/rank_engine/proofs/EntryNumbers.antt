@@ -1,5 +1,6 @@
 -- A rank that puts one entry more has numbered its windows as the board does.
-use Rattle.std.proofs.Common.{◌≡◌, ℕ, ◌+◌, ◌-◌, Bool, true, false, cond, List, [], ◌∷◌, ◌++◌, Option, Some, None, refl, sym, ◌∙◌, ap, subst, arith}
+use Rattle.std.proofs.Common.{◌≡◌, ℕ, ◌+◌, ◌-◌, Bool, true, false, cond, List, [], ◌∷◌, ◌++◌, Option, Some, None, refl}
+use Rattle.std.proofs.Common.{sym, ◌∙◌, ap, subst, arith}
 use Rattle.std.specs.Prelude.{◌==◌, ◌&&◌, is_some, map}
 use Rattle.std.specs.List.{count_by, find, flat_map}
 use Rattle.std.specs.Option.{option_map_or}
@@ -13,7 +14,8 @@ use Rattle.rma_types.specs.declared.scripts.Layout.{Layout}
 use Rattle.rma_types.specs.declared.scripts.Part.{Part}
 use Rattle.rma_record.specs.declared.items.Item.{Item}
 use Rattle.rma_record.specs.declared.items.Item.TheVariants.{Entry}
-use Rattle.board_rules.specs.Entries.{Act, Row, acts, begins_window, creations, is_arrive, is_by_on, is_creation, names_window, window_of}
+use Rattle.board_rules.specs.Entries.{Act, Row, acts, begins_window, creations, is_arrive, is_by_on, is_creation}
+use Rattle.board_rules.specs.Entries.{names_window, window_of}
 use Rattle.board_rules.specs.Shapes.{part_brought, part_in, parts_of}
 use Rattle.call_rules.specs.Actions.{Creation, creation_of, window_in_action}
 use Rattle.call_rules.specs.Pieces.{numbers_from}
@@ -23,7 +25,7 @@ use Rattle.rank_rules.specs.Courses.{LookUpAndIssue, course_of}
 use Rattle.rank_rules.specs.Windows.{RankWindows, next_number, no_part, window_number}
 use Rattle.step_laws.proofs.CallCourses.{transfer_makes_none}
 use Rattle.step_laws.proofs.Creations.{creates_it}
-use Rattle.step_laws.proofs.Flavors.{act_after, acts_push, begins_by, creations_push, names_it}
+use Rattle.step_laws.proofs.EntryNumbers.{act_after, acts_push, begins_by, creations_push, names_it}
 use Rattle.step_laws.proofs.OwnTests.{HasIssue, transfer_with_issue}
 use Rattle.step_laws.proofs.Sound.{name_made, no_more_creations}
 use Rattle.step_laws.specs.Inside.{begun_names, names_so_far}

@@ -1,5 +1,6 @@
 -- What a rank is after an entry, as code leaves it.
-use Rattle.std.proofs.Common.{◌≡◌, ℕ, ◌+◌, ◌≤◌, Bool, true, false, List, [], ◌∷◌, ◌++◌, length, Option, Some, None, refl, sym, ◌∙◌, ap, subst}
+use Rattle.std.proofs.Common.{◌≡◌, ℕ, ◌+◌, ◌≤◌, Bool, true, false, List, [], ◌∷◌, ◌++◌, length, Option, Some, None}
+use Rattle.std.proofs.Common.{refl, sym, ◌∙◌, ap, subst}
 use Rattle.std.specs.Prelude.{is_none}
 use Rattle.rma_types.specs.declared.accesses.Step.{Step}
 use Rattle.rma_types.specs.declared.accesses.Step.TheVariants.{Arrive, Leave, One}
@@ -12,10 +13,12 @@ use Rattle.board_rules.specs.Board.{Refuse, decide, decision_by}
 use Rattle.board_rules.specs.Questions.{question}
 use Rattle.board_rules.specs.Rounds.{all_arrived}
 use Rattle.board_rules.specs.Entries.{Row}
-use Rattle.call_rules.specs.Actions.{Action, Creates, Frees, Attaches, Detaches, Synchronises, Meets, Moves, EndsRequest, Transfer, action_of, transfer_in, transfer_of}
+use Rattle.call_rules.specs.Actions.{Action, Creates, Frees, Attaches, Detaches, Synchronises, Meets, Moves}
+use Rattle.call_rules.specs.Actions.{EndsRequest, Transfer, action_of, transfer_in, transfer_of}
 use Rattle.cell_face.specs.Faces.{Face}
 use Rattle.lawful_runs.specs.Stages.{calls_at, shapes_in}
-use Rattle.rank_rules.specs.Courses.{Course, OneNull, OneIssue, LookUpAndIssue, OneFlush, OneRequest, ArriveAndLeave, EntryOrTested, OneEntry, course_of, course_of_action}
+use Rattle.rank_rules.specs.Courses.{Course, OneNull, OneIssue, LookUpAndIssue, OneFlush, OneRequest, ArriveAndLeave}
+use Rattle.rank_rules.specs.Courses.{EntryOrTested, OneEntry, course_of, course_of_action}
 use Rattle.rank_rules.specs.Epochs.{Epochs, epochs_after}
 use Rattle.rank_rules.specs.Knowledge.{Knowledge, ends_call, learn}
 use Rattle.rank_rules.specs.Requests.{Requests, requests_after}
@@ -26,11 +29,12 @@ use Rattle.step_runs.specs.Agents.{Agent, finished, opened}
 use Rattle.step_runs.specs.BoardSteps.{enter, entered, next_row}
 use Rattle.sync_board.specs.Boards.{BoardState, rows_on}
 use Rattle.window_regions.specs.declared.window.Shape.{Shape}
-use Rattle.rank_engine.proofs.EntrySound.{Makes, closing_parts}
+use Rattle.rank_engine.proofs.EntryParts.{Makes, closing_parts}
 use Rattle.rank_engine.proofs.EntrySteps.{ahead_less, ahead_same, as_many, put_turn, refused_turn, waiting_turn}
 use Rattle.rank_engine.specs.Moves.{IsMove}
 use Rattle.step_runs.specs.DataSteps.{with_item, without_delivery}
-use Rattle.rank_engine.specs.Entering.{IsAnswered, IsClosing, IsHandedOver, IsOneEntry, IsOpening, IsPut, IsReady, IsTurn}
+use Rattle.rank_engine.specs.Entering.{IsAnswered, IsClosing, IsHandedOver, IsOneEntry, IsOpening, IsPut, IsReady}
+use Rattle.rank_engine.specs.Entering.{IsTurn}
 use Rattle.rank_engine.specs.Learning.{HasParts}
 use Rattle.rank_engine.specs.RankStates.{RankState}
 use Rattle.rank_engine.specs.Sound.{IsSound}

@@ -1,5 +1,6 @@
 -- The move of an Issue, with the place of its access in the queue where it is touched at once.
-use Rattle.std.proofs.Common.{◌≡◌, ℕ, ◌+◌, ◌-◌, ◌≤◌, Bool, true, false, cond, List, [], ◌∷◌, ◌++◌, length, Option, Some, None, refl, sym, ◌∙◌, ap, subst, arith, length-append}
+use Rattle.std.proofs.Common.{◌≡◌, ℕ, ◌+◌, ◌-◌, ◌≤◌, Bool, true, false, cond, List, [], ◌∷◌, ◌++◌, length, Option, Some}
+use Rattle.std.proofs.Common.{None, refl, sym, ◌∙◌, ap, subst, arith, length-append}
 use Rattle.std.specs.Prelude.{◌==◌, ◌&&◌, nat_lt, slice_get, IfSome}
 use Rattle.std.specs.Option.{option_and_then, option_map_or}
 use Rattle.std.proofs.lemmas.Bool.{and_parts, lt-ltb, le-ltb}
@@ -90,7 +91,8 @@ issue_delivers before after call access place made is now at hand =
     let rank = subst (λ (o : Option Transfer). IfSome o (λ x. after ≡ record
     (moves_to before (without_delivery (with_issue before.stage before.agent access x))) { free = after.free }))
     some.1 made.rank in
-    let long : nat_lt 0 access.len ≡ true = (and_parts (nat_lt 0 access.len) (is_at_once before.stage.delay access) now).0 in
+    let long : nat_lt 0 access.len ≡ true =
+    (and_parts (nat_lt 0 access.len) (is_at_once before.stage.delay access) now).0 in
     let once : is_at_once before.stage.delay access ≡ true =
     (and_parts (nat_lt 0 access.len) (is_at_once before.stage.delay access) now).1 in
     let waits : after.agent.pending ≡ before.agent.pending ++ made_pending one =
@@ -105,7 +107,8 @@ issue_delivers before after call access place made is now at hand =
     let few : (before.stage.delay ≡ NoDelay → length after.agent.pending ≤ 1) =
     λ delay. subst (λ (p : List PendingAccess). length p ≤ 1) (sym waits)
     (few_made before.stage.delay before.agent.pending one hand delay) in
-    subst (λ (move : Move). IsMove before after move (Some place)) (sym (issue_by before call access t some.1 is)) (record {
+    subst (λ (move : Move). IsMove before after move (Some place)) (sym (issue_by before call access t some.1 is))
+    (record {
       rank = rank;
       place_is = ap Some at
           ∙ sym (placed_some before.agent.pending one (nat_lt 0 access.len) (is_at_once before.stage.delay access) now);

@@ -1,5 +1,6 @@
 -- An access that is issued: it lies in memory, is pending from then on, and the rank stays sound.
-use Rattle.std.proofs.Common.{◌≡◌, ℕ, ◌+◌, ◌<◌, ◌≤◌, ◌⊎◌, inl, inr, Bool, true, false, cond, List, [], ◌∷◌, ◌++◌, length, Option, Some, None, refl, sym, ◌∙◌, ap, subst, arith}
+use Rattle.std.proofs.Common.{◌≡◌, ℕ, ◌+◌, ◌<◌, ◌≤◌, ◌⊎◌, inl, inr, Bool, true, false, cond, List, [], ◌∷◌, ◌++◌}
+use Rattle.std.proofs.Common.{length, Option, Some, None, refl, sym, ◌∙◌, ap, subst, arith}
 use Rattle.std.specs.Prelude.{◌%◌, IfSome, IsSomeAnd, map, slice_get, nat_lt}
 use Rattle.std.proofs.lemmas.List.{append-nil}
 use Rattle.rma_types.specs.declared.accesses.Access.{Access}
@@ -122,7 +123,8 @@ issued_pending script known calls call one formed written here access lies = by_
           named = here;
           its = (
             written,
-            subst (λ (o : Option Transfer). IsSomeAnd o (λ (x : Transfer). (one.access.kind ≡ x.kind) × (one.access.len ≡ bytes_of x)
+            subst (λ (o : Option Transfer). IsSomeAnd o (λ (x : Transfer). (one.access.kind ≡ x.kind)
+                × (one.access.len ≡ bytes_of x)
                 × (one.access.lo % size_of x.dtype ≡ 0))) (sym moves)
                 (ap (λ (a : Access). a.kind) is, ap (λ (a : Access). a.len) is, lies.aligned),
             lies_within script one.access call t formed moves (ap (λ (a : Access). a.len) is) lies,
@@ -223,17 +225,20 @@ pub issue_sound : (s : RankState) (call : Call) (access : Access) (one : Pending
     })
 issue_sound s call access one log epochs requests at drawn draws pending ended touched free home sound written here is
     lies hand number same kept waits touches =
-    ended_sound s (Issue s.agent.at access) log epochs requests at false drawn draws pending ended touched free home sound
+    ended_sound s (Issue s.agent.at access) log epochs requests at false drawn draws pending ended touched free home
+    sound
     (begun_none s.stage s.agent call here (moves_some s.agent.known.windows call access is)) refl refl kept
     (subst (λ p. ArePending s.stage.layout (calls_at s.stage s.agent.rank) p touched) (sym waits)
-    (subst (ArePending s.stage.layout (calls_at s.stage s.agent.rank) (s.agent.pending ++ made_pending one)) (sym touches)
+    (subst (ArePending s.stage.layout (calls_at s.stage s.agent.rank) (s.agent.pending ++ made_pending one))
+    (sym touches)
     (pending_more s.stage.layout (calls_at s.stage s.agent.rank) s.agent.pending s.touched one sound.pending new)))
     (λ delay. subst (λ (p : List PendingAccess). length p ≤ 1) (sym waits)
     (few_made s.stage.delay s.agent.pending one hand delay))
   where
     new : IsPending s.stage.layout (calls_at s.stage s.agent.rank) one 0
     new = subst (λ (l : Layout). IsPending l (calls_at s.stage s.agent.rank) one 0) (sym sound.layout)
-        (issued_pending s.stage.script s.agent.known.windows (calls_at s.stage s.agent.rank) call one sound.formed written
+        (issued_pending s.stage.script s.agent.known.windows (calls_at s.stage s.agent.rank) call one sound.formed
+        written
         (subst (λ n. slice_get (calls_at s.stage s.agent.rank) n ≡ Some call) (sym number) here)
         (is ∙ ap Some (sym same))
         (subst (λ (l : Layout). IfSome (transfer_of call) (IsLookedUp l s.agent.known.windows)) sound.layout lies))

@@ -1,5 +1,6 @@
 -- What a move of a rank adds to its log and to its pending accesses, and what it leaves of the updates ahead.
-use Rattle.std.proofs.Common.{◌≡◌, ℕ, zero, suc, ◌+◌, ◌-◌, ◌≤◌, ◌⊎◌, inl, inr, Bool, true, false, cond, List, [], ◌∷◌, ◌++◌, length, drop, Option, Some, None, refl, sym, ◌∙◌, ap, subst, arith, length-append}
+use Rattle.std.proofs.Common.{◌≡◌, ℕ, zero, suc, ◌+◌, ◌-◌, ◌≤◌, ◌⊎◌, inl, inr, Bool, true, false, cond, List, [], ◌∷◌}
+use Rattle.std.proofs.Common.{◌++◌, length, drop, Option, Some, None, refl, sym, ◌∙◌, ap, subst, arith, length-append}
 use Rattle.std.specs.Prelude.{map, nat_lt, slice_get}
 use Rattle.std.specs.List.{sum_by, AllByRecursion}
 use Rattle.std.specs.Option.{option_map_or}
@@ -14,12 +15,14 @@ use Rattle.rma_record.specs.declared.items.Item.{Item}
 use Rattle.rma_record.specs.declared.items.Item.TheVariants.{Issue, Null, Flush, Request, Refused, Ended}
 use Rattle.call_rules.specs.Actions.{Transfer, transfer_of}
 use Rattle.lawful_runs.specs.Stages.{Stage, calls_at}
-use Rattle.rank_rules.specs.Courses.{Course, OneNull, OneIssue, LookUpAndIssue, OneFlush, OneRequest, ArriveAndLeave, EntryOrTested, OneEntry, access_of, course_of}
+use Rattle.rank_rules.specs.Courses.{Course, OneNull, OneIssue, LookUpAndIssue, OneFlush, OneRequest, ArriveAndLeave}
+use Rattle.rank_rules.specs.Courses.{EntryOrTested, OneEntry, access_of, course_of}
 use Rattle.rank_rules.specs.Knowledge.{own_class}
 use Rattle.rank_rules.specs.Pending.{made_pending}
 use Rattle.rank_rules.specs.declared.pending.PendingAccess.{PendingAccess}
 use Rattle.step_runs.specs.Agents.{Agent, awaited_by, has_pending, kept, must_draw, next_call}
-use Rattle.step_runs.specs.DataSteps.{Move, begin, draw, end, first_item, go_on, is_at_once, issue, issue_of, judge, just_delivers, move_of, no_shapes, wait_or_go_on, with_item, without_delivery}
+use Rattle.step_runs.specs.DataSteps.{Move, begin, draw, end, first_item, go_on, is_at_once, issue, issue_of, judge}
+use Rattle.step_runs.specs.DataSteps.{just_delivers, move_of, no_shapes, wait_or_go_on, with_item, without_delivery}
 use Rattle.rank_engine.proofs.MovesMade.{nothing_touched}
 use Rattle.rank_engine.specs.RankStates.{RankState, is_at_hand, moves_to, own_move}
 use Rattle.rank_engine.specs.Shares.{updates_ahead, updates_by, updates_left, updates_of}
@@ -248,8 +251,10 @@ move_ahead s move sound (inr finishes) =
     let left : ℕ = updates_left calls s.agent.pending s.touched in
     let due : ℕ = updates_left calls made (map (λ (_ : PendingAccess). 0) made) in
     let later : ℕ = sum_by updates_of (drop (s.agent.at + 1) calls) in
-    let parts : updates_left calls (s.agent.pending ++ made) (s.touched ++ map (λ (_ : PendingAccess). 0) made) ≡ left + due =
-    left_append s.stage.layout calls s.agent.pending made s.touched (map (λ (_ : PendingAccess). 0) made) sound.pending in
+    let parts : updates_left calls (s.agent.pending ++ made) (s.touched ++ map (λ (_ : PendingAccess). 0) made) ≡ left +
+    due =
+    left_append s.stage.layout calls s.agent.pending made s.touched (map (λ (_ : PendingAccess). 0) made) sound.pending
+    in
     let is : updates_ahead (moves_to s move) ≡ later + (left + due) =
     ahead_is s move (s.agent.at + 1) (s.agent.pending ++ made) finishes.rank finishes.at finishes.pending
     ∙ (ap (λ l. ahead_by s.stage s.agent.rank (s.agent.at + 1) (s.agent.pending ++ made)

@@ -1,5 +1,6 @@
 -- Moves that only name an access to be delivered, or nothing.
-use Rattle.std.proofs.Common.{◌≡◌, ℕ, zero, suc, ◌+◌, ◌<◌, ◌≤◌, Bool, true, false, cond, not, List, [], ◌∷◌, ◌++◌, length, drop, Option, Some, None, refl, sym, ◌∙◌, ap, subst, arith}
+use Rattle.std.proofs.Common.{◌≡◌, ℕ, zero, suc, ◌+◌, ◌<◌, ◌≤◌, Bool, true, false, cond, not, List, [], ◌∷◌, ◌++◌}
+use Rattle.std.proofs.Common.{length, drop, Option, Some, None, refl, sym, ◌∙◌, ap, subst, arith}
 use Rattle.std.specs.Prelude.{◌/◌, ◌%◌, ◌==◌, ◌&&◌, map, nat_lt, slice_get}
 use Rattle.std.specs.List.{position}
 use Rattle.std.specs.Option.{option_and_then, option_map_or}
@@ -14,7 +15,8 @@ use Rattle.rma_types.specs.declared.accesses.Kind.{Kind}
 use Rattle.rma_types.specs.declared.accesses.Kind.TheVariants.{Get, Put, Acc, Cas, Load, Store}
 use Rattle.rma_types.specs.declared.calls.Call.{Call}
 use Rattle.rma_types.specs.declared.schedules.Delay.{Delay}
-use Rattle.rma_types.specs.declared.schedules.Delay.TheVariants.{None as NoDelay, End as EndDelay, Seeded as SeededDelay}
+use Rattle.rma_types.specs.declared.schedules.Delay.TheVariants.{None as NoDelay, End as EndDelay}
+use Rattle.rma_types.specs.declared.schedules.Delay.TheVariants.{Seeded as SeededDelay}
 use Rattle.lawful_runs.specs.Stages.{Stage}
 use Rattle.step_runs.specs.Agents.{Agent, is_seeded, must_draw}
 use Rattle.step_runs.specs.DataSteps.{draw, is_at_once, just_delivers}
@@ -60,10 +62,12 @@ pub draws_one : (s : RankState) (draws number place free : ℕ) → draws ≡ st
     number ≡ drawn_from draws → number % 2 ≡ 1 →
     place ≡ way s.agent.pending (number / 2 % length s.agent.pending) → place < length s.agent.pending →
     free ≡ s.free →
-    IsMove s (record s { agent = record s.agent { drawn = true; draws = draws }; free = free }) (draw s.agent) (Some place)
+    IsMove s (record s { agent = record s.agent { drawn = true; draws = draws }; free = free }) (draw s.agent)
+    (Some place)
 draws_one s draws number place free d n odd is within f = record {
   rank = cc (d, touches);
-  place_is = sym (ap (λ b. option_and_then inside (cond b (Some named) None)) odd_test ∙ (ap (option_and_then inside) (ap Some same) ∙ inner));
+  place_is = sym (ap (λ b. option_and_then inside (cond b (Some named) None)) odd_test
+      ∙ (ap (option_and_then inside) (ap Some same) ∙ inner));
   first = (
     within,
     subst (λ m. way s.agent.pending m ≡ m) (sym is)

@@ -1,5 +1,6 @@
 -- The next call of a rank whose next step is at the board may be asked of it.
-use Rattle.std.proofs.Common.{◌≡◌, ◌<◌, ◌≤◌, Bool, true, false, cond, not, Option, Some, None, refl, sym, ◌∙◌, ap, subst, arith}
+use Rattle.std.proofs.Common.{◌≡◌, ◌<◌, ◌≤◌, Bool, true, false, cond, not, Option, Some, None, refl, sym, ◌∙◌, ap}
+use Rattle.std.proofs.Common.{subst, arith}
 use Rattle.std.specs.Prelude.{◌&&◌, is_none, IfSome}
 use Rattle.std.specs.Option.{option_map_or}
 use Rattle.std.proofs.lemmas.Bool.{and_parts}
@@ -8,7 +9,8 @@ use Rattle.rma_types.specs.declared.classes.Class.{Class}
 use Rattle.call_rules.specs.Actions.{transfer_of}
 use Rattle.call_rules.specs.WellFormed.{IsWrittenCall}
 use Rattle.cell_face.specs.Faces.{Face}
-use Rattle.rank_rules.specs.Courses.{Course, OneNull, OneIssue, LookUpAndIssue, OneFlush, OneRequest, ArriveAndLeave, EntryOrTested, OneEntry, course_of, has_entry}
+use Rattle.rank_rules.specs.Courses.{Course, OneNull, OneIssue, LookUpAndIssue, OneFlush, OneRequest, ArriveAndLeave}
+use Rattle.rank_rules.specs.Courses.{EntryOrTested, OneEntry, course_of, has_entry}
 use Rattle.rank_rules.specs.Knowledge.{own_class}
 use Rattle.rank_rules.specs.Windows.{RankWindows}
 use Rattle.step_laws.proofs.OwnTests.{HasIssue, transfer_with_issue}

@@ -1,12 +1,15 @@
 -- What holds of a call that its rank does not refuse: its epochs, its request and its place.
-use Rattle.std.proofs.Common.{◌≡◌, ℕ, ◌+◌, ◌*◌, ◌<◌, ◌≤◌, Bool, true, false, cond, [], ◌∷◌, Option, Some, None, refl, sym, ◌∙◌, ap, subst, arith}
+use Rattle.std.proofs.Common.{◌≡◌, ℕ, ◌+◌, ◌*◌, ◌<◌, ◌≤◌, Bool, true, false, cond, [], ◌∷◌, Option, Some, None, refl}
+use Rattle.std.proofs.Common.{sym, ◌∙◌, ap, subst, arith}
 use Rattle.std.specs.Prelude.{◌==◌, ◌^◌, ℤ, pos, negsuc, IfSome, nat_lt}
 use Rattle.std.specs.Option.{option_and_then, option_map_or}
 use Rattle.std.proofs.lemmas.Bool.{not-false, ltb-true, ltb-false}
 use Rattle.rma_types.specs.declared.calls.Call.{Call}
 use Rattle.rma_types.specs.declared.calls.Flavor.TheVariants.{Dynamic}
 use Rattle.rma_types.specs.declared.scripts.Layout.{Layout}
-use Rattle.call_rules.specs.Actions.{Action, Creates, Frees, Attaches, Detaches, Synchronises, Meets, Moves, EndsRequest, Transfer, Target, Own, Null, Named, action_of, transfer_in, transfer_of}
+use Rattle.call_rules.specs.Actions.{Action, Creates, Frees, Attaches, Detaches, Synchronises, Meets, Moves}
+use Rattle.call_rules.specs.Actions.{EndsRequest, Transfer, Target, Own, Null, Named, action_of, transfer_in}
+use Rattle.call_rules.specs.Actions.{transfer_of}
 use Rattle.call_rules.specs.Ranks.{natural}
 use Rattle.call_rules.specs.Transfers.{rank_reached, bytes_of}
 use Rattle.call_rules.specs.WellFormed.{IsWrittenCall, IsWrittenAction, IsNumber}
@@ -21,7 +24,8 @@ use Rattle.rank_rules.specs.WindowTests.{address_of, is_unattached, part_reached
 use Rattle.rma_types.specs.declared.classes.Class.TheVariants.{Request}
 use Rattle.step_laws.proofs.Lists.{found_is}
 use Rattle.step_laws.proofs.OwnRoom.{HasRightPlace, counts_and_ranks, right_place}
-use Rattle.step_laws.proofs.OwnTests.{HasIssue, least_none, epochs_allow, windows_allow, first_passed, moves_it, transfer_passed}
+use Rattle.step_laws.proofs.OwnTests.{HasIssue, least_none, epochs_allow, windows_allow, first_passed, moves_it}
+use Rattle.step_laws.proofs.OwnTests.{transfer_passed}
 use Rattle.step_laws.specs.Inside.{bytes_at}
 use Rattle.step_laws.specs.Rooms.{AreRoomy, IsRoomyWindow}
 use Rattle.window_regions.specs.Places.{HasSmallPlace}
@@ -40,7 +44,8 @@ requests_allow known call e =
     (request_class known.requests (action_of call))) e).1).1
 
 action_request_free : (requests : Requests) (a : Action) → request_class requests a ≡ None →
-    IfSome (option_and_then (λ (t : Transfer). t.request) (transfer_in a)) (λ name. is_live_request requests name ≡ false)
+    IfSome (option_and_then (λ (t : Transfer). t.request) (transfer_in a))
+    (λ name. is_live_request requests name ≡ false)
 action_request_free requests (Creates creation) e = tt
 action_request_free requests (Frees win) e = tt
 action_request_free requests (Attaches win base bytes) e = tt
@@ -95,7 +100,8 @@ small_number (negsuc n) w = omega arith
 small_address : (layout : Layout) (known : RankWindows) (t : Transfer) (window : Window) →
     ((rank : ℕ) → bytes_at layout rank ≤ 65536) → IsNumber t.disp → IsRoomyWindow layout window →
     HasRightPlace known window t → address_of known window t < 2 ^ 32
-small_address layout known t window most number room right = by_flavor (is_same_flavor window.flavor Dynamic) refl right.1
+small_address layout known t window most number room right = by_flavor (is_same_flavor window.flavor Dynamic) refl
+    right.1
   where
     reached : ℕ
     reached = rank_reached known.rank t.target

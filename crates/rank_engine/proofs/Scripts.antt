@@ -51,4 +51,5 @@ last_decides delay (two ∷ []) zero one e is =
     let same : two ≡ one = cc is in ap (λ (p : PendingAccess). is_at_once delay p.access) same
 last_decides delay (two ∷ []) (suc at) one e is = absurd (omega arith)
 last_decides delay (two ∷ next ∷ pending) zero one e is = absurd (omega arith)
-last_decides delay (two ∷ next ∷ pending) (suc at) one e is = last_decides delay (next ∷ pending) at one (omega arith) is
+last_decides delay (two ∷ next ∷ pending) (suc at) one e is = last_decides delay (next ∷ pending) at one
+    (omega arith) is

@@ -1,5 +1,6 @@
 -- What a delivery takes of the share is what it takes of the updates ahead.
-use Rattle.std.proofs.Common.{◌≡◌, ℕ, zero, suc, ◌+◌, ◌-◌, ◌≤◌, Bool, true, false, cond, not, List, [], ◌∷◌, ◌++◌, length, Option, Some, None, refl, sym, ◌∙◌, ap, subst, arith, length-append}
+use Rattle.std.proofs.Common.{◌≡◌, ℕ, zero, suc, ◌+◌, ◌-◌, ◌≤◌, Bool, true, false, cond, not, List, [], ◌∷◌, ◌++◌}
+use Rattle.std.proofs.Common.{length, Option, Some, None, refl, sym, ◌∙◌, ap, subst, arith, length-append}
 use Rattle.std.specs.Prelude.{drop, map, remove, slice_get, slice_index, slice_set}
 use Rattle.std.specs.List.{sum_by}
 use Rattle.std.specs.Option.{option_and_then, option_map_or}
@@ -34,7 +35,8 @@ few_updates [] = omega arith
 few_updates (touch ∷ touches) =
     let one = few_update touch.plan.cell touch.seen touch.plan.change in
     let rest = few_updates touches in
-    let both = length-append (update_by touch.plan.cell touch.seen touch.plan.change) (updates_among touches) in omega arith
+    let both = length-append (update_by touch.plan.cell touch.seen touch.plan.change) (updates_among touches) in omega
+    arith
 
 reads_only : (call : Call) (element first : ℕ) → is_update call ≡ false → change_by call element first ≡ None
 reads_only call element first e = by_transfer (transfer_of call) e
@@ -94,7 +96,8 @@ left_touched layout calls (other ∷ pending) (count ∷ touched) (suc at) next 
 
 -- ---- a delivery
 
-pub delivered_ahead : (s after : RankState) (at : ℕ) (done : Bool) (face face_after : Face) (knows : ℕ → Cell → Type 0) →
+pub delivered_ahead : (s after : RankState) (at : ℕ) (done : Bool) (face face_after : Face) (knows : ℕ → Cell → Type 0)
+    →
     IsSound s →
     after ≡ record s {
       agent = record s.agent { log = after.agent.log; pending = after.agent.pending };
@@ -139,7 +142,8 @@ delivered_ahead s after at done face face_after knows sound eq d =
     bound true e =
         let few = few_updates touches in
         let all : own ≡ element_count d.call = own_is ∙ ap (λ b. cond b (element_count d.call) 0) e in
-        enough (length (updates_among touches)) (length touches) own d.next from (element_count d.call) few count all d.begun
+        enough (length (updates_among touches)) (length touches) own d.next from (element_count d.call) few count all
+        d.begun
         d.within
       where
         enough : (u t n next from count : ℕ) → u ≤ t → t ≡ next - from → n ≡ count → from ≤ next → next ≤ count →

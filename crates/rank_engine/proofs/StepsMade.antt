@@ -1,5 +1,6 @@
 -- A step on memory is a move of the rank, and a delivery after it.
-use Rattle.std.proofs.Common.{◌≡◌, ℕ, zero, suc, ◌+◌, ◌<◌, ◌≤◌, Bool, true, not, List, length, Option, Some, None, refl, sym, ap, subst, arith}
+use Rattle.std.proofs.Common.{◌≡◌, ℕ, zero, suc, ◌+◌, ◌<◌, ◌≤◌, Bool, true, not, List, length, Option, Some, None, refl}
+use Rattle.std.proofs.Common.{sym, ap, subst, arith}
 use Rattle.std.specs.Prelude.{◌==◌, ◌≢◌}
 use Rattle.std.proofs.lemmas.Bool.{ne_eqb}
 use Rattle.rma_record.specs.declared.items.Item.{Item}

@@ -1,5 +1,6 @@
 -- Steps of a rank at the board that are made of two parts: an Arrive and its Leave, and a false test.
-use Rattle.std.proofs.Common.{◌≡◌, ℕ, ◌+◌, ◌<◌, ◌≤◌, Result, Ok, Err, true, false, List, [], ◌∷◌, ◌++◌, length, drop, Option, Some, None, refl, sym, ◌∙◌, ap, subst, arith, length-append}
+use Rattle.std.proofs.Common.{◌≡◌, ℕ, ◌+◌, ◌<◌, ◌≤◌, Result, Ok, Err, true, false, List, [], ◌∷◌, ◌++◌, length, drop}
+use Rattle.std.proofs.Common.{Option, Some, None, refl, sym, ◌∙◌, ap, subst, arith, length-append}
 use Rattle.std.specs.Prelude.{is_some, map, IfOk}
 use Rattle.std.specs.List.{AllByRecursion}
 use Rattle.std.specs.Option.{option_map_or}
@@ -10,8 +11,11 @@ use Rattle.rma_types.specs.declared.calls.Call.{Call}
 use Rattle.rma_record.specs.declared.items.Item.{Item}
 use Rattle.rma_record.specs.declared.items.Item.TheVariants.{Tested}
 use Rattle.board_rules.specs.Board.{Decision, Refuse, Allow, NotYet as NotYetDecided, decide}
-use Rattle.board_rules.specs.Entries.{Collective, Creation, Freeing, Fence, Barrier, Row, collective_in, collective_of, is_same_collective}
-use Rattle.call_rules.specs.Actions.{Action, Creates, Frees, Attaches, Detaches, Synchronises, Meets, Moves, EndsRequest, Fences, Posts, Starts, Completes, Waits, Locks, Unlocks, Flushes, Syncs, action_of, synchronisation_in}
+use Rattle.board_rules.specs.Entries.{Collective, Creation, Freeing, Fence, Barrier, Row, collective_in, collective_of}
+use Rattle.board_rules.specs.Entries.{is_same_collective}
+use Rattle.call_rules.specs.Actions.{Action, Creates, Frees, Attaches, Detaches, Synchronises, Meets, Moves}
+use Rattle.call_rules.specs.Actions.{EndsRequest, Fences, Posts, Starts, Completes, Waits, Locks, Unlocks, Flushes}
+use Rattle.call_rules.specs.Actions.{Syncs, action_of, synchronisation_in}
 use Rattle.cell_face.specs.Faces.{Face}
 use Rattle.kept_rows.proofs.KeptActs.{collective_whole}
 use Rattle.kept_rows.specs.KeptCalls.{kept_call, kept_row}
@@ -20,7 +24,8 @@ use Rattle.rank_rules.specs.Knowledge.{Knowledge, own_class}
 use Rattle.step_laws.proofs.EntryMoves.{learns_nothing}
 use Rattle.rank_rules.specs.Courses.{ArriveAndLeave, course_of}
 use Rattle.step_runs.specs.Agents.{Agent, finished, next_call, opened}
-use Rattle.step_runs.specs.BoardSteps.{AtBoard, next_row, waiting, entered, turned_away, enter_by, enter, test_by, test, leave, leave_if_entered, arrive}
+use Rattle.step_runs.specs.BoardSteps.{AtBoard, next_row, waiting, entered, turned_away, enter_by, enter, test_by, test}
+use Rattle.step_runs.specs.BoardSteps.{leave, leave_if_entered, arrive}
 use Rattle.step_runs.specs.DataSteps.{with_item, without_delivery}
 use Rattle.sync_board.specs.Boards.{BoardState, rows_on}
 use Rattle.rank_engine.proofs.Asked.{collective_call}

@@ -1,5 +1,6 @@
 -- A step over a memory that tells its cells is the definition's.
-use Rattle.std.proofs.Common.{◌≡◌, ℕ, zero, suc, ◌-◌, ◌<◌, ◌≤◌, ◌⊎◌, inl, inr, Bool, true, false, cond, List, [], ◌∷◌, ◌++◌, length, drop, Option, Some, None, refl, sym, ◌∙◌, ap, subst, arith, length-append}
+use Rattle.std.proofs.Common.{◌≡◌, ℕ, zero, suc, ◌-◌, ◌<◌, ◌≤◌, ◌⊎◌, inl, inr, Bool, true, false, cond, List, [], ◌∷◌}
+use Rattle.std.proofs.Common.{◌++◌, length, drop, Option, Some, None, refl, sym, ◌∙◌, ap, subst, arith, length-append}
 use Rattle.std.specs.Prelude.{IfSome, map, nat_lt, remove, slice_get}
 use Rattle.std.specs.List.{AllByRecursion}
 use Rattle.std.specs.Option.{option_and_then, option_map_or}
@@ -11,7 +12,8 @@ use Rattle.delivery_queue.specs.Queues.{DeliversWhole}
 use Rattle.lawful_runs.specs.Stages.{Stage, calls_at}
 use Rattle.rank_rules.specs.declared.pending.PendingAccess.{PendingAccess}
 use Rattle.step_laws.proofs.Lists.{each_append, each_removed}
-use Rattle.step_runs.specs.DataSteps.{Move, OnMemory, data_step, deliver, deliver_if, is_at_once, just_delivers, move_of, with_delivery}
+use Rattle.step_runs.specs.DataSteps.{Move, OnMemory, data_step, deliver, deliver_if, is_at_once, just_delivers}
+use Rattle.step_runs.specs.DataSteps.{move_of, with_delivery}
 use Rattle.rank_engine.proofs.MoveKinds.{AreLater, IsKind, own_kind}
 use Rattle.rank_engine.proofs.Wholes.{delivered_whole}
 use Rattle.rank_engine.specs.DataAnswers.{IsDelivered, IsWhole, IsWholeDrain, IsWholeStep}
@@ -19,7 +21,8 @@ use Rattle.rank_engine.specs.Moves.{IsMove}
 use Rattle.rank_engine.specs.RankStates.{RankState, IsBetween, delivery_of, is_last_at_once, own_move, queue_of}
 use Rattle.rank_engine.specs.Sound.{IsSound}
 
-none_last : (delay : Delay) (pending : List PendingAccess) → AreLater delay pending → is_last_at_once delay pending ≡ false
+none_last : (delay : Delay) (pending : List PendingAccess) → AreLater delay pending →
+    is_last_at_once delay pending ≡ false
 none_last delay [] h = refl
 none_last delay (one ∷ []) h = h.0
 none_last delay (one ∷ next ∷ pending) h = none_last delay (next ∷ pending) h.1
@@ -74,7 +77,8 @@ delivers_some move at e = by_place move.delivers e
 
 -- ---- what is between
 
-all_zero : (pending : List PendingAccess) → AllByRecursion (λ (count : ℕ). count ≡ 0) (map (λ (_ : PendingAccess). 0) pending)
+all_zero : (pending : List PendingAccess) → AllByRecursion (λ (count : ℕ). count ≡ 0)
+    (map (λ (_ : PendingAccess). 0) pending)
 all_zero [] = tt
 all_zero (one ∷ pending) = (refl, all_zero pending)
 
@@ -83,7 +87,8 @@ still_untouched : (before after : RankState) (place : Option ℕ) → IsBetween 
 still_untouched before after place between move =
     let new : List PendingAccess = drop (length before.agent.pending) (own_move before).agent.pending in
     subst (AllByRecursion (λ (count : ℕ). count ≡ 0)) (sym (ap (λ (s : RankState). s.touched) move.rank))
-    (each_append (λ (count : ℕ). count ≡ 0) before.touched (map (λ (_ : PendingAccess). 0) new) between.untouched (all_zero new))
+    (each_append (λ (count : ℕ). count ≡ 0) before.touched (map (λ (_ : PendingAccess). 0) new) between.untouched
+    (all_zero new))
 
 -- where nothing is delivered, nothing is touched at once
 later_alone : (s : RankState) (move : Move) → AreLater s.stage.delay s.agent.pending → IsKind s.stage s.agent move →
@@ -93,7 +98,8 @@ later_alone s move later (inr finishes) none = by_made finishes.later
   where
     all : AreLater s.stage.delay finishes.made → AreLater s.stage.delay move.agent.pending
     all made = subst (AreLater s.stage.delay) (sym finishes.pending)
-        (each_append (λ (one : PendingAccess). is_at_once s.stage.delay one.access ≡ false) s.agent.pending finishes.made
+        (each_append (λ (one : PendingAccess). is_at_once s.stage.delay one.access ≡ false) s.agent.pending
+        finishes.made
         later made)
 
     by_made : AreLater s.stage.delay finishes.made
@@ -107,7 +113,8 @@ later_alone s move later (inr finishes) none = by_made finishes.later
         let e = ap length waits ∙ length-append s.agent.pending (one ∷ []) in omega arith in
         let some : delivery_of move ≡ Some (length s.agent.pending) =
         ap (option_and_then (λ n. cond (nat_lt n (length move.agent.pending)) (Some n) None)) delivers
-        ∙ ap (λ b. cond b (Some (length s.agent.pending)) None) (lt-ltb (length s.agent.pending) (length move.agent.pending) long) in
+        ∙ ap (λ b. cond b (Some (length s.agent.pending)) None)
+        (lt-ltb (length s.agent.pending) (length move.agent.pending) long) in
         absurd (cc (none, some))
 
 -- where an access is delivered, none that is left is touched at once
@@ -124,7 +131,8 @@ later_delivered s move at later (inr finishes) delivers = by_made finishes.later
     by_made (inl made) =
         each_removed (λ (one : PendingAccess). is_at_once s.stage.delay one.access ≡ false) move.agent.pending at
         (subst (AreLater s.stage.delay) (sym finishes.pending)
-        (each_append (λ (one : PendingAccess). is_at_once s.stage.delay one.access ≡ false) s.agent.pending finishes.made
+        (each_append (λ (one : PendingAccess). is_at_once s.stage.delay one.access ≡ false) s.agent.pending
+        finishes.made
         later made))
     by_made (inr (one, is, last)) =
         let waits : move.agent.pending ≡ s.agent.pending ++ one ∷ [] =

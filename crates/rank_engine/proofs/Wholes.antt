@@ -1,5 +1,6 @@
 -- A delivery over a memory that tells its cells is the definition's.
-use Rattle.std.proofs.Common.{◌≡◌, ℕ, ◌<◌, true, false, List, ◌++◌, length, Option, Some, None, refl, sym, ◌∙◌, ap, subst}
+use Rattle.std.proofs.Common.{◌≡◌, ℕ, ◌<◌, true, false, List, ◌++◌, length, Option, Some, None, refl, sym, ◌∙◌, ap}
+use Rattle.std.proofs.Common.{subst}
 use Rattle.std.specs.Prelude.{◌%◌, IfSome, IsSomeAnd, drop, remove, slice_get, slice_index}
 use Rattle.std.specs.List.{AllByRecursion}
 use Rattle.std.specs.Option.{option_map_or}
@@ -50,7 +51,8 @@ pub delivered_whole : (s after : RankState) (at : ℕ) (cells : List Cell) (told
     } →
     Delivers (queue_of s) (queue_of after) at true s.stage.layout (calls_at s.stage s.agent.rank) face face_after knows
     s.agent.log after.agent.log →
-    DeliversWhole (queue_of s) at s.stage.layout (calls_at s.stage s.agent.rank) cells told s.agent.log after.agent.log →
+    DeliversWhole (queue_of s) at s.stage.layout (calls_at s.stage s.agent.rank) cells told s.agent.log after.agent.log
+    →
     IsWhole (deliver s.stage s.agent cells at) after told
 delivered_whole s after at cells told face face_after knows sound within untouched later eq d whole = record {
   rank = ap (λ (x : RankState). x.agent) eq

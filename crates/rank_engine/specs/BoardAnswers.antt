@@ -1,12 +1,15 @@
--- What a rank answers a step at the board, and what it gives and gains with it: MPI 3.1, sections 11.5 and 11.7, in this
+-- What a rank answers a step at the board, and what it gives and gains with it: MPI 3.1, sections 11.5 and 11.7, in
+-- this
 -- project's profile.
-use Rattle.std.specs.Prelude.{ℕ, ◌≡◌, ◌+◌, ◌<◌, ◌≤◌, Bool, true, false, ◌||◌, List, ◌++◌, length, map, drop, take, slice_get, slice_index, Option, Some, None, IfSome}
+use Rattle.std.specs.Prelude.{ℕ, ◌≡◌, ◌+◌, ◌<◌, ◌≤◌, Bool, true, false, ◌||◌, List, ◌++◌, length, map, drop, take}
+use Rattle.std.specs.Prelude.{slice_get, slice_index, Option, Some, None, IfSome}
 use Rattle.std.specs.List.{AllByRecursion}
 use Rattle.std.specs.Option.{option_map_or}
 use Rattle.rma_types.specs.declared.accesses.Step.{Step}
 use Rattle.rma_types.specs.declared.calls.Call.{Call}
 use Rattle.board_rules.specs.Entries.{Row, is_arrive}
-use Rattle.call_rules.specs.Actions.{Synchronisation, Fences, Posts, Starts, Completes, Waits, Locks, Unlocks, Flushes, Syncs, synchronisation_of}
+use Rattle.call_rules.specs.Actions.{Synchronisation, Fences, Posts, Starts, Completes, Waits, Locks, Unlocks, Flushes}
+use Rattle.call_rules.specs.Actions.{Syncs, synchronisation_of}
 use Rattle.cell_face.specs.Faces.{Face, Unwritten, cell_count, low_at}
 use Rattle.kept_rows.specs.Gifts.{Front, Given, gained_by}
 use Rattle.kept_rows.specs.KeptCalls.{kept_row}
@@ -17,7 +20,8 @@ use Rattle.rank_engine.specs.Shares.{updates_ahead}
 use Rattle.rank_engine.specs.declared.answers.Turned.{Turned}
 use Rattle.rank_engine.specs.declared.answers.Turned.TheVariants.{Did, NotYet, Again, Full, Ended}
 
--- The board is one of the rank's run: its number of ranks, its layout, the rank's rows, and the memory from which the rank's
+-- The board is one of the rank's run: its number of ranks, its layout, the rank's rows, and the memory from which the
+-- rank's
 -- tokens come.
 pub record IsBoardOf (state : RankState) (board : BoardState) (face : Face) : Type 0 where
   pub ranks : board.ranks ≡ state.stage.script.ranks
@@ -60,7 +64,8 @@ IsGiven face one = IsGift face (gives one.row.step one.row.call) one.gift
 
 -- no lowest place is below those of the front
 abbrev pub IsMet : Face → Front → Type 0
-IsMet face front = IfSome front (λ places. (cell : ℕ) → cell < cell_count face → slice_index places cell ≤ low_at face cell)
+IsMet face front = IfSome front (λ places. (cell : ℕ) → cell < cell_count face →
+    slice_index places cell ≤ low_at face cell)
 
 -- what a token carries is met
 abbrev pub IsMetBy : Face → Option Front → Type 0
@@ -73,10 +78,16 @@ AreGainsMet first board rows face = (place : ℕ) → first ≤ place →
 
 -- ---- the answers
 
--- A step at the board is that of the definition, over the rows as the board keeps them. The rows that it put stand at the end.
-pub record StepsAtBoard (before after : RankState) (waiting : Bool) (board board_after : BoardState) (face face_after : Face)
+-- A step at the board is that of the definition, over the rows as the board keeps them. The rows that it put stand at
+-- the end.
+pub record StepsAtBoard (before after : RankState) (waiting : Bool) (board board_after : BoardState)
+    (face face_after : Face)
     : Type 0 where
-  pub rank : after ≡ record before { agent = (board_step before.stage before.agent (rows_on board)).agent; free = after.free }
+  pub rank : after ≡ record before {
+    agent = (board_step before.stage before.agent (rows_on board)).agent;
+    free =
+        after.free;
+  }
   pub waits : (board_step before.stage before.agent (rows_on board)).waits ≡ waiting
   pub given : List Given
   pub entries : board_after ≡ record board { entries = board.entries ++ given }
@@ -85,7 +96,8 @@ pub record StepsAtBoard (before after : RankState) (waiting : Bool) (board board
   pub own : AreOwnRows after.stage after.agent (rows_on board_after)
   pub of_rank : AllByRecursion (λ (one : Given). one.row.rank ≡ before.agent.rank) given
   pub gifts : AllByRecursion (IsGiven face) given
-  pub gains : AreGainsMet (length board.entries) board_after (board_step before.stage before.agent (rows_on board)).rows face_after
+  pub gains : AreGainsMet (length board.entries) board_after (board_step before.stage before.agent (rows_on board)).rows
+      face_after
   pub unwritten : Unwritten face face_after
   pub moves : face_after.moves ≡ face.moves
   pub pending : after.agent.pending ≡ before.agent.pending

@@ -5,7 +5,8 @@ use Rattle.rma_types.specs.declared.calls.Flavor.TheVariants.{Dynamic}
 use Rattle.rank_rules.specs.Courses as rules
 use Rattle.rank_rules.specs.Windows.{Window, RankWindows, is_same_flavor, window_of_name}
 use Rattle.rank_engine.specs.declared.courses.Course.{Course}
-use Rattle.rank_engine.specs.declared.courses.Course.TheVariants.{Null, Issue, LookUpAndIssue, Flush, Request, ArriveAndLeave, EntryOrTested, OneEntry}
+use Rattle.rank_engine.specs.declared.courses.Course.TheVariants.{Null, Issue, LookUpAndIssue, Flush, Request}
+use Rattle.rank_engine.specs.declared.courses.Course.TheVariants.{ArriveAndLeave, EntryOrTested, OneEntry}
 
 -- the items that a call with this course has
 abbrev pub items_of : Course → rules.Course

@@ -1,5 +1,6 @@
 -- What a rank answers a step without the board, and a drain: MPI 3.1, section 11.7, in this project's profile.
-use Rattle.std.specs.Prelude.{ℕ, ◌≡◌, ◌+◌, ◌<◌, ◌≤◌, Bool, true, false, ◌&&◌, not, is_none, List, length, Option, Some, None, IfSome}
+use Rattle.std.specs.Prelude.{ℕ, ◌≡◌, ◌+◌, ◌<◌, ◌≤◌, Bool, true, false, ◌&&◌, not, is_none, List, length, Option, Some}
+use Rattle.std.specs.Prelude.{None, IfSome}
 use Rattle.call_rules.specs.declared.cells.Cell.{Cell}
 use Rattle.call_rules.specs.Layout.{cells_of}
 use Rattle.cell_face.specs.Faces.{Face, Rose, cell_count}
@@ -21,7 +22,8 @@ pub record HasRoom (state : RankState) (face : Face) : Type 0 where
 abbrev pub is_over : RankState → Bool
 is_over state = is_none (next_call state.stage state.agent) && not (has_pending state.agent)
 
--- the pending access at a place, if there is one, was delivered: wholly, or up to an element at which an attempt came too late
+-- the pending access at a place, if there is one, was delivered: wholly, or up to an element at which an attempt came
+-- too late
 abbrev pub IsDelivered : Option ℕ → RankState → RankState → (done : Bool) → Face → Face → (ℕ → Cell → Type 0) → Type 0
 IsDelivered None before after done face face_after knows =
     (after ≡ record before { free = after.free }) × (done ≡ true) × (face_after ≡ face)
@@ -54,7 +56,8 @@ IsDataAnswer Full before after face face_after knows = (before.free < 300) × (a
 IsDataAnswer Ended before after face face_after knows =
     (300 ≤ before.free) × (is_over before ≡ true) × StepsOnMemory before after true face face_after knows
 
--- over a memory that tells its cells, the rank and the cells are those of the definition, and nothing is touched in part
+-- over a memory that tells its cells, the rank and the cells are those of the definition, and nothing is touched in
+-- part
 pub record IsWhole (step : OnMemory) (after : RankState) (told : Option (List Cell)) : Type 0 where
   pub rank : after.agent ≡ step.agent
   pub cells : told ≡ Some step.cells

@@ -1,7 +1,8 @@
 -- How a step at the board is made of entries: what is asked of one, what the board answered it, and where the rank
 -- stands after
 -- it. MPI 3.1, sections 11.2 and 11.5, in this project's profile.
-use Rattle.std.specs.Prelude.{ℕ, ◌≡◌, ◌+◌, ◌<◌, ◌≤◌, Bool, true, false, List, ◌++◌, length, map, drop, Option, Some, None, IfSome}
+use Rattle.std.specs.Prelude.{ℕ, ◌≡◌, ◌+◌, ◌<◌, ◌≤◌, Bool, true, false, List, ◌++◌, length, map, drop, Option, Some}
+use Rattle.std.specs.Prelude.{None, IfSome}
 use Rattle.std.specs.List.{AllByRecursion}
 use Rattle.rma_types.specs.declared.accesses.Step.{Step}
 use Rattle.rma_types.specs.declared.accesses.Step.TheVariants.{Arrive, Leave, One}
@@ -13,7 +14,8 @@ use Rattle.call_rules.specs.WellFormed.{IsWrittenCall}
 use Rattle.cell_face.specs.Faces.{Face, Unwritten}
 use Rattle.kept_rows.specs.Gifts.{Front, Given, gained_by}
 use Rattle.kept_rows.specs.KeptCalls.{kept_row}
-use Rattle.rank_rules.specs.Courses.{Course, OneNull, OneIssue, LookUpAndIssue, OneFlush, OneRequest, ArriveAndLeave, EntryOrTested, OneEntry}
+use Rattle.rank_rules.specs.Courses.{Course, OneNull, OneIssue, LookUpAndIssue, OneFlush, OneRequest, ArriveAndLeave}
+use Rattle.rank_rules.specs.Courses.{EntryOrTested, OneEntry}
 use Rattle.rank_rules.specs.Knowledge.{own_class}
 use Rattle.step_runs.specs.Agents.{next_call}
 use Rattle.step_runs.specs.BoardSteps.{AtBoard}

@@ -1,5 +1,6 @@
 -- A rank between two of its steps, with what stays the same through its run. This project's profile of a run.
-use Rattle.std.specs.Prelude.{ℕ, ◌≡◌, ◌==◌, ◌++◌, ◌-◌, Bool, false, if◌then◌else◌, List, [], ◌∷◌, length, map, drop, nat_lt, Option, Some, None}
+use Rattle.std.specs.Prelude.{ℕ, ◌≡◌, ◌==◌, ◌++◌, ◌-◌, Bool, false, if◌then◌else◌, List, [], ◌∷◌, length, map, drop}
+use Rattle.std.specs.Prelude.{nat_lt, Option, Some, None}
 use Rattle.std.specs.Option.{option_and_then}
 use Rattle.std.specs.List.{filter, flat_map, AllByRecursion}
 use Rattle.rma_types.specs.declared.schedules.Delay.{Delay}
@@ -17,7 +18,8 @@ use Rattle.rank_rules.specs.Windows.{RankWindows}
 use Rattle.step_runs.specs.Agents.{Agent, new_agent, tries_entry}
 use Rattle.step_runs.specs.DataSteps.{Move, just_delivers, is_at_once, move_of}
 
--- The script, its layout and its delay; the rank; how many elements of each of its pending accesses are touched; for how many
+-- The script, its layout and its delay; the rank; how many elements of each of its pending accesses are touched; for
+-- how many
 -- more items room may be asked; and the name of the ring through which the items go, empty where there is none.
 pub record RankState : Type 0 where
   pub stage : Stage
@@ -69,7 +71,8 @@ is_last_at_once delay [] = false
 is_last_at_once delay (one ∷ []) = is_at_once delay one.access
 is_last_at_once delay (one ∷ next ∷ pending) = is_last_at_once delay (next ∷ pending)
 
--- An access that is touched in the step of its Issue is still pending, since an attempt on a cell came too late: it is touched
+-- An access that is touched in the step of its Issue is still pending, since an attempt on a cell came too late: it is
+-- touched
 -- to its end before anything else is done.
 abbrev pub is_at_hand : RankState → Bool
 is_at_hand state = is_last_at_once state.stage.delay state.agent.pending
@@ -81,7 +84,8 @@ needs_entry state = if is_at_hand state then false else tries_entry state.stage 
 -- no element of a pending access is touched, and none is at hand: so it is over a memory that tells its cells
 pub record IsBetween (state : RankState) : Type 0 where
   pub untouched : AllByRecursion (λ count. count ≡ 0) state.touched
-  pub later : AllByRecursion (λ (one : PendingAccess). is_at_once state.stage.delay one.access ≡ false) state.agent.pending
+  pub later : AllByRecursion (λ (one : PendingAccess). is_at_once state.stage.delay one.access ≡ false)
+      state.agent.pending
 
 -- ---- entries
 

@@ -1,6 +1,8 @@
--- What holds of a rank between any two of its steps: its script can be said by a text, what it knows and what is pending lies in
+-- What holds of a rank between any two of its steps: its script can be said by a text, what it knows and what is
+-- pending lies in
 -- memory, and it has numbered its windows as the board does. MPI 3.1, sections 11.2, 11.3 and 11.7.
-use Rattle.std.specs.Prelude.{ℕ, ◌≡◌, ◌≤◌, ◌<◌, ◌==◌, true, List, [], ◌∷◌, length, slice_get, is_some, Some, None, IfSome}
+use Rattle.std.specs.Prelude.{ℕ, ◌≡◌, ◌≤◌, ◌<◌, ◌==◌, true, List, [], ◌∷◌, length, slice_get, is_some, Some, None}
+use Rattle.std.specs.Prelude.{IfSome}
 use Rattle.std.specs.List.{count_by}
 use Rattle.rma_types.specs.declared.calls.Call.{Call}
 use Rattle.rma_types.specs.declared.schedules.Delay.TheVariants.{None as NoDelay}
@@ -12,7 +14,8 @@ use Rattle.call_rules.specs.Layout.{layout as memory_layout, cells_of}
 use Rattle.call_rules.specs.WellFormed.{IsWellFormed}
 use Rattle.delivery_queue.specs.Queues.{IsOfCall}
 use Rattle.lawful_runs.specs.Stages.{Stage, calls_at}
-use Rattle.rank_rules.specs.Courses.{Course, OneNull, OneIssue, LookUpAndIssue, OneFlush, OneRequest, ArriveAndLeave, EntryOrTested, OneEntry, access_on, course_of}
+use Rattle.rank_rules.specs.Courses.{Course, OneNull, OneIssue, LookUpAndIssue, OneFlush, OneRequest, ArriveAndLeave}
+use Rattle.rank_rules.specs.Courses.{EntryOrTested, OneEntry, access_on, course_of}
 use Rattle.rank_rules.specs.Knowledge.{Knowledge, own_class}
 use Rattle.rank_rules.specs.declared.pending.PendingAccess.{PendingAccess}
 use Rattle.rank_rules.specs.Windows.{Window, RankWindows, window_of_name}

@@ -4,7 +4,8 @@ ghost use Rattle.std.specs.Prelude.{◌≡◌, ◌<◌, ◌≤◌, false, true, 
 ghost use Rattle.cell_face.specs.Faces.{Keeps};
 ghost use Rattle.rank_rules.specs.Courses as rules;
 ghost use Rattle.rma_record.specs.declared.items.Item.TheVariants.{Tested};
-ghost use Rattle.rma_types.specs.declared.accesses.Step.TheVariants.{Arrive as ArriveStep, Leave as LeaveStep, One as OneStep};
+ghost use Rattle.rma_types.specs.declared.accesses.Step.TheVariants.{Arrive as ArriveStep, Leave as LeaveStep};
+ghost use Rattle.rma_types.specs.declared.accesses.Step.TheVariants.{One as OneStep};
 ghost use Rattle.step_runs.specs.Agents.{finished, opened};
 ghost use Rattle.step_runs.specs.BoardSteps.{arrive as arrive_by, enter as enter_by, entry_of, test as test_by};
 ghost use Rattle.step_runs.specs.DataSteps.{without_delivery, with_item};

@@ -1,9 +1,12 @@
 -- Distinct ranks below 16 are at most 16, and stay distinct as one more comes or one goes.
-use Rattle.std.proofs.Common.{◌≡◌, ℕ, zero, suc, ◌+◌, ◌<◌, ◌≤◌, ◌==◌, Bool, true, false, not, ◌&&◌, ◌||◌, nat_lt, List, [], ◌∷◌, ◌++◌, length, filter, refl, sym, ◌∙◌, ap, subst, arith, cond, length-append}
-use Rattle.std.proofs.lemmas.Bool.{false≢true, and_parts, and_from, or_parts, or_from, not-true, not_from_false, ltb-true, lt-ltb, eqb-true, eqb-false, ne_eqb}
+use Rattle.std.proofs.Common.{◌≡◌, ℕ, zero, suc, ◌+◌, ◌<◌, ◌≤◌, ◌==◌, Bool, true, false, not, ◌&&◌, ◌||◌, nat_lt, List}
+use Rattle.std.proofs.Common.{[], ◌∷◌, ◌++◌, length, filter, refl, sym, ◌∙◌, ap, subst, arith, cond, length-append}
+use Rattle.std.proofs.lemmas.Bool.{false≢true, and_parts, and_from, or_parts, or_from, not-true, not_from_false}
+use Rattle.std.proofs.lemmas.Bool.{ltb-true, lt-ltb, eqb-true, eqb-false, ne_eqb}
 use Rattle.std.specs.Prelude.{ℤ, pos, negsuc, Option, Some}
 use Rattle.call_rules.specs.Ranks.{is_member, is_rank, natural}
-use Rattle.rank_rules.specs.Epochs.{AccessEpoch, Idle, FenceUnused, FenceUsed, StartTo, LocksAt, LockAll, may_lock, targets_locked}
+use Rattle.rank_rules.specs.Epochs.{AccessEpoch, Idle, FenceUnused, FenceUsed, StartTo, LocksAt, LockAll, may_lock}
+use Rattle.rank_rules.specs.Epochs.{targets_locked}
 use Rattle.rank_epochs.specs.Distinct.{are_distinct_ranks, has_distinct_targets}
 
 -- ranks below a bound, none of them twice

@@ -3,7 +3,8 @@ use Rattle.rank_epochs.specs.declared.access.AccessEpoch.{AccessEpoch as Access}
 use Rattle.rank_epochs.specs.declared.access.AccessEpoch.TheVariants as access
 use Rattle.rank_epochs.specs.declared.exposure.ExposureEpoch.{ExposureEpoch as Exposure}
 use Rattle.rank_epochs.specs.declared.exposure.ExposureEpoch.TheVariants as exposure
-use Rattle.rank_rules.specs.Epochs.{AccessEpoch, Idle, FenceUnused, FenceUsed, StartTo, LocksAt, LockAll, ExposureEpoch, Unexposed, PostTo}
+use Rattle.rank_rules.specs.Epochs.{AccessEpoch, Idle, FenceUnused, FenceUsed, StartTo, LocksAt, LockAll, ExposureEpoch}
+use Rattle.rank_rules.specs.Epochs.{Unexposed, PostTo}
 
 abbrev pub access_of : Access → AccessEpoch
 access_of access.Idle = Idle

@@ -14,7 +14,8 @@ pub fn has_more_than_nocheck(asserts: &Asserts) -> bool
     asserts.nostore || asserts.noput || asserts.noprecede || asserts.nosucceed
 }
 
-/// The class of a call that synchronises: by the ranks that it names, by its assertions, and by the epochs, in this order.
+/// The class of a call that synchronises: by the ranks that it names, by its assertions, and by the epochs, in this
+/// order.
 pub fn synchronisation_class(
     names_wrong_rank: bool,
     has_wrong_assert: bool,

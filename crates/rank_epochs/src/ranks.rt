@@ -1,7 +1,8 @@
 //! The ranks that calls name (MPI 3.1, sections 11.3 and 11.5).
 ghost use Rattle.std.specs.Prelude.{◌≡◌, ◌≤◌, ◌<◌, length, IsTrue};
 ghost use Rattle.std.specs.List.{list_all, list_any};
-ghost use Rattle.call_rules.specs.Ranks.{natural as natural_of, is_rank as is_rank_of, is_same_rank as is_same, names_twice as has_twice, members_of as members, is_member as is_among};
+ghost use Rattle.call_rules.specs.Ranks.{natural as natural_of, is_rank as is_rank_of, is_same_rank as is_same};
+ghost use Rattle.call_rules.specs.Ranks.{names_twice as has_twice, members_of as members, is_member as is_among};
 ghost use Rattle.rank_rules.specs.EpochTests.{is_wrong_group as is_wrong};
 
 use arrayvec::ArrayVec;

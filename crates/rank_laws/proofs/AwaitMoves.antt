@@ -1,5 +1,6 @@
 -- Before an item that must wait for accesses, each of them is touched whole.
-use Rattle.std.proofs.Common.{◌≡◌, ℕ, ◌⊎◌, inl, inr, Bool, true, false, not, ◌&&◌, ◌||◌, List, [], ◌∷◌, ◌++◌, length, Option, Some, None, refl, sym, ◌∙◌, ap, subst}
+use Rattle.std.proofs.Common.{◌≡◌, ℕ, ◌⊎◌, inl, inr, Bool, true, false, not, ◌&&◌, ◌||◌, List, [], ◌∷◌, ◌++◌, length}
+use Rattle.std.proofs.Common.{Option, Some, None, refl, sym, ◌∙◌, ap, subst}
 use Rattle.std.specs.Prelude.{slice_get}
 use Rattle.std.specs.List.{AllByRecursion, list_any, position}
 use Rattle.std.specs.Option.{option_map_or}
@@ -16,14 +17,18 @@ use Rattle.lawful_runs.specs.Accesses.{issued_at}
 use Rattle.lawful_runs.specs.Items.{is_ended, is_own_refusal, number_in, belongs_to}
 use Rattle.lawful_runs.specs.Stages.{Stage, RankOfRun, calls_at, calls_here, known_at, shapes_in}
 use Rattle.lawful_runs.specs.TouchLaw.{IsTouchedWhole, is_awaiting, begins_awaiting}
-use Rattle.rank_laws.proofs.Awaiting.{rank_of, KnowsRequests, requests_push, touches_teach_nothing, AreAwaited, awaited_push, awaited_touches}
+use Rattle.rank_laws.proofs.Awaiting.{rank_of, KnowsRequests, requests_push, touches_teach_nothing, AreAwaited}
+use Rattle.rank_laws.proofs.Awaiting.{awaited_push, awaited_touches}
 use Rattle.rank_laws.proofs.Inductions.{Keeps}
 use Rattle.rank_laws.proofs.Lists.{none_passes, Among, among_each}
-use Rattle.rank_laws.proofs.Moves.{course_at, Begins, Entering, OnlyEntry, LookUp, Arriving, Leaving, IsPlainItem, Issuing, Learns, Rises, Ends, RefusesAlone, IsRefused, Tests, Passes, Enters, Issues, IssuesWhole, Draws, Delivers}
+use Rattle.rank_laws.proofs.Moves.{course_at, Begins, Entering, OnlyEntry, LookUp, Arriving, Leaving, IsPlainItem}
+use Rattle.rank_laws.proofs.Moves.{Issuing, Learns, Rises, Ends, RefusesAlone, IsRefused, Tests, Passes, Enters, Issues}
+use Rattle.rank_laws.proofs.Moves.{IssuesWhole, Draws, Delivers}
 use Rattle.rank_laws.proofs.Pendings.{IsSettled}
 use Rattle.rank_laws.proofs.Touching.{touches_own, touches_of_own}
 use Rattle.rank_laws.proofs.TouchMoves.{KeepsTouches, touches_kept}
-use Rattle.rank_rules.specs.Courses.{Course, OneNull, OneIssue, LookUpAndIssue, OneFlush, OneRequest, ArriveAndLeave, EntryOrTested, OneEntry}
+use Rattle.rank_rules.specs.Courses.{Course, OneNull, OneIssue, LookUpAndIssue, OneFlush, OneRequest, ArriveAndLeave}
+use Rattle.rank_rules.specs.Courses.{EntryOrTested, OneEntry}
 use Rattle.rank_rules.specs.Knowledge.{Knowledge}
 use Rattle.rank_rules.specs.Pending.{must_wait, way}
 use Rattle.rank_rules.specs.declared.pending.PendingAccess.{PendingAccess}

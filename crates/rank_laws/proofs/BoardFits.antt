@@ -1,5 +1,7 @@
 -- The log of a rank fits the entries that it knows: its own are there, each allowed, and its looks saw what they say.
-use Rattle.std.proofs.Common.{◌≡◌, ◌≢◌, ℕ, zero, suc, ◌+◌, ◌<◌, ◌≤◌, ◌⊎◌, inl, inr, Bool, false, cond, eqb, List, [], ◌∷◌, ◌++◌, length, Option, Some, None, refl, sym, ◌∙◌, ap, subst, arith, append-nil, append_assoc, length-append}
+use Rattle.std.proofs.Common.{◌≡◌, ◌≢◌, ℕ, zero, suc, ◌+◌, ◌<◌, ◌≤◌, ◌⊎◌, inl, inr, Bool, false, cond, eqb, List, []}
+use Rattle.std.proofs.Common.{◌∷◌, ◌++◌, length, Option, Some, None, refl, sym, ◌∙◌, ap, subst, arith, append-nil}
+use Rattle.std.proofs.Common.{append_assoc, length-append}
 use Rattle.std.specs.Prelude.{slice_get, IsSomeAnd}
 use Rattle.std.specs.List.{AllByRecursion, filter}
 use Rattle.std.proofs.lemmas.Bool.{ne_eqb, eq-eqb}
@@ -9,11 +11,13 @@ use Rattle.std.proofs.lemmas.List.Elements.{filter-append}
 use Rattle.std.proofs.lemmas.Option.{slice_get_past}
 use Rattle.rma_types.specs.declared.calls.Call.{Call}
 use Rattle.rma_record.specs.declared.items.Item.{Item}
-use Rattle.rma_record.specs.declared.items.Item.TheVariants.{Issue, Null, Touch, Flush, Request, Entry, Tested, Refused, Ended}
+use Rattle.rma_record.specs.declared.items.Item.TheVariants.{Issue, Null, Touch, Flush, Request, Entry, Tested, Refused}
+use Rattle.rma_record.specs.declared.items.Item.TheVariants.{Ended}
 use Rattle.board_rules.specs.Board.{Allow, NotYet, decide, shared_class}
 use Rattle.board_rules.specs.Entries.{Row}
 use Rattle.lawful_runs.specs.Accesses.{EachPair}
-use Rattle.lawful_runs.specs.BoardLaw.{IsLook, Moment, EntryAt, LookAfter, moment_by, moments_in, IsBefore, IsWithin, first_row}
+use Rattle.lawful_runs.specs.BoardLaw.{IsLook, Moment, EntryAt, LookAfter, moment_by, moments_in, IsBefore, IsWithin}
+use Rattle.lawful_runs.specs.BoardLaw.{first_row}
 use Rattle.lawful_runs.specs.Items.{is_entry}
 use Rattle.lawful_runs.specs.Logs.{is_entry_at}
 use Rattle.rank_laws.proofs.Lists.{each_turned, each_with, each_append, pair_push, place_in, get_front, get_rest}

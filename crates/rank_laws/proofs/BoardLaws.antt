@@ -1,5 +1,6 @@
 -- The board of an assembled run is lawful.
-use Rattle.std.proofs.Common.{◌≡◌, ℕ, zero, suc, ◌<◌, Bool, true, false, cond, List, [], ◌∷◌, length, Option, Some, None, refl, sym, ◌∙◌, ap, subst, arith}
+use Rattle.std.proofs.Common.{◌≡◌, ℕ, zero, suc, ◌<◌, Bool, true, false, cond, List, [], ◌∷◌, length, Option, Some}
+use Rattle.std.proofs.Common.{None, refl, sym, ◌∙◌, ap, subst, arith}
 use Rattle.std.specs.Prelude.{slice_get, slice_index_or, nat_lt}
 use Rattle.std.specs.List.{AllByRecursion, count_by, flat_map}
 use Rattle.std.proofs.lemmas.Bool.{ltb-true, ltb-false}
@@ -14,11 +15,13 @@ use Rattle.rma_record.specs.declared.runs.Run.{Run}
 use Rattle.board_rules.specs.Entries.{Row}
 use Rattle.call_rules.specs.Pieces.{numbers_from}
 use Rattle.lawful_runs.specs.BoardLaw.{HasEntries, HasLawfulLooks, AreAllowed}
-use Rattle.lawful_runs.specs.Logs.{log_of, calls_of, named_items, is_named_entry_at, is_some_entry, row_of, entry_at, rows_of}
+use Rattle.lawful_runs.specs.Logs.{log_of, calls_of, named_items, is_named_entry_at, is_some_entry, row_of, entry_at}
+use Rattle.lawful_runs.specs.Logs.{rows_of}
 use Rattle.lawful_runs.specs.Stages.{stage_of}
 use Rattle.rank_laws.proofs.BoardFits.{FitsBoard, IsOfCall, entries_for, nothing_fits}
 use Rattle.rank_laws.proofs.BoardMoves.{FitsAt, fits_kept}
-use Rattle.rank_laws.proofs.EntriesOfRun.{OneThere, none_in_logs, one_in_logs, amount_in_logs, row_there, rows_by_place, call_of_row, allowed_by_owners, names_in_logs}
+use Rattle.rank_laws.proofs.EntriesOfRun.{OneThere, none_in_logs, one_in_logs, amount_in_logs, row_there, rows_by_place}
+use Rattle.rank_laws.proofs.EntriesOfRun.{call_of_row, allowed_by_owners, names_in_logs}
 use Rattle.rank_laws.proofs.Inductions.{lived_holds, lived_rank}
 use Rattle.rank_laws.proofs.Runs.{rank_there}
 use Rattle.rank_laws.specs.Assembled.{IsAssembled}

@@ -1,5 +1,6 @@
 -- Every move keeps that a rank's log fits the entries that it knows.
-use Rattle.std.proofs.Common.{◌≡◌, ℕ, zero, suc, inl, inr, Bool, true, false, cond, List, [], ◌∷◌, ◌++◌, length, take, Option, Some, None, refl, sym, ◌∙◌, ap, subst, arith}
+use Rattle.std.proofs.Common.{◌≡◌, ℕ, zero, suc, inl, inr, Bool, true, false, cond, List, [], ◌∷◌, ◌++◌, length, take}
+use Rattle.std.proofs.Common.{Option, Some, None, refl, sym, ◌∙◌, ap, subst, arith}
 use Rattle.std.specs.Prelude.{slice_get}
 use Rattle.std.proofs.Math.Seq.{take-length}
 use Rattle.std.proofs.lemmas.Option.{slice_get_within}
@@ -7,19 +8,24 @@ use Rattle.rma_types.specs.declared.accesses.Step.{Step}
 use Rattle.rma_types.specs.declared.calls.Call.{Call}
 use Rattle.rma_types.specs.declared.classes.Class.{Class}
 use Rattle.rma_record.specs.declared.items.Item.{Item}
-use Rattle.rma_record.specs.declared.items.Item.TheVariants.{Issue, Null, Touch, Flush, Request, Entry, Tested, Refused, Ended}
+use Rattle.rma_record.specs.declared.items.Item.TheVariants.{Issue, Null, Touch, Flush, Request, Entry, Tested, Refused}
+use Rattle.rma_record.specs.declared.items.Item.TheVariants.{Ended}
 use Rattle.board_rules.specs.Board.{Refuse, Allow, NotYet, decide, shared_class, is_allowed_now}
 use Rattle.board_rules.specs.Entries.{Row}
 use Rattle.board_rules.specs.Questions.{question}
 use Rattle.lawful_runs.specs.BoardLaw.{LookAfter, first_row}
 use Rattle.lawful_runs.specs.Stages.{Stage, calls_at}
-use Rattle.rank_laws.proofs.BoardFits.{FitsBoard, AddsLook, IsQuiet, others_fit, own_fits, item_fits, quiet_fits, quiet_items_fit}
+use Rattle.rank_laws.proofs.BoardFits.{FitsBoard, AddsLook, IsQuiet, others_fit, own_fits, item_fits, quiet_fits}
+use Rattle.rank_laws.proofs.BoardFits.{quiet_items_fit}
 use Rattle.rank_laws.proofs.CallKinds.{first_step_is}
 use Rattle.rank_laws.proofs.Inductions.{Keeps}
 use Rattle.rank_laws.proofs.Lists.{each_turned}
-use Rattle.rank_laws.proofs.Moves.{Point, course_at, step_by, Entering, OnlyEntry, LookUp, Arriving, Leaving, IsPlainItem, Learns, Rises, Ends, RefusesAlone, IsRefused, Tests, Passes, Enters, Issues, IssuesWhole, Draws, Delivers}
+use Rattle.rank_laws.proofs.Moves.{Point, course_at, step_by, Entering, OnlyEntry, LookUp, Arriving, Leaving}
+use Rattle.rank_laws.proofs.Moves.{IsPlainItem, Learns, Rises, Ends, RefusesAlone, IsRefused, Tests, Passes, Enters}
+use Rattle.rank_laws.proofs.Moves.{Issues, IssuesWhole, Draws, Delivers}
 use Rattle.rank_laws.proofs.Touching.{IsTouchOf, touches_own, touches_of_own}
-use Rattle.rank_rules.specs.Courses.{Course, OneNull, OneIssue, LookUpAndIssue, OneFlush, OneRequest, ArriveAndLeave, EntryOrTested, OneEntry}
+use Rattle.rank_rules.specs.Courses.{Course, OneNull, OneIssue, LookUpAndIssue, OneFlush, OneRequest, ArriveAndLeave}
+use Rattle.rank_rules.specs.Courses.{EntryOrTested, OneEntry}
 use Rattle.step_runs.specs.Agents.{Agent, next_call}
 use Rattle.step_runs.specs.BoardSteps.{next_row}
 

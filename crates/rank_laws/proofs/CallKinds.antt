@@ -4,9 +4,14 @@ use Rattle.std.specs.Prelude.{is_some}
 use Rattle.rma_types.specs.declared.accesses.Step.TheVariants.{Arrive, One}
 use Rattle.rma_types.specs.declared.calls.Call.{Call}
 use Rattle.board_rules.specs.Entries.{collective_in, fence_or_none, first_step}
-use Rattle.call_rules.specs.Actions.{Action, Creates, Frees, Attaches, Detaches, Synchronises, Meets, Moves, EndsRequest, Synchronisation, Fences, Posts, Starts, Completes, Waits, Locks, Unlocks, Flushes, Syncs, Transfer, Target, Own, Null, Named, action_of, transfer_in, transfer_of}
+use Rattle.call_rules.specs.Actions.{Action, Creates, Frees, Attaches, Detaches, Synchronises, Meets, Moves}
+use Rattle.call_rules.specs.Actions.{EndsRequest, Synchronisation, Fences, Posts, Starts, Completes, Waits, Locks}
+use Rattle.call_rules.specs.Actions.{Unlocks, Flushes, Syncs, Transfer, Target, Own, Null, Named, action_of}
+use Rattle.call_rules.specs.Actions.{transfer_in, transfer_of}
 use Rattle.rank_laws.proofs.Moves.{step_by}
-use Rattle.rank_rules.specs.Courses.{Course, OneNull, OneIssue, LookUpAndIssue, OneFlush, OneRequest, ArriveAndLeave, EntryOrTested, OneEntry, course_of, course_of_action, course_of_transfer, course_of_synchronisation, is_dynamic}
+use Rattle.rank_rules.specs.Courses.{Course, OneNull, OneIssue, LookUpAndIssue, OneFlush, OneRequest, ArriveAndLeave}
+use Rattle.rank_rules.specs.Courses.{EntryOrTested, OneEntry, course_of, course_of_action, course_of_transfer}
+use Rattle.rank_rules.specs.Courses.{course_of_synchronisation, is_dynamic}
 use Rattle.rank_rules.specs.Windows.{RankWindows}
 
 -- ---- the first step

@@ -1,5 +1,6 @@
 -- The cells of an assembled run are lawful.
-use Rattle.std.proofs.Common.{◌≡◌, ℕ, zero, suc, ◌<◌, ◌≤◌, inl, inr, Bool, true, false, cond, List, [], ◌∷◌, length, Option, Some, None, refl, sym, ◌∙◌, ap, subst, arith, append-nil}
+use Rattle.std.proofs.Common.{◌≡◌, ℕ, zero, suc, ◌<◌, ◌≤◌, inl, inr, Bool, true, false, cond, List, [], ◌∷◌, length}
+use Rattle.std.proofs.Common.{Option, Some, None, refl, sym, ◌∙◌, ap, subst, arith, append-nil}
 use Rattle.std.specs.Prelude.{nat_lt, map}
 use Rattle.std.specs.List.{AllByRecursion, filter, find, count_by}
 use Rattle.std.specs.Option.{option_map_or}
@@ -11,7 +12,8 @@ use Rattle.rma_types.specs.declared.scripts.Script.{Script}
 use Rattle.rma_record.specs.declared.items.Item.{Item}
 use Rattle.rma_record.specs.declared.runs.Run.{Run}
 use Rattle.call_rules.specs.Pieces.{numbers_from}
-use Rattle.lawful_runs.specs.Accesses.{Touching, EachPair, touches_of, touches_among, on_cell, updates_in, is_update, all_touches}
+use Rattle.lawful_runs.specs.Accesses.{Touching, EachPair, touches_of, touches_among, on_cell, updates_in, is_update}
+use Rattle.lawful_runs.specs.Accesses.{all_touches}
 use Rattle.lawful_runs.specs.Cells.{IsHistory, ReadsState, KeepsOrder, state, changed, has_place}
 use Rattle.lawful_runs.specs.Logs.{named_in}
 use Rattle.lawful_runs.specs.Stages.{stage_of, calls_at}

@@ -1,5 +1,6 @@
 -- The touches of a rank on one cell stand in the order of their places.
-use Rattle.std.proofs.Common.{◌≡◌, ℕ, suc, ◌+◌, ◌<◌, ◌≤◌, false, List, [], ◌∷◌, ◌++◌, length, Option, Some, None, refl, sym, ◌∙◌, ap, subst, arith, append_assoc}
+use Rattle.std.proofs.Common.{◌≡◌, ℕ, suc, ◌+◌, ◌<◌, ◌≤◌, false, List, [], ◌∷◌, ◌++◌, length, Option, Some, None, refl}
+use Rattle.std.proofs.Common.{sym, ◌∙◌, ap, subst, arith, append_assoc}
 use Rattle.std.specs.Prelude.{slice_get, is_some}
 use Rattle.std.specs.List.{AllByRecursion}
 use Rattle.std.specs.Option.{option_map_or}
@@ -7,13 +8,15 @@ use Rattle.std.proofs.lemmas.Grind.{flat_map-append}
 use Rattle.rma_types.specs.declared.calls.Call.{Call}
 use Rattle.rma_types.specs.declared.scripts.Layout.{Layout}
 use Rattle.rma_record.specs.declared.items.Item.{Item}
-use Rattle.rma_record.specs.declared.items.Item.TheVariants.{Issue, Null, Touch, Flush, Request, Entry, Tested, Refused, Ended}
+use Rattle.rma_record.specs.declared.items.Item.TheVariants.{Issue, Null, Touch, Flush, Request, Entry, Tested, Refused}
+use Rattle.rma_record.specs.declared.items.Item.TheVariants.{Ended}
 use Rattle.call_rules.specs.declared.elements.Change.{Change}
 use Rattle.call_rules.specs.declared.elements.Piece.{Piece}
 use Rattle.call_rules.specs.Actions.{Transfer}
 use Rattle.call_rules.specs.Pieces.{pieces}
 use Rattle.call_rules.specs.Transfers.{change_of}
-use Rattle.lawful_runs.specs.Accesses.{Touching, touches_among, touching_by, change_made, issued_at, issued_by, transfer_at, EachPair}
+use Rattle.lawful_runs.specs.Accesses.{Touching, touches_among, touching_by, change_made, issued_at, issued_by}
+use Rattle.lawful_runs.specs.Accesses.{transfer_at, EachPair}
 use Rattle.lawful_runs.specs.Cells.{KeepsOrder}
 use Rattle.lawful_runs.specs.Items.{is_touch}
 use Rattle.lawful_runs.specs.Logs.{Named, named_from}
@@ -22,7 +25,8 @@ use Rattle.rank_laws.proofs.DataPaths.{its_transfer}
 use Rattle.rank_laws.proofs.Histories.{most_same, most_join}
 use Rattle.rank_laws.proofs.Inductions.{Keeps}
 use Rattle.rank_laws.proofs.Lists.{each_turned, each_at, each_append, pair_joined, get_rest}
-use Rattle.rank_laws.proofs.Moves.{Point, Entering, OnlyEntry, LookUp, Arriving, Leaving, Learns, Rises, Ends, RefusesAlone, IsRefused, Tests, Passes, Enters, Issues, IssuesWhole, Draws, Delivers}
+use Rattle.rank_laws.proofs.Moves.{Point, Entering, OnlyEntry, LookUp, Arriving, Leaving, Learns, Rises, Ends}
+use Rattle.rank_laws.proofs.Moves.{RefusesAlone, IsRefused, Tests, Passes, Enters, Issues, IssuesWhole, Draws, Delivers}
 use Rattle.rank_laws.proofs.Pendings.{IsUntouched}
 use Rattle.rank_laws.proofs.Touching.{issued_still}
 use Rattle.rank_laws.proofs.TouchMoves.{KeepsTouches, touches_kept, plain_by_course, made_by, made_is}

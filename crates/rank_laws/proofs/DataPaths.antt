@@ -1,5 +1,6 @@
 -- A step without the board is a path of moves.
-use Rattle.std.proofs.Common.{◌≡◌, ℕ, suc, ◌⊎◌, inl, inr, Bool, true, false, not, ◌&&◌, cond, eqb, List, [], ◌∷◌, ◌++◌, length, Option, Some, None, refl, sym, ◌∙◌, ap, subst, arith, append-nil}
+use Rattle.std.proofs.Common.{◌≡◌, ℕ, suc, ◌⊎◌, inl, inr, Bool, true, false, not, ◌&&◌, cond, eqb, List, [], ◌∷◌, ◌++◌}
+use Rattle.std.proofs.Common.{length, Option, Some, None, refl, sym, ◌∙◌, ap, subst, arith, append-nil}
 use Rattle.std.specs.Prelude.{slice_get, nat_lt, ◌%◌, ◌/◌, ◌==◌}
 use Rattle.std.specs.List.{remove, position}
 use Rattle.std.specs.Option.{option_map_or}
@@ -18,17 +19,22 @@ use Rattle.call_rules.specs.Pieces.{pieces}
 use Rattle.lawful_runs.specs.Accesses.{transfer_at}
 use Rattle.lawful_runs.specs.Stages.{Stage, calls_at}
 use Rattle.rank_laws.proofs.Histories.{both_left}
-use Rattle.rank_laws.proofs.Moves.{point, course_at, Begins, IsPlainItem, Issuing, IsDrawn, IsAwaited, IsAtEnd, IsClosed, IsDue, issued_whole, Move, Rises, Ends, RefusesAlone, Passes, Issues, IssuesWhole, Draws, Delivers as DeliversOne, Path, one_move, paths_join}
+use Rattle.rank_laws.proofs.Moves.{point, course_at, Begins, IsPlainItem, Issuing, IsDrawn, IsAwaited, IsAtEnd}
+use Rattle.rank_laws.proofs.Moves.{IsClosed, IsDue, issued_whole, Move, Rises, Ends, RefusesAlone, Passes, Issues}
+use Rattle.rank_laws.proofs.Moves.{IssuesWhole, Draws, Delivers as DeliversOne, Path, one_move, paths_join}
 use Rattle.rank_laws.proofs.Ways.{way_is_free, first_is_free}
 use Rattle.rank_laws.specs.Deliveries.{AreTouches, AreTouchesOf, IsDelivered}
 use Rattle.rank_laws.specs.Fronts.{Lows, AreAtMost}
 use Rattle.rank_laws.specs.Lives.{IsMade}
-use Rattle.rank_rules.specs.Courses.{Course, OneNull, OneIssue, LookUpAndIssue, OneFlush, OneRequest, ArriveAndLeave, EntryOrTested, OneEntry, access_of}
+use Rattle.rank_rules.specs.Courses.{Course, OneNull, OneIssue, LookUpAndIssue, OneFlush, OneRequest, ArriveAndLeave}
+use Rattle.rank_rules.specs.Courses.{EntryOrTested, OneEntry, access_of}
 use Rattle.rank_rules.specs.Knowledge.{own_class}
 use Rattle.rank_rules.specs.Pending.{way, first_in_way, must_wait}
 use Rattle.rank_rules.specs.declared.pending.PendingAccess.{PendingAccess}
 use Rattle.step_runs.specs.Agents.{Agent, next_call, has_pending, must_draw, is_seeded, awaited_by, kept}
-use Rattle.step_runs.specs.DataSteps.{no_shapes, just_delivers, without_delivery, with_item, with_issue, is_at_once, issue_of, issue, draw, first_item, wait_or_go_on, judge, begin, go_on, end, move_of}
+use Rattle.step_runs.specs.DataSteps.{no_shapes, just_delivers, without_delivery, with_item, with_issue, is_at_once}
+use Rattle.step_runs.specs.DataSteps.{issue_of, issue, draw, first_item, wait_or_go_on, judge, begin, go_on, end}
+use Rattle.step_runs.specs.DataSteps.{move_of}
 use Rattle.step_runs.specs.Generator.{stirred, drawn_from}
 
 -- nothing else is done, and lows may rise

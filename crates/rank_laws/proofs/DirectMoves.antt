@@ -1,5 +1,7 @@
 -- Touches stand after their Issue, and those that are made at once stand directly after it.
-use Rattle.std.proofs.Common.{◌≡◌, ℕ, zero, suc, ◌+◌, ◌<◌, ◌≤◌, inl, inr, Bool, true, false, cond, eqb, List, [], ◌∷◌, ◌++◌, length, take, drop, Option, Some, None, refl, sym, ◌∙◌, ap, subst, arith, append_assoc, length-append}
+use Rattle.std.proofs.Common.{◌≡◌, ℕ, zero, suc, ◌+◌, ◌<◌, ◌≤◌, inl, inr, Bool, true, false, cond, eqb, List, [], ◌∷◌}
+use Rattle.std.proofs.Common.{◌++◌, length, take, drop, Option, Some, None, refl, sym, ◌∙◌, ap, subst, arith}
+use Rattle.std.proofs.Common.{append_assoc, length-append}
 use Rattle.std.specs.Prelude.{slice_get, IsSome}
 use Rattle.std.specs.List.{AllByRecursion}
 use Rattle.std.specs.Option.{option_map_or}
@@ -9,7 +11,8 @@ use Rattle.rma_types.specs.declared.accesses.Access.{Access}
 use Rattle.rma_types.specs.declared.calls.Call.{Call}
 use Rattle.rma_types.specs.declared.scripts.Layout.{Layout}
 use Rattle.rma_record.specs.declared.items.Item.{Item}
-use Rattle.rma_record.specs.declared.items.Item.TheVariants.{Issue, Null, Touch, Flush, Request, Entry, Tested, Refused, Ended}
+use Rattle.rma_record.specs.declared.items.Item.TheVariants.{Issue, Null, Touch, Flush, Request, Entry, Tested, Refused}
+use Rattle.rma_record.specs.declared.items.Item.TheVariants.{Ended}
 use Rattle.call_rules.specs.declared.elements.Piece.{Piece}
 use Rattle.call_rules.specs.Actions.{Transfer}
 use Rattle.call_rules.specs.Pieces.{pieces}
@@ -20,9 +23,11 @@ use Rattle.lawful_runs.specs.TouchLaw.{touch_of, touched_by, elements_from}
 use Rattle.rank_laws.proofs.DataPaths.{its_transfer}
 use Rattle.rank_laws.proofs.Inductions.{Keeps}
 use Rattle.rank_laws.proofs.Lists.{each_at, place_in, get_front, get_rest}
-use Rattle.rank_laws.proofs.Moves.{Point, Entering, OnlyEntry, LookUp, Arriving, Leaving, Issuing, Learns, Rises, Ends, RefusesAlone, IsRefused, Tests, Passes, Enters, Issues, IssuesWhole, Draws, Delivers}
+use Rattle.rank_laws.proofs.Moves.{Point, Entering, OnlyEntry, LookUp, Arriving, Leaving, Issuing, Learns, Rises, Ends}
+use Rattle.rank_laws.proofs.Moves.{RefusesAlone, IsRefused, Tests, Passes, Enters, Issues, IssuesWhole, Draws, Delivers}
 use Rattle.rank_laws.proofs.Pendings.{IsUntouched, elements_of}
-use Rattle.rank_laws.proofs.Touching.{IsTouchOf, touches_own, touches_of_own, touches_elements, issued_inside, issued_front, issued_before_touches, issued_push}
+use Rattle.rank_laws.proofs.Touching.{IsTouchOf, touches_own, touches_of_own, touches_elements, issued_inside}
+use Rattle.rank_laws.proofs.Touching.{issued_front, issued_before_touches, issued_push}
 use Rattle.rank_laws.proofs.TouchMoves.{KeepsTouches, touches_kept, plain_by_course, made_by, made_is, made_elements}
 use Rattle.rank_laws.specs.Deliveries.{AreTouches}
 use Rattle.rank_laws.specs.Fronts.{Lows}

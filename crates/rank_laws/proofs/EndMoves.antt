@@ -1,20 +1,25 @@
 -- A rank has ended exactly where its log ends with Ended.
-use Rattle.std.proofs.Common.{◌≡◌, ℕ, suc, Bool, true, false, ◌&&◌, List, [], ◌∷◌, ◌++◌, length, Option, Some, refl, sym, ◌∙◌, ap, arith, append-nil, append_assoc, length-append}
+use Rattle.std.proofs.Common.{◌≡◌, ℕ, suc, Bool, true, false, ◌&&◌, List, [], ◌∷◌, ◌++◌, length, Option, Some, refl}
+use Rattle.std.proofs.Common.{sym, ◌∙◌, ap, arith, append-nil, append_assoc, length-append}
 use Rattle.std.specs.Prelude.{slice_get, map}
 use Rattle.std.specs.List.{AllByRecursion, list_all}
 use Rattle.std.specs.Option.{option_map_or}
 use Rattle.rma_types.specs.declared.accesses.Step.{Step}
 use Rattle.rma_types.specs.declared.calls.Call.{Call}
 use Rattle.rma_record.specs.declared.items.Item.{Item}
-use Rattle.rma_record.specs.declared.items.Item.TheVariants.{Issue, Null, Touch, Flush, Request, Entry, Tested, Refused, Ended}
+use Rattle.rma_record.specs.declared.items.Item.TheVariants.{Issue, Null, Touch, Flush, Request, Entry, Tested, Refused}
+use Rattle.rma_record.specs.declared.items.Item.TheVariants.{Ended}
 use Rattle.lawful_runs.specs.Items.{is_ended, has_ended}
 use Rattle.lawful_runs.specs.Stages.{Stage, stage_of}
 use Rattle.rank_laws.proofs.Inductions.{Keeps, EndsOver, over_kept, lived_holds}
 use Rattle.rank_laws.proofs.Lists.{get_rest}
-use Rattle.rank_laws.proofs.Moves.{Point, course_at, Entering, OnlyEntry, LookUp, Arriving, Leaving, IsPlainItem, Learns, Rises, Ends, RefusesAlone, IsRefused, Tests, Passes, Enters, Issues, IssuesWhole, Draws, Delivers}
+use Rattle.rank_laws.proofs.Moves.{Point, course_at, Entering, OnlyEntry, LookUp, Arriving, Leaving, IsPlainItem}
+use Rattle.rank_laws.proofs.Moves.{Learns, Rises, Ends, RefusesAlone, IsRefused, Tests, Passes, Enters, Issues}
+use Rattle.rank_laws.proofs.Moves.{IssuesWhole, Draws, Delivers}
 use Rattle.rank_laws.proofs.Touching.{IsTouchOf, touches_own, touches_of_own}
 use Rattle.rank_laws.specs.Lawful.{AssembledRunsEndAlike}
-use Rattle.rank_rules.specs.Courses.{Course, OneNull, OneIssue, LookUpAndIssue, OneFlush, OneRequest, ArriveAndLeave, EntryOrTested, OneEntry}
+use Rattle.rank_rules.specs.Courses.{Course, OneNull, OneIssue, LookUpAndIssue, OneFlush, OneRequest, ArriveAndLeave}
+use Rattle.rank_rules.specs.Courses.{EntryOrTested, OneEntry}
 use Rattle.rank_rules.specs.declared.pending.PendingAccess.{PendingAccess}
 use Rattle.step_runs.specs.Agents.{Agent, next_call}
 

@@ -1,5 +1,7 @@
 -- The entries of all logs, where each log fits the same rows.
-use Rattle.std.proofs.Common.{◌≡◌, ℕ, zero, suc, ◌+◌, ◌<◌, ◌≤◌, inl, inr, Bool, true, false, cond, eqb, List, [], ◌∷◌, ◌++◌, length, Option, Some, None, refl, sym, ◌∙◌, ap, subst, arith, append-nil, length-append}
+use Rattle.std.proofs.Common.{◌≡◌, ℕ, zero, suc, ◌+◌, ◌<◌, ◌≤◌, inl, inr, Bool, true, false, cond, eqb, List, [], ◌∷◌}
+use Rattle.std.proofs.Common.{◌++◌, length, Option, Some, None, refl, sym, ◌∙◌, ap, subst, arith, append-nil}
+use Rattle.std.proofs.Common.{length-append}
 use Rattle.std.specs.Prelude.{slice_get}
 use Rattle.std.specs.List.{AllByRecursion, filter, find, flat_map}
 use Rattle.std.specs.Option.{option_map_or}
@@ -10,12 +12,14 @@ use Rattle.std.proofs.lemmas.List.Elements.{filter-append}
 use Rattle.rma_types.specs.declared.calls.Call.{Call}
 use Rattle.rma_types.specs.declared.scripts.Script.{Script}
 use Rattle.rma_record.specs.declared.items.Item.{Item}
-use Rattle.rma_record.specs.declared.items.Item.TheVariants.{Issue, Null, Touch, Flush, Request, Entry, Tested, Refused, Ended}
+use Rattle.rma_record.specs.declared.items.Item.TheVariants.{Issue, Null, Touch, Flush, Request, Entry, Tested, Refused}
+use Rattle.rma_record.specs.declared.items.Item.TheVariants.{Ended}
 use Rattle.board_rules.specs.Entries.{Row}
 use Rattle.call_rules.specs.Pieces.{numbers_from}
 use Rattle.lawful_runs.specs.BoardLaw.{AreAllowed, NamesCallOf, NamesItsCall}
 use Rattle.lawful_runs.specs.Items.{is_entry}
-use Rattle.lawful_runs.specs.Logs.{Named, named_from, named_in, named_logs, is_entry_at, is_named_entry_at, is_some_entry, entry_at, row_by, row_of, calls_of}
+use Rattle.lawful_runs.specs.Logs.{Named, named_from, named_in, named_logs, is_entry_at, is_named_entry_at}
+use Rattle.lawful_runs.specs.Logs.{is_some_entry, entry_at, row_by, row_of, calls_of}
 use Rattle.rank_laws.proofs.BoardFits.{entries_for, own_of, AreOwnAllowed, IsOfCall}
 use Rattle.rank_laws.proofs.Lists.{each_append}
 

@@ -1,5 +1,6 @@
 -- A rank's history is a path of moves.
-use Rattle.std.proofs.Common.{◌≡◌, ℕ, inl, inr, Bool, true, false, not, ◌&&◌, cond, List, [], ◌∷◌, ◌++◌, Option, Some, None, refl, sym, ◌∙◌, ap, subst, arith}
+use Rattle.std.proofs.Common.{◌≡◌, ℕ, inl, inr, Bool, true, false, not, ◌&&◌, cond, List, [], ◌∷◌, ◌++◌, Option, Some}
+use Rattle.std.proofs.Common.{None, refl, sym, ◌∙◌, ap, subst, arith}
 use Rattle.std.specs.Prelude.{is_none, ◌≢◌}
 use Rattle.std.specs.List.{AllByRecursion}
 use Rattle.std.specs.Option.{option_map_or}
@@ -13,12 +14,16 @@ use Rattle.board_rules.specs.Rounds.{all_arrived}
 use Rattle.call_rules.specs.Actions.{transfer_of}
 use Rattle.lawful_runs.specs.Stages.{Stage}
 use Rattle.rank_laws.proofs.CallKinds.{moves_nothing}
-use Rattle.rank_laws.proofs.Moves.{point, point_at, course_at, Begins, step_by, Entering, OnlyEntry, LookUp, Arriving, Leaving, IsRefused, Tests, Enters, Path, Stays, one_move, paths_join}
+use Rattle.rank_laws.proofs.Moves.{point, point_at, course_at, Begins, step_by, Entering, OnlyEntry, LookUp, Arriving}
+use Rattle.rank_laws.proofs.Moves.{Leaving, IsRefused, Tests, Enters, Path, Stays, one_move, paths_join}
 use Rattle.rank_laws.specs.Fronts.{Lows, AreAtMost, Put, rows_put, AreOthers, ArePut}
-use Rattle.rank_rules.specs.Courses.{Course, OneNull, OneIssue, LookUpAndIssue, OneFlush, OneRequest, ArriveAndLeave, EntryOrTested, OneEntry, has_entry}
+use Rattle.rank_rules.specs.Courses.{Course, OneNull, OneIssue, LookUpAndIssue, OneFlush, OneRequest, ArriveAndLeave}
+use Rattle.rank_rules.specs.Courses.{EntryOrTested, OneEntry, has_entry}
 use Rattle.rank_rules.specs.Knowledge.{own_class}
-use Rattle.step_runs.specs.Agents.{Agent, next_call, finished, opened, must_draw, awaited_by, begins_with_entry, tries_entry}
-use Rattle.step_runs.specs.BoardSteps.{next_row, waiting, enter_by, test_by, leave, leave_if_entered, entered, first_entry, entry_of, board_step}
+use Rattle.step_runs.specs.Agents.{Agent, next_call, finished, opened, must_draw, awaited_by, begins_with_entry}
+use Rattle.step_runs.specs.Agents.{tries_entry}
+use Rattle.step_runs.specs.BoardSteps.{next_row, waiting, enter_by, test_by, leave, leave_if_entered, entered}
+use Rattle.step_runs.specs.BoardSteps.{first_entry, entry_of, board_step}
 
 -- ---- answers
 

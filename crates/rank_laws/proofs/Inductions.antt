@@ -1,5 +1,6 @@
 -- What every move keeps holds at the end of a rank's whole history.
-use Rattle.std.proofs.Common.{◌≡◌, ℕ, inl, inr, Bool, true, false, List, [], ◌++◌, Option, Some, None, refl, sym, ◌∙◌, ap, subst, cond}
+use Rattle.std.proofs.Common.{◌≡◌, ℕ, inl, inr, Bool, true, false, List, [], ◌++◌, Option, Some, None, refl, sym, ◌∙◌}
+use Rattle.std.proofs.Common.{ap, subst, cond}
 use Rattle.std.specs.Prelude.{slice_get, is_none, ◌≢◌}
 use Rattle.std.specs.List.{AllByRecursion}
 use Rattle.std.specs.Option.{option_map_or}
@@ -9,11 +10,14 @@ use Rattle.call_rules.specs.Actions.{transfer_of}
 use Rattle.lawful_runs.specs.Stages.{Stage}
 use Rattle.rank_laws.proofs.DataPaths.{delivery_path, step_path}
 use Rattle.rank_laws.proofs.Histories.{is_none_of, look_path, put_rises, others_rows, rows_joined}
-use Rattle.rank_laws.proofs.Moves.{Point, point, point_at, Entering, OnlyEntry, LookUp, Arriving, Leaving, IsClosed, IsDrained, IsDue, Move, Learns, Rises, Ends, RefusesAlone, IsRefused, Tests, Passes, Enters, Issues, IssuesWhole, Draws, Delivers as DeliversOne, Path, Stays, Goes}
+use Rattle.rank_laws.proofs.Moves.{Point, point, point_at, Entering, OnlyEntry, LookUp, Arriving, Leaving, IsClosed}
+use Rattle.rank_laws.proofs.Moves.{IsDrained, IsDue, Move, Learns, Rises, Ends, RefusesAlone, IsRefused, Tests, Passes}
+use Rattle.rank_laws.proofs.Moves.{Enters, Issues, IssuesWhole, Draws, Delivers as DeliversOne, Path, Stays, Goes}
 use Rattle.rank_laws.proofs.Ways.{first_is_free}
 use Rattle.rank_laws.specs.Deliveries.{IsDelivered}
 use Rattle.rank_laws.specs.Fronts.{Lows, first_lows, Put, rows_put, AreOthers}
-use Rattle.rank_laws.specs.Lives.{LooksAfter, Lives, Begins as BeginsLife, Looks, Steps, Stops, Drains, Stays as StaysDry, Drained, HasLived}
+use Rattle.rank_laws.specs.Lives.{LooksAfter, Lives, Begins as BeginsLife, Looks, Steps, Stops, Drains}
+use Rattle.rank_laws.specs.Lives.{Stays as StaysDry, Drained, HasLived}
 use Rattle.rank_rules.specs.declared.pending.PendingAccess.{PendingAccess}
 use Rattle.step_runs.specs.Agents.{Agent, new_agent, next_call, begins_with_entry}
 use Rattle.step_runs.specs.BoardSteps.{board_step}

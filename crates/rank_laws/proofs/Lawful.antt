@@ -13,7 +13,8 @@ use Rattle.rank_laws.proofs.Inductions.{lived_rank}
 use Rattle.rank_laws.proofs.LookUps.{look_ups_followed}
 use Rattle.rank_laws.proofs.Runs.{rank_there}
 use Rattle.rank_laws.proofs.TouchLaws.{lawful_touches, keeps_none}
-use Rattle.rank_laws.specs.Lawful.{HasLawfulTouches, AssembledRunsFollowLookUps, AssembledRunsTouchLawfully, UndelayedRunsTouchDirectly}
+use Rattle.rank_laws.specs.Lawful.{HasLawfulTouches, AssembledRunsFollowLookUps, AssembledRunsTouchLawfully}
+use Rattle.rank_laws.specs.Lawful.{UndelayedRunsTouchDirectly}
 
 pub touches_are_lawful : AssembledRunsTouchLawfully
 touches_are_lawful script delay seed run is rank inside =

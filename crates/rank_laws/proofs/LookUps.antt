@@ -1,5 +1,6 @@
 -- Each look-up is directly followed by its Issue, or is the last item of a rank that will issue next.
-use Rattle.std.proofs.Common.{◌≡◌, ℕ, zero, suc, ◌+◌, ◌⊎◌, inl, inr, true, false, eqb, List, [], ◌∷◌, ◌++◌, length, Option, Some, None, refl, sym, ◌∙◌, ap, subst, arith, append_assoc, length-append}
+use Rattle.std.proofs.Common.{◌≡◌, ℕ, zero, suc, ◌+◌, ◌⊎◌, inl, inr, true, false, eqb, List, [], ◌∷◌, ◌++◌, length}
+use Rattle.std.proofs.Common.{Option, Some, None, refl, sym, ◌∙◌, ap, subst, arith, append_assoc, length-append}
 use Rattle.std.specs.Prelude.{slice_get, IsSome, IfSome}
 use Rattle.std.specs.List.{AllByRecursion}
 use Rattle.std.proofs.lemmas.Bool.Decides.{eqb_tells}
@@ -8,7 +9,8 @@ use Rattle.rma_types.specs.declared.accesses.Step.{Step}
 use Rattle.rma_types.specs.declared.accesses.Step.TheVariants.{Arrive, Leave, One}
 use Rattle.rma_types.specs.declared.calls.Call.{Call}
 use Rattle.rma_record.specs.declared.items.Item.{Item}
-use Rattle.rma_record.specs.declared.items.Item.TheVariants.{Issue, Null, Touch, Flush, Request, Entry, Tested, Refused, Ended}
+use Rattle.rma_record.specs.declared.items.Item.TheVariants.{Issue, Null, Touch, Flush, Request, Entry, Tested, Refused}
+use Rattle.rma_record.specs.declared.items.Item.TheVariants.{Ended}
 use Rattle.board_rules.specs.Entries.{Row}
 use Rattle.call_rules.specs.Actions.{transfer_of}
 use Rattle.call_rules.specs.Pieces.{numbers_from}
@@ -19,11 +21,14 @@ use Rattle.rank_laws.proofs.Awaiting.{rank_of}
 use Rattle.rank_laws.proofs.CallKinds.{moves_nothing}
 use Rattle.rank_laws.proofs.Inductions.{Keeps, lived_holds}
 use Rattle.rank_laws.proofs.Lists.{each_at, place_in, get_front, get_rest, numbers_each}
-use Rattle.rank_laws.proofs.Moves.{course_at, Entering, OnlyEntry, LookUp, Arriving, Leaving, IsClosed, IsPlainItem, Learns, Rises, Ends, RefusesAlone, IsRefused, Tests, Passes, Enters, Issues, IssuesWhole, Draws, Delivers}
+use Rattle.rank_laws.proofs.Moves.{course_at, Entering, OnlyEntry, LookUp, Arriving, Leaving, IsClosed, IsPlainItem}
+use Rattle.rank_laws.proofs.Moves.{Learns, Rises, Ends, RefusesAlone, IsRefused, Tests, Passes, Enters, Issues}
+use Rattle.rank_laws.proofs.Moves.{IssuesWhole, Draws, Delivers}
 use Rattle.rank_laws.proofs.Touching.{IsTouchOf, touches_own, touches_of_own}
 use Rattle.rank_laws.specs.Fronts.{Put}
 use Rattle.rank_laws.specs.Lives.{HasLived}
-use Rattle.rank_rules.specs.Courses.{Course, OneNull, OneIssue, LookUpAndIssue, OneFlush, OneRequest, ArriveAndLeave, EntryOrTested, OneEntry}
+use Rattle.rank_rules.specs.Courses.{Course, OneNull, OneIssue, LookUpAndIssue, OneFlush, OneRequest, ArriveAndLeave}
+use Rattle.rank_rules.specs.Courses.{EntryOrTested, OneEntry}
 use Rattle.step_runs.specs.Agents.{Agent, finished, opened}
 
 -- ---- a log

@@ -17,7 +17,8 @@ use Rattle.lawful_runs.specs.Accesses.{transfer_at}
 use Rattle.lawful_runs.specs.Stages.{Stage, calls_at}
 use Rattle.rank_laws.specs.Deliveries.{AreTouches, AreTouchesOf, delivered}
 use Rattle.rank_laws.specs.Fronts.{Lows, AreAtMost}
-use Rattle.rank_rules.specs.Courses.{Course, OneNull, OneIssue, LookUpAndIssue, OneFlush, OneRequest, ArriveAndLeave, EntryOrTested, OneEntry, course_of, has_entry, access_of}
+use Rattle.rank_rules.specs.Courses.{Course, OneNull, OneIssue, LookUpAndIssue, OneFlush, OneRequest, ArriveAndLeave}
+use Rattle.rank_rules.specs.Courses.{EntryOrTested, OneEntry, course_of, has_entry, access_of}
 use Rattle.rank_rules.specs.Knowledge.{own_class}
 use Rattle.rank_rules.specs.Pending.{first_in_way}
 use Rattle.rank_rules.specs.declared.pending.PendingAccess.{PendingAccess}

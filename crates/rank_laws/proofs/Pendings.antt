@@ -1,5 +1,6 @@
 -- Each access of a log is touched whole, or is pending and not touched at all.
-use Rattle.std.proofs.Common.{◌≡◌, ℕ, ◌+◌, ◌<◌, ◌⊎◌, inl, inr, false, List, [], ◌∷◌, ◌++◌, length, take, Option, Some, None, sym, ◌∙◌, ap, subst, arith, append-nil, length-append}
+use Rattle.std.proofs.Common.{◌≡◌, ℕ, ◌+◌, ◌<◌, ◌⊎◌, inl, inr, false, List, [], ◌∷◌, ◌++◌, length, take, Option, Some}
+use Rattle.std.proofs.Common.{None, sym, ◌∙◌, ap, subst, arith, append-nil, length-append}
 use Rattle.std.specs.Prelude.{slice_get, IfSome}
 use Rattle.std.specs.List.{AllByRecursion, remove}
 use Rattle.std.specs.Option.{option_map_or}
@@ -10,8 +11,12 @@ use Rattle.rma_record.specs.declared.items.Item.{Item}
 use Rattle.lawful_runs.specs.Accesses.{issued_by, issued_at, pieces_of, EachPair}
 use Rattle.lawful_runs.specs.Items.{is_touch}
 use Rattle.lawful_runs.specs.TouchLaw.{touched_by, elements_from, issues_touched}
-use Rattle.rank_laws.proofs.Lists.{each_turned, each_with, each_at, each_append, each_left, pair_joined, pair_alike, pair_left, pair_within, Among, among_left, among_rest, others_apart, smaller_before, get_rest}
-use Rattle.rank_laws.proofs.Touching.{IsTouchOf, touched_by_other, touched_joined, touched_plain, touched_past, issues_joined, issues_plain, issues_of_touches, made_at, issued_inside, issued_front, issued_still, issued_before_touches, issued_push}
+use Rattle.rank_laws.proofs.Lists.{each_turned, each_with, each_at, each_append, each_left, pair_joined, pair_alike}
+use Rattle.rank_laws.proofs.Lists.{pair_left, pair_within, Among, among_left, among_rest, others_apart, smaller_before}
+use Rattle.rank_laws.proofs.Lists.{get_rest}
+use Rattle.rank_laws.proofs.Touching.{IsTouchOf, touched_by_other, touched_joined, touched_plain, touched_past}
+use Rattle.rank_laws.proofs.Touching.{issues_joined, issues_plain, issues_of_touches, made_at, issued_inside}
+use Rattle.rank_laws.proofs.Touching.{issued_front, issued_still, issued_before_touches, issued_push}
 use Rattle.rank_rules.specs.Pending.{gives_way}
 use Rattle.rank_rules.specs.declared.pending.PendingAccess.{PendingAccess}
 

@@ -1,12 +1,17 @@
 -- The parts of a window stay as they are, once all ranks have arrived at its creation.
-use Rattle.std.proofs.Common.{◌≡◌, ℕ, ◌<◌, ◌≤◌, Bool, true, false, ◌&&◌, cond, List, [], ◌∷◌, ◌++◌, length, Option, Some, refl, sym, ◌∙◌, ap, subst, arith, append-nil, append_assoc}
+use Rattle.std.proofs.Common.{◌≡◌, ℕ, ◌<◌, ◌≤◌, Bool, true, false, ◌&&◌, cond, List, [], ◌∷◌, ◌++◌, length, Option}
+use Rattle.std.proofs.Common.{Some, refl, sym, ◌∙◌, ap, subst, arith, append-nil, append_assoc}
 use Rattle.std.specs.Prelude.{map, is_some}
 use Rattle.std.specs.List.{AllByRecursion, filter, find}
 use Rattle.std.specs.Option.{option_map_or}
 use Rattle.rma_types.specs.declared.calls.Call.{Call}
-use Rattle.board_rules.specs.Entries.{Row, Act, acts, acts_after, window_of, is_by_on, is_arrive, is_creation, begins_window, arrivals, collective_in, fence_or_none, is_same_collective, is_collective, Creation}
+use Rattle.board_rules.specs.Entries.{Row, Act, acts, acts_after, window_of, is_by_on, is_arrive, is_creation}
+use Rattle.board_rules.specs.Entries.{begins_window, arrivals, collective_in, fence_or_none, is_same_collective}
+use Rattle.board_rules.specs.Entries.{is_collective, Creation}
 use Rattle.board_rules.specs.Shapes.{part_in, part_brought}
-use Rattle.call_rules.specs.Actions.{Action, Creates, Frees, Attaches, Detaches, Synchronises, Meets, Moves, EndsRequest, Synchronisation, Fences, Posts, Starts, Completes, Waits, Locks, Unlocks, Flushes, Syncs, action_of, creation_in}
+use Rattle.call_rules.specs.Actions.{Action, Creates, Frees, Attaches, Detaches, Synchronises, Meets, Moves}
+use Rattle.call_rules.specs.Actions.{EndsRequest, Synchronisation, Fences, Posts, Starts, Completes, Waits, Locks}
+use Rattle.call_rules.specs.Actions.{Unlocks, Flushes, Syncs, action_of, creation_in}
 use Rattle.call_rules.specs.Pieces.{numbers_from}
 use Rattle.lawful_runs.specs.Stages.{Stage, shapes_in}
 use Rattle.rank_laws.proofs.Runs.{each_number}

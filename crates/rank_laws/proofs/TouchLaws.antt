@@ -4,13 +4,16 @@ use Rattle.std.specs.Prelude.{slice_get}
 use Rattle.std.specs.List.{AllByRecursion}
 use Rattle.rma_types.specs.declared.accesses.Access.{Access}
 use Rattle.rma_types.specs.declared.schedules.Delay.{Delay}
-use Rattle.rma_types.specs.declared.schedules.Delay.TheVariants.{None as NoDelay, End as EndDelay, Seeded as SeededDelay}
+use Rattle.rma_types.specs.declared.schedules.Delay.TheVariants.{None as NoDelay, End as EndDelay}
+use Rattle.rma_types.specs.declared.schedules.Delay.TheVariants.{Seeded as SeededDelay}
 use Rattle.rma_record.specs.declared.items.Item.{Item}
-use Rattle.rma_record.specs.declared.items.Item.TheVariants.{Issue, Null, Touch, Flush, Request, Entry, Tested, Refused, Ended}
+use Rattle.rma_record.specs.declared.items.Item.TheVariants.{Issue, Null, Touch, Flush, Request, Entry, Tested, Refused}
+use Rattle.rma_record.specs.declared.items.Item.TheVariants.{Ended}
 use Rattle.board_rules.specs.Entries.{Row}
 use Rattle.lawful_runs.specs.DelayLaw.{KeepsDelay}
 use Rattle.lawful_runs.specs.Stages.{Stage, RankOfRun, calls_at, calls_here}
-use Rattle.lawful_runs.specs.TouchLaw.{IsTouchedWhole, HasItsIssue, FollowsDirectly, IsLocalDirect, IsAwaitedWhole, issued_in, is_local}
+use Rattle.lawful_runs.specs.TouchLaw.{IsTouchedWhole, HasItsIssue, FollowsDirectly, IsLocalDirect, IsAwaitedWhole}
+use Rattle.lawful_runs.specs.TouchLaw.{issued_in, is_local}
 use Rattle.rank_laws.proofs.AwaitMoves.{KeepsAwaited, awaited_kept}
 use Rattle.rank_laws.proofs.Awaiting.{rank_of}
 use Rattle.rank_laws.proofs.DirectMoves.{StandsAfterIssue, KeepsDirect, direct_kept}

@@ -15,7 +15,8 @@ use Rattle.lawful_runs.specs.Items.{has_ended}
 use Rattle.lawful_runs.specs.LawfulRun.{IsLawful, rank_in}
 use Rattle.lawful_runs.specs.Logs.{log_of}
 use Rattle.lawful_runs.specs.Stages.{RankOfRun}
-use Rattle.lawful_runs.specs.TouchLaw.{IsTouchedWhole, HasItsIssue, IsLocalDirect, KeepsIssueOrder, IsAwaitedWhole, IsLookUpFollowed, issued_in, issues_touched}
+use Rattle.lawful_runs.specs.TouchLaw.{IsTouchedWhole, HasItsIssue, IsLocalDirect, KeepsIssueOrder, IsAwaitedWhole}
+use Rattle.lawful_runs.specs.TouchLaw.{IsLookUpFollowed, issued_in, issues_touched}
 use Rattle.rank_laws.specs.Assembled.{IsAssembled}
 
 -- an assembled run of any script is lawful for its delay

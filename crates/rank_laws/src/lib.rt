@@ -2,7 +2,9 @@
 //! 11.7, in this project's profile), whoever ran the ranks: one thread or many.
 #![tactic(auto)]
 
-ghost use Rattle.rank_laws.specs.Lawful.{AssembledRunsEndAlike, AssembledRunsFollowLookUps, AssembledRunsHaveLawfulBoards, AssembledRunsHaveLawfulCells, AssembledRunsTouchLawfully, UndelayedRunsTouchDirectly};
+ghost use Rattle.rank_laws.specs.Lawful.{AssembledRunsEndAlike, AssembledRunsFollowLookUps};
+ghost use Rattle.rank_laws.specs.Lawful.{AssembledRunsHaveLawfulBoards, AssembledRunsHaveLawfulCells};
+ghost use Rattle.rank_laws.specs.Lawful.{AssembledRunsTouchLawfully, UndelayedRunsTouchDirectly};
 
 /// An assembled run keeps these parts of the law, for each script and delay: its entries are allowed in their order and
 /// its looks saw what they say, each cell has one history, and in each log accesses are touched whole, in issue order,

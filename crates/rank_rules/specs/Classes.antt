@@ -16,4 +16,5 @@ first_class ((applies, class) ∷ rest) = if applies then Some class else first_
 abbrev pub least_class : Option Class → Option Class → Option Class
 least_class None other = other
 least_class (Some class) None = Some class
-least_class (Some class) (Some other) = if nat_lt (class_number other) (class_number class) then Some other else Some class
+least_class (Some class) (Some other) = if nat_lt (class_number other) (class_number class) then Some other else Some
+    class

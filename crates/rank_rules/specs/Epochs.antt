@@ -1,10 +1,14 @@
 -- The epochs of a rank on its windows: MPI 3.1, section 11.5.
-use Rattle.std.specs.Prelude.{ℕ, Bool, true, false, not, ◌&&◌, ◌||◌, ◌==◌, if◌then◌else◌, List, [], ◌∷◌, ◌++◌, is_some, Option, Some, None, replicate, slice_index_or, slice_set, ℤ}
+use Rattle.std.specs.Prelude.{ℕ, Bool, true, false, not, ◌&&◌, ◌||◌, ◌==◌, if◌then◌else◌, List, [], ◌∷◌, ◌++◌, is_some}
+use Rattle.std.specs.Prelude.{Option, Some, None, replicate, slice_index_or, slice_set, ℤ}
 use Rattle.std.specs.List.{filter}
-use Rattle.call_rules.specs.Actions.{Action, Creates, Frees, Attaches, Detaches, Synchronises, Meets, Moves, EndsRequest, Synchronisation, Fences, Posts, Starts, Completes, Waits, Locks, Unlocks, Flushes, Syncs, Transfer, Target, Own, Null, Named}
+use Rattle.call_rules.specs.Actions.{Action, Creates, Frees, Attaches, Detaches, Synchronises, Meets, Moves}
+use Rattle.call_rules.specs.Actions.{EndsRequest, Synchronisation, Fences, Posts, Starts, Completes, Waits, Locks}
+use Rattle.call_rules.specs.Actions.{Unlocks, Flushes, Syncs, Transfer, Target, Own, Null, Named}
 use Rattle.call_rules.specs.Ranks.{natural, members_of, is_member}
 
--- the access epoch in which a rank is: none; that of a fence, before and after its first RMA call; that of a start, with its
+-- the access epoch in which a rank is: none; that of a fence, before and after its first RMA call; that of a start,
+-- with its
 -- group; that of locks, with their targets; or that of a lock_all
 pub data AccessEpoch : Type 0 where
   Idle : AccessEpoch
@@ -116,7 +120,8 @@ may_move access t = reaches t.target
     reaches : Target → Bool
     reaches Own = true
     reaches Null = true
-    reaches (Named rank) = if is_some t.request then is_passive_at access (natural rank) else may_reach access (natural rank)
+    reaches (Named rank) = if is_some t.request then is_passive_at access (natural rank) else may_reach access
+        (natural rank)
 
 -- a lock of all ranks wants that nothing is locked; a lock of one, that this one is not
 abbrev pub may_lock : AccessEpoch → Option ℤ → Bool

@@ -1,4 +1,5 @@
--- What a rank knows at a place of its log, as the fold of its accepted calls, and the class that it gives a call by that
+-- What a rank knows at a place of its log, as the fold of its accepted calls, and the class that it gives a call by
+-- that
 -- alone: MPI 3.1, sections 8.4, 11.2, 11.3.5, 11.5 and 11.6, in this project's order.
 use Rattle.std.specs.Prelude.{ℕ, Bool, true, false, List, Option, Some, None, slice_get, is_none, if◌then◌else◌}
 use Rattle.std.specs.List.{fold}
@@ -9,7 +10,8 @@ use Rattle.rma_types.specs.declared.calls.Call.{Call}
 use Rattle.rma_types.specs.declared.classes.Class.{Class}
 use Rattle.rma_types.specs.declared.scripts.Part.{Part}
 use Rattle.rma_record.specs.declared.items.Item.{Item}
-use Rattle.rma_record.specs.declared.items.Item.TheVariants.{Issue, Null, Touch, Flush, Request, Entry, Tested, Refused, Ended}
+use Rattle.rma_record.specs.declared.items.Item.TheVariants.{Issue, Null, Touch, Flush, Request, Entry, Tested, Refused}
+use Rattle.rma_record.specs.declared.items.Item.TheVariants.{Ended}
 use Rattle.call_rules.specs.Actions.{action_of, transfer_of}
 use Rattle.rank_rules.specs.Classes.{least_class}
 use Rattle.rank_rules.specs.Epochs.{Epochs, first_epochs, epochs_after}

@@ -1,10 +1,13 @@
 -- Which accesses are pending, and which a call must wait for: this project's profile of MPI 3.1, section 11.7.
-use Rattle.std.specs.Prelude.{ℕ, zero, suc, ◌+◌, ◌/◌, ◌%◌, Bool, true, false, ◌&&◌, ◌==◌, nat_lt, if◌then◌else◌, List, [], ◌∷◌, take, Option, Some, None, slice_get, ℤ}
+use Rattle.std.specs.Prelude.{ℕ, zero, suc, ◌+◌, ◌/◌, ◌%◌, Bool, true, false, ◌&&◌, ◌==◌, nat_lt, if◌then◌else◌, List}
+use Rattle.std.specs.Prelude.{[], ◌∷◌, take, Option, Some, None, slice_get, ℤ}
 use Rattle.std.specs.List.{position}
 use Rattle.std.specs.Option.{option_map_or}
 use Rattle.rma_types.specs.declared.accesses.Access.{Access}
 use Rattle.rma_types.specs.declared.calls.Call.{Call}
-use Rattle.call_rules.specs.Actions.{Action, Creates, Frees, Attaches, Detaches, Synchronises, Meets, Moves, EndsRequest, Synchronisation, Fences, Posts, Starts, Completes, Waits, Locks, Unlocks, Flushes, Syncs, action_of}
+use Rattle.call_rules.specs.Actions.{Action, Creates, Frees, Attaches, Detaches, Synchronises, Meets, Moves}
+use Rattle.call_rules.specs.Actions.{EndsRequest, Synchronisation, Fences, Posts, Starts, Completes, Waits, Locks}
+use Rattle.call_rules.specs.Actions.{Unlocks, Flushes, Syncs, action_of}
 use Rattle.call_rules.specs.Ranks.{natural}
 use Rattle.call_rules.specs.Transfers.{is_ordered_kind}
 use Rattle.rank_rules.specs.Requests.{Requests, maker_of}
@@ -20,7 +23,8 @@ share_cell a b =
     a.target == b.target && nat_lt 0 a.len && nat_lt 0 b.len
     && nat_lt (a.lo / 4) ((b.lo + b.len + 3) / 4) && nat_lt (b.lo / 4) ((a.lo + a.len + 3) / 4)
 
--- the later of two pending accesses gives way to the earlier: both are accumulates or cas, and they share a cell (11.7.2)
+-- the later of two pending accesses gives way to the earlier: both are accumulates or cas, and they share a cell
+-- (11.7.2)
 abbrev pub gives_way : PendingAccess → PendingAccess → Bool
 gives_way later earlier =
     is_ordered_kind later.access.kind && is_ordered_kind earlier.access.kind && share_cell later.access earlier.access
@@ -48,7 +52,8 @@ abbrev pub is_towards : Option ℤ → PendingAccess → Bool
 is_towards None one = true
 is_towards (Some rank) one = one.access.target == natural rank
 
--- the synchronisation completes the access, at the target or, where it is local, at the origin: a fetch alone waits for that
+-- the synchronisation completes the access, at the target or, where it is local, at the origin: a fetch alone waits for
+-- that
 abbrev pub completes_access : Synchronisation → PendingAccess → Bool
 completes_access (Fences asserts) one = true
 completes_access (Posts group asserts) one = false

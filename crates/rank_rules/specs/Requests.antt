@@ -1,9 +1,11 @@
 -- The live requests of a rank: MPI 3.1, section 11.3.5.
-use Rattle.std.specs.Prelude.{ℕ, Bool, not, List, [], ◌∷◌, replicate, slice_index_or, slice_set, is_some, Option, Some, None}
+use Rattle.std.specs.Prelude.{ℕ, Bool, not, List, [], ◌∷◌, replicate, slice_index_or, slice_set, is_some, Option, Some}
+use Rattle.std.specs.Prelude.{None}
 use Rattle.std.specs.Option.{option_map_or}
 use Rattle.rma_types.specs.declared.classes.Class.{Class}
 use Rattle.rma_types.specs.declared.classes.Class.TheVariants.{Request}
-use Rattle.call_rules.specs.Actions.{Action, Creates, Frees, Attaches, Detaches, Synchronises, Meets, Moves, EndsRequest}
+use Rattle.call_rules.specs.Actions.{Action, Creates, Frees, Attaches, Detaches, Synchronises, Meets, Moves}
+use Rattle.call_rules.specs.Actions.{EndsRequest}
 use Rattle.rank_rules.specs.Classes.{Test, first_class}
 
 -- for each of the names q0 to q63, the number of the call that made the live request of that name, if there is one

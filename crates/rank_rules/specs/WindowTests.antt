@@ -1,21 +1,26 @@
--- The class that a rank gives a call by its windows and ranges: MPI 3.1, sections 11.2, 11.3 and 11.6, in this project's
+-- The class that a rank gives a call by its windows and ranges: MPI 3.1, sections 11.2, 11.3 and 11.6, in this
+-- project's
 -- order.
-use Rattle.std.specs.Prelude.{ℕ, ◌+◌, ◌*◌, ◌%◌, Bool, false, true, not, ◌&&◌, ◌||◌, ◌==◌, nat_lt, List, [], ◌∷◌, Option, if◌then◌else◌, ℤ, pos, int_lt, ◌+ℤ◌}
+use Rattle.std.specs.Prelude.{ℕ, ◌+◌, ◌*◌, ◌%◌, Bool, false, true, not, ◌&&◌, ◌||◌, ◌==◌, nat_lt, List, [], ◌∷◌, Option}
+use Rattle.std.specs.Prelude.{if◌then◌else◌, ℤ, pos, int_lt, ◌+ℤ◌}
 use Rattle.std.specs.List.{list_any}
 use Rattle.std.specs.Option.{option_map_or}
 use Rattle.rma_types.specs.declared.calls.Flavor.{Flavor}
 use Rattle.rma_types.specs.declared.calls.Flavor.TheVariants.{Allocate, Create, Dynamic}
 use Rattle.rma_types.specs.declared.classes.Class.{Class}
-use Rattle.rma_types.specs.declared.classes.Class.TheVariants.{Win, Flavor as FlavorClass, Size, Base, Disp, Range as RangeClass, Attach}
+use Rattle.rma_types.specs.declared.classes.Class.TheVariants.{Win, Flavor as FlavorClass, Size, Base, Disp}
+use Rattle.rma_types.specs.declared.classes.Class.TheVariants.{Range as RangeClass, Attach}
 use Rattle.rma_types.specs.declared.dtypes.Dtype.{Dtype}
 use Rattle.rma_types.specs.declared.scripts.Part.{Part}
 use Rattle.rma_types.specs.Datatypes.{size_of}
-use Rattle.call_rules.specs.Actions.{Action, Creates, Frees, Attaches, Detaches, Synchronises, Meets, Moves, EndsRequest, Transfer, Target, Own, Null, Named}
+use Rattle.call_rules.specs.Actions.{Action, Creates, Frees, Attaches, Detaches, Synchronises, Meets, Moves}
+use Rattle.call_rules.specs.Actions.{EndsRequest, Transfer, Target, Own, Null, Named}
 use Rattle.call_rules.specs.Ranks.{natural, is_rank}
 use Rattle.call_rules.specs.Transfers.{rank_reached, bytes_of}
 use Rattle.rank_rules.specs.Classes.{Test, first_class}
 use Rattle.rank_rules.specs.Ranges.{is_taken, covers}
-use Rattle.rank_rules.specs.Windows.{Window, RankWindows, window_of_name, is_live, is_same_flavor, part_at, is_attached_from, attached_to, ranges_in_use}
+use Rattle.rank_rules.specs.Windows.{Window, RankWindows, window_of_name, is_live, is_same_flavor, part_at}
+use Rattle.rank_rules.specs.Windows.{is_attached_from, attached_to, ranges_in_use}
 
 -- the range does not lie in the rank's space
 abbrev pub is_outside : RankWindows → ℤ → ℤ → Bool
@@ -55,7 +60,8 @@ is_misplaced part disp dtype = int_lt disp (pos 0) || not (address_in part disp 
 abbrev pub passes_end : Part → ℤ → ℕ → Bool
 passes_end part disp bytes = nat_lt (part.base + part.bytes) (address_in part disp + bytes)
 
--- A byte of a range in a dynamic window is not attached. A rank knows that of its own ranges alone; an RMA call's range is
+-- A byte of a range in a dynamic window is not attached. A rank knows that of its own ranges alone; an RMA call's range
+-- is
 -- tested at its look-up.
 abbrev pub is_unattached : RankWindows → ℕ → Target → ℕ → ℕ → Bool
 is_unattached known win Own address bytes = not (covers (attached_to known win) address bytes)

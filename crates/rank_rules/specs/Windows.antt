@@ -1,10 +1,12 @@
 -- The windows and the ranges of memory that a rank knows: MPI 3.1, section 11.2.
-use Rattle.std.specs.Prelude.{ℕ, ◌+◌, ◌*◌, Bool, true, false, not, ◌&&◌, ◌==◌, List, [], ◌∷◌, ◌++◌, map, Option, slice_index_or, is_some}
+use Rattle.std.specs.Prelude.{ℕ, ◌+◌, ◌*◌, Bool, true, false, not, ◌&&◌, ◌==◌, List, [], ◌∷◌, ◌++◌, map, Option}
+use Rattle.std.specs.Prelude.{slice_index_or, is_some}
 use Rattle.std.specs.List.{count_by, filter, find}
 use Rattle.rma_types.specs.declared.calls.Flavor.{Flavor}
 use Rattle.rma_types.specs.declared.calls.Flavor.TheVariants.{Allocate, Create, Dynamic}
 use Rattle.rma_types.specs.declared.scripts.Part.{Part}
-use Rattle.call_rules.specs.Actions.{Action, Creates, Frees, Attaches, Detaches, Synchronises, Meets, Moves, EndsRequest}
+use Rattle.call_rules.specs.Actions.{Action, Creates, Frees, Attaches, Detaches, Synchronises, Meets, Moves}
+use Rattle.call_rules.specs.Actions.{EndsRequest}
 use Rattle.call_rules.specs.Ranks.{natural}
 use Rattle.rank_rules.specs.Ranges.{Range}
 
@@ -123,7 +125,8 @@ windows_after shapes known (Creates creation) =
     let number = next_number known.created creation.win in
     with_window known creation.win number creation.flavor (shapes number)
 windows_after shapes known (Frees win) = without_window known win
-windows_after shapes known (Attaches win base bytes) = with_range known win (record { base = natural base; bytes = natural bytes })
+windows_after shapes known (Attaches win base bytes) = with_range known win
+    (record { base = natural base; bytes = natural bytes })
 windows_after shapes known (Detaches win base) = without_range known win (natural base)
 windows_after shapes known (Synchronises win synchronisation) = known
 windows_after shapes known Meets = known

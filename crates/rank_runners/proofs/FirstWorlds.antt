@@ -1,5 +1,6 @@
 -- The beginning of a run is in the first world.
-use Rattle.std.proofs.Common.{◌≡◌, ℕ, zero, suc, ◌+◌, ◌*◌, ◌/◌, ◌<◌, ◌≤◌, Bool, true, false, List, [], ◌∷◌, ◌++◌, length, map, get_or, replicate, refl, sym, ap, ◌∙◌, subst, arith}
+use Rattle.std.proofs.Common.{◌≡◌, ℕ, zero, suc, ◌+◌, ◌*◌, ◌/◌, ◌<◌, ◌≤◌, Bool, true, false, List, [], ◌∷◌, ◌++◌}
+use Rattle.std.proofs.Common.{length, map, get_or, replicate, refl, sym, ap, ◌∙◌, subst, arith}
 use Rattle.std.specs.Prelude.{ℤ, pos, negsuc, sum_by, slice_get, if◌then◌else◌}
 use Rattle.std.specs.List.{AllByRecursion, zip}
 use Rattle.std.specs.Option.{option_map_or}
@@ -15,7 +16,8 @@ use Rattle.call_rules.specs.Layout.{layout, cells_of, memory_bytes, parts_from, 
 use Rattle.call_rules.specs.Pieces.{numbers_from}
 use Rattle.call_rules.specs.Touches.{empty_cell}
 use Rattle.access_steps.specs.Plans.{element_count, is_update}
-use Rattle.call_rules.specs.Actions.{Action, Creates, Frees, Attaches, Detaches, Synchronises, Meets, Moves, EndsRequest, Transfer, action_of, transfer_in}
+use Rattle.call_rules.specs.Actions.{Action, Creates, Frees, Attaches, Detaches, Synchronises, Meets, Moves}
+use Rattle.call_rules.specs.Actions.{EndsRequest, Transfer, action_of, transfer_in}
 use Rattle.call_rules.specs.Ranks.{natural}
 use Rattle.call_rules.specs.WellFormed.{IsUpTo, IsWellFormed, IsWrittenAction, IsWrittenCall}
 use Rattle.lawful_runs.specs.Stages.{Stage, stage_of}

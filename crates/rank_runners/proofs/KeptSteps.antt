@@ -1,5 +1,6 @@
 -- A step at the board over entries as the board keeps them is that over the entries themselves.
-use Rattle.std.proofs.Common.{◌≡◌, ℕ, Bool, true, false, cond, List, [], ◌∷◌, ◌++◌, length, Option, Some, None, refl, sym, ap, ◌∙◌, subst}
+use Rattle.std.proofs.Common.{◌≡◌, ℕ, Bool, true, false, cond, List, [], ◌∷◌, ◌++◌, length, Option, Some, None, refl}
+use Rattle.std.proofs.Common.{sym, ap, ◌∙◌, subst}
 use Rattle.std.specs.Option.{option_map_or}
 use Rattle.std.proofs.Math.Path.{fun_ext}
 use Rattle.std.proofs.lemmas.List.{append-nil, append_assoc, map-append, length-map}
@@ -14,9 +15,11 @@ use Rattle.board_rules.specs.Shapes.{parts_of}
 use Rattle.kept_rows.specs.KeptCalls.{kept_row}
 use Rattle.kept_rows.specs.KeptRowLaws.{kept_rows, DecisionsNeedNoValues, PartsNeedNoValues}
 use Rattle.lawful_runs.specs.Stages.{Stage, shapes_in}
-use Rattle.rank_rules.specs.Courses.{Course, OneNull, OneIssue, LookUpAndIssue, OneFlush, OneRequest, ArriveAndLeave, EntryOrTested, OneEntry, course_of}
+use Rattle.rank_rules.specs.Courses.{Course, OneNull, OneIssue, LookUpAndIssue, OneFlush, OneRequest, ArriveAndLeave}
+use Rattle.rank_rules.specs.Courses.{EntryOrTested, OneEntry, course_of}
 use Rattle.step_runs.specs.Agents.{Agent, kept, finished, opened, next_call}
-use Rattle.step_runs.specs.BoardSteps.{AtBoard, next_row, waiting, entered, turned_away, enter_by, enter, test_by, test, leave, leave_if_entered, first_entry, entry_of, board_step}
+use Rattle.step_runs.specs.BoardSteps.{AtBoard, next_row, waiting, entered, turned_away, enter_by, enter, test_by, test}
+use Rattle.step_runs.specs.BoardSteps.{leave, leave_if_entered, first_entry, entry_of, board_step}
 
 -- what the board needs of its entries
 pub record Laws : Type 0 where

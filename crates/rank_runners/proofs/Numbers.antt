@@ -1,5 +1,6 @@
 -- Searches among the numbers of the ranks.
-use Rattle.std.proofs.Common.{◌≡◌, ◌∙◌, ◌+◌, ◌-◌, ◌<◌, ◌≤◌, ℕ, zero, suc, Bool, true, false, cond, List, [], ◌∷◌, ◌++◌, take, drop, refl, sym, ap, arith}
+use Rattle.std.proofs.Common.{◌≡◌, ◌∙◌, ◌+◌, ◌-◌, ◌<◌, ◌≤◌, ℕ, zero, suc, Bool, true, false, cond, List, [], ◌∷◌, ◌++◌}
+use Rattle.std.proofs.Common.{take, drop, refl, sym, ap, arith}
 use Rattle.std.specs.Prelude.{Some, reverse, slice_get}
 use Rattle.std.specs.List.{find, filter}
 use Rattle.std.proofs.lemmas.List.{reverse-append}

@@ -3,7 +3,8 @@ use Rattle.std.proofs.Common.{◌≡◌, ℕ, Bool, true, false, Option, Some, N
 use Rattle.call_rules.specs.declared.cells.Cell.{Cell}
 use Rattle.cell_face.specs.Faces.{Face}
 use Rattle.cell_face.specs.PlainCells.{PlainCells, plain_face}
-use Rattle.rank_engine.specs.DataAnswers.{IsDataAnswer, IsDelivered, IsWholeStep, IsDrainAnswer, IsWholeDrain, Drains, StepsOnMemory, is_full}
+use Rattle.rank_engine.specs.DataAnswers.{IsDataAnswer, IsDelivered, IsWholeStep, IsDrainAnswer, IsWholeDrain, Drains}
+use Rattle.rank_engine.specs.DataAnswers.{StepsOnMemory, is_full}
 use Rattle.rank_engine.specs.RankStates.{RankState, IsBetween, delivery_of, moved, own_move}
 use Rattle.rank_engine.specs.declared.answers.Turned.{Turned}
 use Rattle.rank_engine.specs.declared.answers.Turned.TheVariants.{Did, NotYet, Again, Full, Ended}

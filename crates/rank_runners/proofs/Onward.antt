@@ -1,5 +1,6 @@
 -- What a step leaves of a rank: at the board its pending accesses, and on memory the entries of its log.
-use Rattle.std.proofs.Common.{◌≡◌, ℕ, ◌+◌, ◌≤◌, Bool, true, false, cond, List, [], ◌∷◌, ◌++◌, length, Option, Some, None, refl, sym, ap, ◌∙◌, arith}
+use Rattle.std.proofs.Common.{◌≡◌, ℕ, ◌+◌, ◌≤◌, Bool, true, false, cond, List, [], ◌∷◌, ◌++◌, length, Option, Some}
+use Rattle.std.proofs.Common.{None, refl, sym, ap, ◌∙◌, arith}
 use Rattle.std.specs.Prelude.{slice_get}
 use Rattle.std.specs.List.{flat_map, remove}
 use Rattle.std.specs.Option.{option_map_or}
@@ -25,12 +26,15 @@ use Rattle.call_rules.specs.Transfers.{change_of}
 use Rattle.lawful_runs.specs.Accesses.{transfer_at}
 use Rattle.lawful_runs.specs.Logs.{row_by}
 use Rattle.lawful_runs.specs.Stages.{Stage, calls_at}
-use Rattle.rank_rules.specs.Courses.{Course, OneNull, OneIssue, LookUpAndIssue, OneFlush, OneRequest, ArriveAndLeave, EntryOrTested, OneEntry, course_of, access_of}
+use Rattle.rank_rules.specs.Courses.{Course, OneNull, OneIssue, LookUpAndIssue, OneFlush, OneRequest, ArriveAndLeave}
+use Rattle.rank_rules.specs.Courses.{EntryOrTested, OneEntry, course_of, access_of}
 use Rattle.rank_rules.specs.Knowledge.{own_class}
 use Rattle.rank_rules.specs.declared.pending.PendingAccess.{PendingAccess}
 use Rattle.step_runs.specs.Agents.{Agent, kept, finished, opened, next_call, has_pending, must_draw, awaited_by}
-use Rattle.step_runs.specs.BoardSteps.{AtBoard, next_row, waiting, enter_by, enter, test_by, test, leave, leave_if_entered, first_entry, entry_of, board_step}
-use Rattle.step_runs.specs.DataSteps.{Move, with_item, issue_of, issue, draw, first_item, wait_or_go_on, judge, begin, go_on, end, move_of, deliver, with_delivery, with_touches, data_step, no_shapes}
+use Rattle.step_runs.specs.BoardSteps.{AtBoard, next_row, waiting, enter_by, enter, test_by, test, leave}
+use Rattle.step_runs.specs.BoardSteps.{leave_if_entered, first_entry, entry_of, board_step}
+use Rattle.step_runs.specs.DataSteps.{Move, with_item, issue_of, issue, draw, first_item, wait_or_go_on, judge, begin}
+use Rattle.step_runs.specs.DataSteps.{go_on, end, move_of, deliver, with_delivery, with_touches, data_step, no_shapes}
 
 -- ---- at the board
 

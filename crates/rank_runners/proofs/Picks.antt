@@ -1,5 +1,6 @@
 -- The rank that is picked is the first that is ready, or a drawn one.
-use Rattle.std.proofs.Common.{◌≡◌, ◌∙◌, ◌+◌, ◌-◌, ◌<◌, ℕ, zero, suc, Bool, true, false, cond, List, [], ◌∷◌, ◌++◌, length, take, drop, refl, sym, ap, subst, arith}
+use Rattle.std.proofs.Common.{◌≡◌, ◌∙◌, ◌+◌, ◌-◌, ◌<◌, ℕ, zero, suc, Bool, true, false, cond, List, [], ◌∷◌, ◌++◌}
+use Rattle.std.proofs.Common.{length, take, drop, refl, sym, ap, subst, arith}
 use Rattle.std.specs.Prelude.{Option, Some, None, ◌%◌, reverse, slice_get}
 use Rattle.std.specs.List.{find, filter}
 use Rattle.std.specs.Option.{option_map_or, option_or}

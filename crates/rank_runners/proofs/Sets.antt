@@ -1,5 +1,6 @@
 -- One rank more in a set.
-use Rattle.std.proofs.Common.{◌≡◌, ◌⊎◌, ◌∙◌, ◌*◌, ◌<◌, ◌^◌, ◌%◌, ℕ, zero, suc, ◌-◌, max, inl, inr, refl, sym, ap, w32, arith}
+use Rattle.std.proofs.Common.{◌≡◌, ◌⊎◌, ◌∙◌, ◌*◌, ◌<◌, ◌^◌, ◌%◌, ℕ, zero, suc, ◌-◌, max, inl, inr, refl, sym, ap, w32}
+use Rattle.std.proofs.Common.{arith}
 use Rattle.std.specs.Prelude.{◌==◌, ◌||◌, ◌&&◌, not, bit_or}
 use Rattle.std.specs.Int.{bit_at, bit_not}
 use Rattle.std.proofs.lemmas.Bool.{cases_eq, eq-eqb, ne_eqb}

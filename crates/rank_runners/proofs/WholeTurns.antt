@@ -1,5 +1,6 @@
 -- A turn is the definition's, and which ranks have ended is known after it.
-use Rattle.std.proofs.Common.{◌≡◌, ℕ, ◌<◌, inl, inr, Bool, true, false, cond, List, [], ◌∷◌, length, get_or, set, refl, sym, ap, ◌∙◌, subst, arith}
+use Rattle.std.proofs.Common.{◌≡◌, ℕ, ◌<◌, inl, inr, Bool, true, false, cond, List, [], ◌∷◌, length, get_or, set, refl}
+use Rattle.std.proofs.Common.{sym, ap, ◌∙◌, subst, arith}
 use Rattle.std.specs.Prelude.{◌==◌, ◌||◌, if◌then◌else◌}
 use Rattle.std.specs.List.{AllByRecursion}
 use Rattle.std.proofs.lemmas.Bool.{cases_eq, eq-eqb, ne_eqb}
@@ -10,7 +11,8 @@ use Rattle.rank_engine.specs.RankStates.{RankState, is_at_hand, is_last_at_once,
 use Rattle.rank_rules.specs.declared.pending.PendingAccess.{PendingAccess}
 use Rattle.rank_runners.specs.Marks.{IsKept}
 use Rattle.rank_runners.specs.RankSets.{has}
-use Rattle.rank_runners.specs.Runs.{no_state, state_at, IsWorld, IsRun, HasTurn, IsReady, IsOneTurn, GoesOn, at_board, on_memory, turn_of}
+use Rattle.rank_runners.specs.Runs.{no_state, state_at, IsWorld, IsRun, HasTurn, IsReady, IsOneTurn, GoesOn, at_board}
+use Rattle.rank_runners.specs.Runs.{on_memory, turn_of}
 use Rattle.rank_runners.specs.declared.rank_sets.RankSet.{RankSet}
 use Rattle.rank_runners.specs.declared.runners.Runner.{Runner}
 use Rattle.rank_runners.proofs.Turned.{same_agent}

@@ -1,5 +1,6 @@
 -- A run between two turns, as the code keeps it.
-use Rattle.std.specs.Prelude.{ℕ, Bool, false, Option, Some, None, slice_set, ◌≡◌, ◌<◌, ◌≤◌, List, [], length, map, slice_index_or, sum_by}
+use Rattle.std.specs.Prelude.{ℕ, Bool, false, Option, Some, None, slice_set, ◌≡◌, ◌<◌, ◌≤◌, List, [], length, map}
+use Rattle.std.specs.Prelude.{slice_index_or, sum_by}
 use Rattle.board_rules.specs.Entries.{Row}
 use Rattle.call_rules.specs.Layout.{cells_of}
 use Rattle.cell_face.specs.PlainCells.{PlainCells}

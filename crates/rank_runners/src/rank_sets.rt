@@ -1,5 +1,6 @@
 //! Sets of ranks.
-ghost use Rattle.std.specs.Prelude.{◌≡◌, ◌<◌, ◌==◌, ◌||◌, ◌&&◌, if◌then◌else◌, not, ℕ, false, slice_get, length, Option};
+ghost use Rattle.std.specs.Prelude.{◌≡◌, ◌<◌, ◌==◌, ◌||◌, ◌&&◌, if◌then◌else◌, not, ℕ, false, slice_get, length};
+ghost use Rattle.std.specs.Prelude.{Option};
 ghost use Rattle.std.specs.List.{find, filter};
 ghost use Rattle.call_rules.specs.Pieces.{numbers_from};
 ghost use Rattle.rank_runners.specs.RankSets.{has};

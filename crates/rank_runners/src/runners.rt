@@ -5,7 +5,8 @@ ghost use Rattle.call_rules.specs.WellFormed.{IsWellFormed};
 ghost use Rattle.lawful_runs.specs.Stages.{Stage, stage_of};
 ghost use Rattle.rank_engine.specs.RankStates.{RankState, needs_entry};
 ghost use Rattle.rank_runners.specs.RankSets.{has};
-ghost use Rattle.rank_runners.specs.Runs.{GoesOn, HasTurn, IsInWorld, LeadsOn, IsNext, IsOneTurn, IsReady, IsRun, IsSome, IsWorld, at_board, on_memory, turn_of};
+ghost use Rattle.rank_runners.specs.Runs.{GoesOn, HasTurn, IsInWorld, LeadsOn, IsNext, IsOneTurn, IsReady, IsRun};
+ghost use Rattle.rank_runners.specs.Runs.{IsSome, IsWorld, at_board, on_memory, turn_of};
 ghost use Rattle.step_runs.specs.Schedules.{pick};
 ghost use Rattle.step_runs.specs.StepRun.{World, drain, drain_rank, first_world, is_ready, run_from, run_of};
 

@@ -1,5 +1,6 @@
 //! The order in which the ranks take turns.
-ghost use Rattle.std.specs.Prelude.{◌≡◌, ◌<◌, ◌≤◌, ◌-◌, ◌+◌, ◌%◌, ℕ, Bool, length, slice_get, reverse, IfSome, if◌then◌else◌};
+ghost use Rattle.std.specs.Prelude.{◌≡◌, ◌<◌, ◌≤◌, ◌-◌, ◌+◌, ◌%◌, ℕ, Bool, length, slice_get, reverse, IfSome};
+ghost use Rattle.std.specs.Prelude.{if◌then◌else◌};
 ghost use Rattle.std.specs.List.{find, filter};
 ghost use Rattle.call_rules.specs.Pieces.{numbers_from};
 ghost use Rattle.rank_runners.specs.RankSets.{has};

@@ -1,5 +1,6 @@
 -- The entry with which a rank begins to create a window, as the board sees it: on the number that the rank counts.
-use Rattle.std.proofs.Common.{◌≡◌, ℕ, zero, suc, ◌+◌, ◌-◌, ◌<◌, ◌≤◌, Bool, true, false, cond, not, List, [], ◌∷◌, ◌++◌, length, Option, Some, None, refl, ap, sym, ◌∙◌, subst, arith, append_assoc}
+use Rattle.std.proofs.Common.{◌≡◌, ℕ, zero, suc, ◌+◌, ◌-◌, ◌<◌, ◌≤◌, Bool, true, false, cond, not, List, [], ◌∷◌, ◌++◌}
+use Rattle.std.proofs.Common.{length, Option, Some, None, refl, ap, sym, ◌∙◌, subst, arith, append_assoc}
 use Rattle.std.specs.Prelude.{nat_lt, slice_get, slice_index_or, if◌then◌else◌}
 use Rattle.std.specs.List.{find, flat_map, count_by, AllByRecursion}
 use Rattle.std.specs.Option.{option_map_or}
@@ -12,7 +13,8 @@ use Rattle.rma_types.specs.declared.calls.Call.{Call}
 use Rattle.rma_types.specs.declared.schedules.Delay.{Delay}
 use Rattle.rma_types.specs.declared.scripts.Script.{Script}
 use Rattle.rma_record.specs.declared.items.Item.{Item}
-use Rattle.rma_record.specs.declared.items.Item.TheVariants.{Issue, Null, Touch, Flush, Request, Entry, Tested, Refused, Ended}
+use Rattle.rma_record.specs.declared.items.Item.TheVariants.{Issue, Null, Touch, Flush, Request, Entry, Tested, Refused}
+use Rattle.rma_record.specs.declared.items.Item.TheVariants.{Ended}
 use Rattle.rma_record.specs.declared.runs.Run.{Run}
 use Rattle.board_rules.specs.Entries.{Row, acts_after, window_of}
 use Rattle.call_rules.specs.Pieces.{numbers_from}
@@ -21,10 +23,12 @@ use Rattle.lawful_runs.specs.BoardLaw.{IsBefore, moments_in}
 use Rattle.lawful_runs.specs.CallItems.{untouched}
 use Rattle.lawful_runs.specs.Items.{is_touch}
 use Rattle.lawful_runs.specs.LawfulRun.{IsLawful}
-use Rattle.lawful_runs.specs.Logs.{Named, named_from, named_in, named_logs, named_items, log_of, calls_of, is_named_entry_at, is_some_entry, entry_at, row_by, row_of, rows_of}
+use Rattle.lawful_runs.specs.Logs.{Named, named_from, named_in, named_logs, named_items, log_of, calls_of}
+use Rattle.lawful_runs.specs.Logs.{is_named_entry_at, is_some_entry, entry_at, row_by, row_of, rows_of}
 use Rattle.order_laws.proofs.Events.{places_ascend}
 use Rattle.order_laws.proofs.Members.{In, here, there, in_append_left, in_append_right}
-use Rattle.read_laws.proofs.Counts.{total, total_joined, total_of_all, in_counts, alone, numbers_split, first_entries, found_where, of_rank_total, rows_total, is_below, front_total}
+use Rattle.read_laws.proofs.Counts.{total, total_joined, total_of_all, in_counts, alone, numbers_split, first_entries}
+use Rattle.read_laws.proofs.Counts.{found_where, of_rank_total, rows_total, is_below, front_total}
 use Rattle.read_laws.proofs.Touches.{named_at}
 
 -- ---- members

@@ -1,5 +1,6 @@
 -- The entries of a rank before one of its entries: those of its log, as the board counts them.
-use Rattle.std.proofs.Common.{◌≡◌, ℕ, zero, suc, ◌+◌, ◌-◌, ◌<◌, ◌≤◌, ◌⊎◌, inl, inr, Bool, true, false, cond, List, [], ◌∷◌, ◌++◌, Option, Some, None, refl, ap, sym, ◌∙◌, arith, append_assoc}
+use Rattle.std.proofs.Common.{◌≡◌, ℕ, zero, suc, ◌+◌, ◌-◌, ◌<◌, ◌≤◌, ◌⊎◌, inl, inr, Bool, true, false, cond, List, []}
+use Rattle.std.proofs.Common.{◌∷◌, ◌++◌, Option, Some, None, refl, ap, sym, ◌∙◌, arith, append_assoc}
 use Rattle.std.specs.Prelude.{◌==◌, nat_lt, slice_index_or}
 use Rattle.std.specs.List.{find, flat_map, count_by}
 use Rattle.std.specs.Option.{option_map_or}
@@ -7,11 +8,13 @@ use Rattle.std.proofs.lemmas.Bool.{cases_eq, cases_lt, eq-eqb, ne_eqb, lt-ltb, l
 use Rattle.std.proofs.lemmas.List.Sums.{sum_by-append}
 use Rattle.rma_types.specs.declared.scripts.Script.{Script}
 use Rattle.rma_record.specs.declared.items.Item.{Item}
-use Rattle.rma_record.specs.declared.items.Item.TheVariants.{Issue, Null, Touch, Flush, Request, Entry, Tested, Refused, Ended}
+use Rattle.rma_record.specs.declared.items.Item.TheVariants.{Issue, Null, Touch, Flush, Request, Entry, Tested, Refused}
+use Rattle.rma_record.specs.declared.items.Item.TheVariants.{Ended}
 use Rattle.rma_record.specs.declared.runs.Run.{Run}
 use Rattle.board_rules.specs.Entries.{Row}
 use Rattle.call_rules.specs.Pieces.{numbers_from}
-use Rattle.lawful_runs.specs.Logs.{Named, named_from, named_in, named_logs, named_items, log_of, is_entry_at, is_named_entry_at, entry_at, row_of}
+use Rattle.lawful_runs.specs.Logs.{Named, named_from, named_in, named_logs, named_items, log_of, is_entry_at}
+use Rattle.lawful_runs.specs.Logs.{is_named_entry_at, entry_at, row_of}
 use Rattle.order_laws.proofs.Members.{In, here, there}
 use Rattle.read_laws.proofs.Folds.{counted}
 

@@ -1,11 +1,13 @@
 -- What a touch of a get or a load reads is what the updates before its access leave.
-use Rattle.std.proofs.Common.{◌≡◌, ℕ, ◌+◌, ◌<◌, ◌≤◌, ◌⊎◌, inl, inr, Bool, true, false, cond, [], Some, None, refl, ap, sym, ◌∙◌, subst, arith}
+use Rattle.std.proofs.Common.{◌≡◌, ℕ, ◌+◌, ◌<◌, ◌≤◌, ◌⊎◌, inl, inr, Bool, true, false, cond, [], Some, None, refl, ap}
+use Rattle.std.proofs.Common.{sym, ◌∙◌, subst, arith}
 use Rattle.std.specs.Prelude.{slice_get}
 use Rattle.std.specs.Option.{option_map_or}
 use Rattle.std.proofs.lemmas.Bool.{cases_eq, eqb-true}
 use Rattle.rma_types.specs.declared.accesses.Id.{Id}
 use Rattle.rma_types.specs.declared.accesses.Kind.{Kind}
-use Rattle.rma_types.specs.declared.accesses.Kind.TheVariants.{Get as GetKind, Put as PutKind, Acc as AccKind, Cas as CasKind, Load as LoadKind, Store as StoreKind}
+use Rattle.rma_types.specs.declared.accesses.Kind.TheVariants.{Get as GetKind, Put as PutKind, Acc as AccKind}
+use Rattle.rma_types.specs.declared.accesses.Kind.TheVariants.{Cas as CasKind, Load as LoadKind, Store as StoreKind}
 use Rattle.rma_types.specs.declared.dtypes.Dtype.{Dtype}
 use Rattle.rma_types.specs.declared.findings.Model.{Model}
 use Rattle.rma_types.specs.declared.schedules.Delay.{Delay}
@@ -19,7 +21,8 @@ use Rattle.call_rules.specs.Actions.{Transfer}
 use Rattle.call_rules.specs.Layout.{layout}
 use Rattle.call_rules.specs.Transfers.{is_no_op}
 use Rattle.call_rules.specs.WellFormed.{IsWellFormed}
-use Rattle.lawful_runs.specs.Accesses.{Touching, all_touches, is_on_cell, is_update, on_cell, transfer_at, issued_by, issued_at}
+use Rattle.lawful_runs.specs.Accesses.{Touching, all_touches, is_on_cell, is_update, on_cell, transfer_at, issued_by}
+use Rattle.lawful_runs.specs.Accesses.{issued_at}
 use Rattle.lawful_runs.specs.Cells.{KeepsOrder}
 use Rattle.lawful_runs.specs.LawfulRun.{IsLawful}
 use Rattle.lawful_runs.specs.Logs.{log_of, calls_of}
@@ -35,7 +38,8 @@ use Rattle.order_laws.proofs.Order.{transitive}
 use Rattle.order_laws.specs.FindingLaws.{is_update as is_update_role}
 use Rattle.read_laws.proofs.Meetings.{is_local_role, meeting}
 use Rattle.read_laws.proofs.Ordered.{before_issue, after_issue}
-use Rattle.read_laws.proofs.Parts.{IsOfTransfer, AreOfTransfers, access_of_touch, IsPart, part_of, IsUpdateOf, change_is}
+use Rattle.read_laws.proofs.Parts.{IsOfTransfer, AreOfTransfers, access_of_touch, IsPart, part_of, IsUpdateOf}
+use Rattle.read_laws.proofs.Parts.{change_is}
 use Rattle.read_laws.proofs.Places.{IsAligned, IsElement, element_of, piece_aligned, one_element, share_byte}
 use Rattle.read_laws.proofs.Steps.{IsAccess, IsTouchBy, access_is, touch_logged}
 use Rattle.read_laws.proofs.Touches.{touch_is}

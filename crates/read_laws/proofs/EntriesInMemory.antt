@@ -1,6 +1,7 @@
 -- What the calls of a lawful run's entries name lies in memory, and the entries of each rank are as the board sees
 -- them.
-use Rattle.std.proofs.Common.{◌≡◌, ℕ, zero, suc, ◌+◌, ◌<◌, ◌≤◌, inl, inr, Bool, true, false, cond, not, List, [], ◌∷◌, ◌++◌, Option, Some, None, refl, ap, sym, ◌∙◌, subst, append_assoc}
+use Rattle.std.proofs.Common.{◌≡◌, ℕ, zero, suc, ◌+◌, ◌<◌, ◌≤◌, inl, inr, Bool, true, false, cond, not, List, [], ◌∷◌}
+use Rattle.std.proofs.Common.{◌++◌, Option, Some, None, refl, ap, sym, ◌∙◌, subst, append_assoc}
 use Rattle.std.specs.Prelude.{slice_get}
 use Rattle.std.specs.List.{count_by, flat_map, AllByRecursion}
 use Rattle.std.specs.Option.{option_map_or}
@@ -26,7 +27,8 @@ use Rattle.lawful_runs.specs.Items.{is_touch, number_in}
 use Rattle.lawful_runs.specs.LawfulRun.{IsLawful, rank_in}
 use Rattle.lawful_runs.specs.Logs.{Named, log_of, calls_of, entries_of, row_by, row_of, rows_of}
 use Rattle.lawful_runs.specs.Stages.{RankOfRun, known_at, shapes_in, first_knowledge, stage_of}
-use Rattle.rank_rules.specs.Knowledge.{Knowledge, own_class, learn, known_after, known_after_call, known_after_number, accepted_by}
+use Rattle.rank_rules.specs.Knowledge.{Knowledge, own_class, learn, known_after, known_after_call, known_after_number}
+use Rattle.rank_rules.specs.Knowledge.{accepted_by}
 use Rattle.order_laws.proofs.Events.{AllFrom, IsEntryOf, entries_placed}
 use Rattle.read_laws.proofs.Begun.{entered, rows_in, rows_untouched}
 use Rattle.read_laws.proofs.Firsts.{some_and, AreOfOne, Single, Double, one_call}

@@ -1,5 +1,6 @@
 -- The first item of a call in a lawful log: no item before it belongs to the call.
-use Rattle.std.proofs.Common.{◌≡◌, ℕ, zero, suc, ◌≤◌, inl, inr, Bool, true, false, cond, not, List, [], ◌∷◌, ◌++◌, take, Option, Some, None, refl, ap, sym, ◌∙◌, subst, arith, append_assoc}
+use Rattle.std.proofs.Common.{◌≡◌, ℕ, zero, suc, ◌≤◌, inl, inr, Bool, true, false, cond, not, List, [], ◌∷◌, ◌++◌, take}
+use Rattle.std.proofs.Common.{Option, Some, None, refl, ap, sym, ◌∙◌, subst, arith, append_assoc}
 use Rattle.std.specs.Prelude.{◌==◌, ◌||◌, slice_get, IsSomeAnd}
 use Rattle.std.specs.List.{list_any}
 use Rattle.std.specs.Option.{option_map_or}
@@ -10,11 +11,14 @@ use Rattle.rma_types.specs.declared.accesses.Step.TheVariants.{Arrive, Leave, On
 use Rattle.rma_types.specs.declared.calls.Call.{Call}
 use Rattle.rma_types.specs.declared.classes.Class.{Class}
 use Rattle.rma_record.specs.declared.items.Item.{Item}
-use Rattle.rma_record.specs.declared.items.Item.TheVariants.{Issue, Null, Touch, Flush, Request, Entry, Tested, Refused, Ended}
-use Rattle.lawful_runs.specs.CallItems.{untouched, AreItemsOfCourse, AreItemsBy, AreItemsOf, AreFinished, StandsAt, EndsOrStands, HasItemsOfCalls}
+use Rattle.rma_record.specs.declared.items.Item.TheVariants.{Issue, Null, Touch, Flush, Request, Entry, Tested, Refused}
+use Rattle.rma_record.specs.declared.items.Item.TheVariants.{Ended}
+use Rattle.lawful_runs.specs.CallItems.{untouched, AreItemsOfCourse, AreItemsBy, AreItemsOf, AreFinished, StandsAt}
+use Rattle.lawful_runs.specs.CallItems.{EndsOrStands, HasItemsOfCalls}
 use Rattle.lawful_runs.specs.Items.{is_touch, number_in, belongs_to}
 use Rattle.lawful_runs.specs.Stages.{RankOfRun, calls_here, known_at}
-use Rattle.rank_rules.specs.Courses.{Course, OneNull, OneIssue, LookUpAndIssue, OneFlush, OneRequest, ArriveAndLeave, EntryOrTested, OneEntry, course_of, access_of}
+use Rattle.rank_rules.specs.Courses.{Course, OneNull, OneIssue, LookUpAndIssue, OneFlush, OneRequest, ArriveAndLeave}
+use Rattle.rank_rules.specs.Courses.{EntryOrTested, OneEntry, course_of, access_of}
 use Rattle.rank_rules.specs.Knowledge.{Knowledge, own_class}
 use Rattle.rma_types.specs.declared.accesses.Access.{Access}
 

@@ -1,5 +1,6 @@
 -- Each access of a lawful run is of a transfer, and lies in the memory of its target.
-use Rattle.std.proofs.Common.{◌≡◌, ℕ, zero, suc, ◌<◌, inl, inr, Bool, true, false, List, [], ◌∷◌, ◌++◌, Option, Some, None, refl, ap, sym, ◌∙◌, subst, append_assoc}
+use Rattle.std.proofs.Common.{◌≡◌, ℕ, zero, suc, ◌<◌, inl, inr, Bool, true, false, List, [], ◌∷◌, ◌++◌, Option, Some}
+use Rattle.std.proofs.Common.{None, refl, ap, sym, ◌∙◌, subst, append_assoc}
 use Rattle.std.specs.Prelude.{◌==◌, slice_get}
 use Rattle.std.specs.List.{AllByRecursion}
 use Rattle.std.specs.Option.{option_map_or}
@@ -25,13 +26,16 @@ use Rattle.call_rules.specs.Ranks.{natural}
 use Rattle.call_rules.specs.Transfers.{rank_reached, bytes_of}
 use Rattle.call_rules.specs.WellFormed.{IsWellFormed}
 use Rattle.lawful_runs.specs.BoardLaw.{AreAllowed}
-use Rattle.lawful_runs.specs.CallItems.{untouched, AreItemsOfCourse, AreFinished, StandsAt, EndsOrStands, HasItemsOfCalls}
+use Rattle.lawful_runs.specs.CallItems.{untouched, AreItemsOfCourse, AreFinished, StandsAt, EndsOrStands}
+use Rattle.lawful_runs.specs.CallItems.{HasItemsOfCalls}
 use Rattle.lawful_runs.specs.Items.{is_touch}
 use Rattle.lawful_runs.specs.LawfulRun.{IsLawful, rank_in}
 use Rattle.lawful_runs.specs.Logs.{log_of, calls_of, rows_of}
 use Rattle.lawful_runs.specs.Stages.{known_at}
 use Rattle.rank_rules.specs.Classes.{first_class}
-use Rattle.rank_rules.specs.Courses.{Course, OneNull, OneIssue, LookUpAndIssue, OneFlush, OneRequest, ArriveAndLeave, EntryOrTested, OneEntry, course_of_transfer, course_of_action, course_of, access_on, access_of}
+use Rattle.rank_rules.specs.Courses.{Course, OneNull, OneIssue, LookUpAndIssue, OneFlush, OneRequest, ArriveAndLeave}
+use Rattle.rank_rules.specs.Courses.{EntryOrTested, OneEntry, course_of_transfer, course_of_action, course_of}
+use Rattle.rank_rules.specs.Courses.{access_on, access_of}
 use Rattle.rank_rules.specs.EpochTests.{epoch_class}
 use Rattle.rank_rules.specs.Knowledge.{Knowledge, own_class}
 use Rattle.rank_rules.specs.Ranges.{covers}
@@ -39,7 +43,8 @@ use Rattle.rank_rules.specs.Windows.{Window, window_of_name}
 use Rattle.rank_rules.specs.WindowTests.{place_tests, window_class}
 use Rattle.read_laws.proofs.Begun.{IsEntered}
 use Rattle.read_laws.proofs.Firsts.{some_and}
-use Rattle.read_laws.proofs.Known.{AreEntered, IsSound, begun_in, IsOfCallAfter, Refuses, Accepts, of_call_after, known_sound}
+use Rattle.read_laws.proofs.Known.{AreEntered, IsSound, begun_in, IsOfCallAfter, Refuses, Accepts, of_call_after}
+use Rattle.read_laws.proofs.Known.{known_sound}
 use Rattle.read_laws.proofs.Leaves.{with_touches}
 use Rattle.read_laws.proofs.Lists.{each_append, each_front, each_get, found_is}
 use Rattle.read_laws.proofs.Parts.{IsOfTransfer, AreOfTransfers}
@@ -50,7 +55,8 @@ use Rattle.step_laws.proofs.CallCourses.{looks_up_dynamic}
 use Rattle.step_laws.proofs.Creations.{IsSoundRow, acts_sound, attached_lie}
 use Rattle.step_laws.proofs.Flavors.{AreRegular}
 use Rattle.step_laws.proofs.OwnRoom.{IsRoomyWindow, right_place, access_lies, looked_up_lies}
-use Rattle.step_laws.proofs.OwnTests.{HasIssue, moves_it, transfer_with_issue, access_is as access_on_is, windows_allow, epochs_allow, transfer_passed}
+use Rattle.step_laws.proofs.OwnTests.{HasIssue, moves_it, transfer_with_issue, access_is as access_on_is, windows_allow}
+use Rattle.step_laws.proofs.OwnTests.{epochs_allow, transfer_passed}
 use Rattle.step_laws.specs.Inside.{LiesInMemory}
 use Rattle.read_laws.proofs.EntriesInMemory.{rows_sound, regular, all_entered}
 

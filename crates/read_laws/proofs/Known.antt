@@ -1,6 +1,7 @@
 -- What a rank knows in a lawful run lies in memory: its windows, with the parts that their creations brought, and its
 -- ranges.
-use Rattle.std.proofs.Common.{◌≡◌, ℕ, zero, suc, ◌+◌, ◌<◌, ◌≤◌, ◌⊎◌, inl, inr, true, false, cond, List, [], ◌∷◌, ◌++◌, Option, Some, None, refl, ap, sym, ◌∙◌, subst, arith, append_assoc}
+use Rattle.std.proofs.Common.{◌≡◌, ℕ, zero, suc, ◌+◌, ◌<◌, ◌≤◌, ◌⊎◌, inl, inr, true, false, cond, List, [], ◌∷◌, ◌++◌}
+use Rattle.std.proofs.Common.{Option, Some, None, refl, ap, sym, ◌∙◌, subst, arith, append_assoc}
 use Rattle.std.specs.Prelude.{◌==◌, ◌&&◌, slice_get, is_none}
 use Rattle.std.specs.List.{count_by, fold, AllByRecursion}
 use Rattle.std.specs.Option.{option_map_or}
@@ -26,8 +27,10 @@ use Rattle.lawful_runs.specs.CallItems.{AreItemsOfCourse, AreItemsBy, AreItemsOf
 use Rattle.lawful_runs.specs.LawfulRun.{IsLawful, rank_in}
 use Rattle.lawful_runs.specs.Logs.{calls_of, row_by, rows_of}
 use Rattle.lawful_runs.specs.Stages.{RankOfRun, known_at, shapes_in, first_knowledge, stage_of}
-use Rattle.rank_rules.specs.Courses.{Course, OneNull, OneIssue, LookUpAndIssue, OneFlush, OneRequest, ArriveAndLeave, EntryOrTested, OneEntry, course_of, course_of_action, access_of}
-use Rattle.rank_rules.specs.Knowledge.{Knowledge, own_class, ends_call, learn, known_after_call, known_after_number, accepted_by}
+use Rattle.rank_rules.specs.Courses.{Course, OneNull, OneIssue, LookUpAndIssue, OneFlush, OneRequest, ArriveAndLeave}
+use Rattle.rank_rules.specs.Courses.{EntryOrTested, OneEntry, course_of, course_of_action, access_of}
+use Rattle.rank_rules.specs.Knowledge.{Knowledge, own_class, ends_call, learn, known_after_call, known_after_number}
+use Rattle.rank_rules.specs.Knowledge.{accepted_by}
 use Rattle.rank_rules.specs.Windows.{RankWindows, next_number, window_number}
 use Rattle.order_laws.proofs.Events.{each_in}
 use Rattle.order_laws.proofs.Members.{In}
@@ -36,13 +39,16 @@ use Rattle.read_laws.proofs.Firsts.{some_and}
 use Rattle.step_laws.proofs.CallCourses.{one_entry_moves_none, learns_call}
 use Rattle.step_laws.proofs.Creations.{HasLists, own_has_room, MakesWith, creates_it, parts_fit, parts_by_address}
 use Rattle.step_laws.proofs.EntryMoves.{IsOneEntry}
-use Rattle.step_laws.proofs.Flavors.{AreRegular, begins_by, is_creation_if, new_number, same_flavor}
+use Rattle.step_laws.proofs.Flavors.{AreRegular, same_flavor}
+use Rattle.step_laws.proofs.EntryNumbers.{begins_by, is_creation_if, new_number}
 use Rattle.step_laws.proofs.Memory.{space_has_memory}
 use Rattle.step_laws.proofs.OwnRoom.{AreRoomy}
 use Rattle.step_laws.proofs.OwnTests.{HasIssue, transfer_with_issue}
-use Rattle.step_laws.proofs.Sound.{MakesByAddress, windows_stay_roomy, rank_stays, space_stays, name_made, created_grows}
+use Rattle.step_laws.proofs.Sound.{MakesByAddress, windows_stay_roomy, rank_stays, space_stays, name_made}
+use Rattle.step_laws.proofs.Sound.{created_grows}
 use Rattle.step_laws.specs.Inside.{bytes_at}
-use Rattle.read_laws.proofs.Lessons.{fold_joined, accepts, learns_nothing, count_joined, none_begins, not_arrive, not_leave, arrive_begins}
+use Rattle.read_laws.proofs.Lessons.{fold_joined, accepts, learns_nothing, count_joined, none_begins, not_arrive}
+use Rattle.read_laws.proofs.Lessons.{not_leave, arrive_begins}
 
 module _ (script : Script) (delay : Delay) (run : Run) (formed : IsWellFormed script)
     (lawful : IsLawful script delay run)

@@ -1,5 +1,6 @@
 -- In a lawful log a Leave is an entry of a collective call.
-use Rattle.std.proofs.Common.{◌≡◌, ℕ, zero, suc, inl, inr, Bool, true, false, cond, not, List, [], ◌∷◌, Option, Some, None, refl, ap, sym, ◌∙◌, subst}
+use Rattle.std.proofs.Common.{◌≡◌, ℕ, zero, suc, inl, inr, Bool, true, false, cond, not, List, [], ◌∷◌, Option, Some}
+use Rattle.std.proofs.Common.{None, refl, ap, sym, ◌∙◌, subst}
 use Rattle.std.specs.Prelude.{slice_get, IsSomeAnd}
 use Rattle.std.specs.List.{AllByRecursion}
 use Rattle.std.proofs.lemmas.Option.{some_pair_parts}
@@ -9,12 +10,15 @@ use Rattle.rma_types.specs.declared.accesses.Step.TheVariants.{Arrive, Leave, On
 use Rattle.rma_types.specs.declared.calls.Call.{Call}
 use Rattle.rma_types.specs.declared.classes.Class.{Class}
 use Rattle.rma_record.specs.declared.items.Item.{Item}
-use Rattle.rma_record.specs.declared.items.Item.TheVariants.{Issue, Null, Touch, Flush, Request, Entry, Tested, Refused, Ended}
-use Rattle.lawful_runs.specs.CallItems.{untouched, AreItemsOfCourse, AreItemsBy, AreItemsOf, AreFinished, StandsAt, EndsOrStands, HasItemsOfCalls}
+use Rattle.rma_record.specs.declared.items.Item.TheVariants.{Issue, Null, Touch, Flush, Request, Entry, Tested, Refused}
+use Rattle.rma_record.specs.declared.items.Item.TheVariants.{Ended}
+use Rattle.lawful_runs.specs.CallItems.{untouched, AreItemsOfCourse, AreItemsBy, AreItemsOf, AreFinished, StandsAt}
+use Rattle.lawful_runs.specs.CallItems.{EndsOrStands, HasItemsOfCalls}
 use Rattle.lawful_runs.specs.Items.{is_touch, number_in}
 use Rattle.lawful_runs.specs.Stages.{RankOfRun, calls_here, known_at}
 use Rattle.order_rules.specs.CallSteps.{step_by}
-use Rattle.rank_rules.specs.Courses.{Course, OneNull, OneIssue, LookUpAndIssue, OneFlush, OneRequest, ArriveAndLeave, EntryOrTested, OneEntry, course_of, access_of}
+use Rattle.rank_rules.specs.Courses.{Course, OneNull, OneIssue, LookUpAndIssue, OneFlush, OneRequest, ArriveAndLeave}
+use Rattle.rank_rules.specs.Courses.{EntryOrTested, OneEntry, course_of, access_of}
 use Rattle.rank_rules.specs.Knowledge.{Knowledge, own_class}
 use Rattle.rank_rules.specs.Windows.{RankWindows}
 use Rattle.read_laws.proofs.Firsts.{some_and, begins_with_step, is_initial}

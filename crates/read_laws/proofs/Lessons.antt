@@ -1,5 +1,6 @@
 -- What the items of a call teach a rank, and which windows they begin.
-use Rattle.std.proofs.Common.{◌≡◌, ℕ, ◌+◌, Bool, true, false, cond, List, [], ◌∷◌, ◌++◌, Option, Some, None, refl, ap, sym, ◌∙◌}
+use Rattle.std.proofs.Common.{◌≡◌, ℕ, ◌+◌, Bool, true, false, cond, List, [], ◌∷◌, ◌++◌, Option, Some, None, refl, ap}
+use Rattle.std.proofs.Common.{sym, ◌∙◌}
 use Rattle.std.specs.Prelude.{◌==◌, ◌&&◌, slice_get, is_some}
 use Rattle.std.specs.List.{count_by, fold}
 use Rattle.std.specs.Option.{option_map_or}
@@ -15,7 +16,7 @@ use Rattle.board_rules.specs.Entries.{Row, is_creation, names_window}
 use Rattle.call_rules.specs.Actions.{Creation, creation_of}
 use Rattle.lawful_runs.specs.Logs.{calls_of, row_by}
 use Rattle.rank_rules.specs.Knowledge.{Knowledge, ends_call, learn, known_after_call, known_after_number}
-use Rattle.step_laws.proofs.Flavors.{begins_by, names_it}
+use Rattle.step_laws.proofs.EntryNumbers.{begins_by, names_it}
 use Rattle.step_laws.proofs.Sound.{name_made}
 
 -- ---- what one more item teaches

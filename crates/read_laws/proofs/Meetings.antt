@@ -1,7 +1,8 @@
 -- Two accesses of a run without findings, one of them an update, that have a byte in common: one is ordered before
 -- the other, or
 -- both are accumulates of one datatype.
-use Rattle.std.proofs.Common.{◌≡◌, ℕ, zero, suc, ◌<◌, ◌⊎◌, inl, inr, Bool, true, false, cond, not, List, [], ◌∷◌, ◌++◌, Option, Some, None, refl, ap, sym, ◌∙◌, arith}
+use Rattle.std.proofs.Common.{◌≡◌, ℕ, zero, suc, ◌<◌, ◌⊎◌, inl, inr, Bool, true, false, cond, not, List, [], ◌∷◌, ◌++◌}
+use Rattle.std.proofs.Common.{Option, Some, None, refl, ap, sym, ◌∙◌, arith}
 use Rattle.std.specs.Prelude.{◌&&◌, ◌||◌, ◌==◌, ◌≢◌, map, nat_lt}
 use Rattle.std.specs.List.{list_any}
 use Rattle.std.specs.Option.{option_map_or}
@@ -26,7 +27,8 @@ use Rattle.order_rules.specs.DonePoints.{timeline_of}
 use Rattle.order_rules.specs.Findings.{judged, judged_accesses, unless_ordered, forbidden, findings}
 use Rattle.order_rules.specs.Ordered.{JudgedAccess, points_for, is_ordered}
 use Rattle.order_rules.specs.Roles.{Role, RmaUpdate, RmaRead, Store, Load, role_of}
-use Rattle.order_rules.specs.Rules.{Pair, rule_if, is_separate, rule_for, pair_of, are_excepted, are_alike, may_combine, accumulation_of, forbidden_kind}
+use Rattle.order_rules.specs.Rules.{Pair, rule_if, is_separate, rule_for, pair_of, are_excepted, are_alike, may_combine}
+use Rattle.order_rules.specs.Rules.{accumulation_of, forbidden_kind}
 use Rattle.order_laws.proofs.Members.{In, here, there, in_map, contains_in, in_contains, some_of}
 use Rattle.order_laws.proofs.Pairs.{complete}
 use Rattle.order_laws.specs.FindingLaws.{is_update}

@@ -1,18 +1,21 @@
 -- Where an access is ordered before another, each of its touches is before each of the other's.
-use Rattle.std.proofs.Common.{◌≡◌, ℕ, ◌<◌, ◌≤◌, ◌⊎◌, inl, inr, Bool, true, false, cond, List, [], ◌∷◌, length, Some, refl, ap, sym, ◌∙◌, subst, arith}
+use Rattle.std.proofs.Common.{◌≡◌, ℕ, ◌<◌, ◌≤◌, ◌⊎◌, inl, inr, Bool, true, false, cond, List, [], ◌∷◌, length, Some}
+use Rattle.std.proofs.Common.{refl, ap, sym, ◌∙◌, subst, arith}
 use Rattle.std.specs.Prelude.{◌&&◌, ◌==◌, ◌≢◌, nat_lt, slice_get, IfSome}
 use Rattle.std.specs.List.{filter, list_any}
 use Rattle.std.proofs.lemmas.Bool.{and_parts, cases_eq, eqb-true, ltb-true}
 use Rattle.std.proofs.lemmas.Option.{slice_get_within}
 use Rattle.rma_types.specs.declared.accesses.Id.{Id}
 use Rattle.rma_types.specs.declared.accesses.Kind.{Kind}
-use Rattle.rma_types.specs.declared.accesses.Kind.TheVariants.{Get as GetKind, Put as PutKind, Acc as AccKind, Cas as CasKind, Load as LoadKind, Store as StoreKind}
+use Rattle.rma_types.specs.declared.accesses.Kind.TheVariants.{Get as GetKind, Put as PutKind, Acc as AccKind}
+use Rattle.rma_types.specs.declared.accesses.Kind.TheVariants.{Cas as CasKind, Load as LoadKind, Store as StoreKind}
 use Rattle.rma_types.specs.declared.findings.Model.{Model}
 use Rattle.rma_types.specs.declared.findings.Model.TheVariants.{Separate, Unified}
 use Rattle.rma_types.specs.declared.schedules.Delay.{Delay}
 use Rattle.rma_types.specs.declared.scripts.Script.{Script}
 use Rattle.rma_record.specs.declared.items.Item.{Item}
-use Rattle.rma_record.specs.declared.items.Item.TheVariants.{Issue, Null, Touch, Flush, Request, Entry, Tested, Refused, Ended}
+use Rattle.rma_record.specs.declared.items.Item.TheVariants.{Issue, Null, Touch, Flush, Request, Entry, Tested, Refused}
+use Rattle.rma_record.specs.declared.items.Item.TheVariants.{Ended}
 use Rattle.rma_record.specs.declared.runs.Run.{Run}
 use Rattle.call_rules.specs.Actions.{action_of}
 use Rattle.call_rules.specs.Pieces.{numbers_from}
@@ -24,12 +27,14 @@ use Rattle.lawful_runs.specs.LawfulRun.{IsLawful, rank_in}
 use Rattle.lawful_runs.specs.Logs.{log_of, calls_of}
 use Rattle.lawful_runs.specs.TouchLaw.{touch_of, issued_in, is_local, IsLocalDirect, HasItsIssue, HasIssueBefore}
 use Rattle.order_rules.specs.Before.{Before, Same, InLog, Across, IsOrder, events_in}
-use Rattle.order_rules.specs.CallSteps.{CallStep, IssuedAccess, steps_in, is_step_on, is_later_at_origin, is_later_on_window}
+use Rattle.order_rules.specs.CallSteps.{CallStep, IssuedAccess, steps_in, is_step_on, is_later_at_origin}
+use Rattle.order_rules.specs.CallSteps.{is_later_on_window}
 use Rattle.order_rules.specs.DonePoints.{timeline_of, done_points, is_done_at}
 use Rattle.order_rules.specs.Findings.{judged}
 use Rattle.order_rules.specs.Ordered.{points_for, is_ordered}
 use Rattle.order_rules.specs.Roles.{Role, RmaUpdate, RmaRead, Store, Load, role_of, is_rma_read}
-use Rattle.order_rules.specs.VisiblePoints.{takes_in, is_taken_in_at, gives_out, is_given_out_at, separate_points, unified_points, visible_points}
+use Rattle.order_rules.specs.VisiblePoints.{takes_in, is_taken_in_at, gives_out, is_given_out_at, separate_points}
+use Rattle.order_rules.specs.VisiblePoints.{unified_points, visible_points}
 use Rattle.order_laws.proofs.Events.{each_in}
 use Rattle.order_laws.proofs.Members.{In, here, there, map_in, filter_in, any_in, in_numbers}
 use Rattle.order_laws.proofs.Order.{transitive, edge_between, event_at}

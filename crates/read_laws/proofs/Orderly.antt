@@ -22,7 +22,8 @@ use Rattle.lawful_runs.specs.TouchLaw.{elements_from}
 use Rattle.order_rules.specs.Before.{IsOrder}
 use Rattle.order_rules.specs.CallSteps.{IssuedAccess, accesses_in}
 use Rattle.order_rules.specs.Findings.{findings}
-use Rattle.order_rules.specs.OrderedReads.{TouchesAgree, updates_of, left_before, element_before, ordered_read, touches_by, element_touched, elements_read, is_get_or_load, ReadsInOrder}
+use Rattle.order_rules.specs.OrderedReads.{TouchesAgree, updates_of, left_before, element_before, ordered_read}
+use Rattle.order_rules.specs.OrderedReads.{touches_by, element_touched, elements_read, is_get_or_load, ReadsInOrder}
 use Rattle.order_laws.proofs.Members.{In, here, there, filter_in}
 use Rattle.read_laws.proofs.Parts.{IsOfTransfer, AreOfTransfers, part_of, touched_whole}
 use Rattle.read_laws.proofs.Steps.{access_is}

@@ -1,5 +1,6 @@
 -- The access, the element and the change of a touch.
-use Rattle.std.proofs.Common.{◌≡◌, ℕ, ◌+◌, Bool, true, false, cond, List, [], length, Option, Some, None, refl, ap, sym, ◌∙◌, subst, arith}
+use Rattle.std.proofs.Common.{◌≡◌, ℕ, ◌+◌, Bool, true, false, cond, List, [], length, Option, Some, None, refl, ap, sym}
+use Rattle.std.proofs.Common.{◌∙◌, subst, arith}
 use Rattle.std.specs.Prelude.{slice_get, slice_index, IfSome, IsSome}
 use Rattle.std.specs.Option.{option_map_or}
 use Rattle.std.proofs.lemmas.Option.{slice_get_within}
@@ -18,7 +19,8 @@ use Rattle.call_rules.specs.Transfers.{is_no_op, change_of}
 use Rattle.lawful_runs.specs.Accesses.{Touching, transfer_at, change_made, issued_by, issued_at}
 use Rattle.lawful_runs.specs.LawfulRun.{IsLawful, rank_in}
 use Rattle.lawful_runs.specs.Logs.{log_of, calls_of}
-use Rattle.lawful_runs.specs.TouchLaw.{touched_by, elements_from, issued_in, IsTouchedWhole, HasItsIssue, HasIssueBefore}
+use Rattle.lawful_runs.specs.TouchLaw.{touched_by, elements_from, issued_in, IsTouchedWhole, HasItsIssue}
+use Rattle.lawful_runs.specs.TouchLaw.{HasIssueBefore}
 use Rattle.rank_rules.specs.declared.pending.PendingAccess.{PendingAccess}
 use Rattle.order_rules.specs.CallSteps.{IssuedAccess, issued_access, accesses_of, accesses_in}
 use Rattle.order_laws.proofs.Events.{each_in}

@@ -1,5 +1,6 @@
 -- The touches of an access are before its done points.
-use Rattle.std.proofs.Common.{◌≡◌, ℕ, ◌%◌, ◌<◌, inl, inr, Bool, true, false, take, Some, refl, ap, sym, ◌∙◌, subst, arith}
+use Rattle.std.proofs.Common.{◌≡◌, ℕ, ◌%◌, ◌<◌, inl, inr, Bool, true, false, take, Some, refl, ap, sym, ◌∙◌, subst}
+use Rattle.std.proofs.Common.{arith}
 use Rattle.std.specs.Prelude.{◌&&◌, ◌||◌, ◌==◌, slice_get, nat_lt}
 use Rattle.std.specs.Option.{option_map_or}
 use Rattle.std.proofs.lemmas.Bool.{and_parts, and_from, or_cases, eqb-true, eq-eqb, ltb-true}
@@ -11,7 +12,10 @@ use Rattle.rma_types.specs.declared.scripts.Script.{Script}
 use Rattle.rma_record.specs.declared.runs.Run.{Run}
 use Rattle.board_rules.specs.Entries.{Fence, is_arrive, is_collective, collective_in, fence_or_none, is_same_collective}
 use Rattle.board_rules.specs.Posts.{is_complete}
-use Rattle.call_rules.specs.Actions.{Action, Creates, Frees, Attaches, Detaches, Synchronises, Meets, Moves, EndsRequest, Synchronisation, Fences, Posts, Starts, Completes, Waits, Locks, Unlocks, Flushes, Syncs, action_of, synchronisation_in, synchronisation_of, window_in_action, window_named}
+use Rattle.call_rules.specs.Actions.{Action, Creates, Frees, Attaches, Detaches, Synchronises, Meets, Moves}
+use Rattle.call_rules.specs.Actions.{EndsRequest, Synchronisation, Fences, Posts, Starts, Completes, Waits, Locks}
+use Rattle.call_rules.specs.Actions.{Unlocks, Flushes, Syncs, action_of, synchronisation_in, synchronisation_of}
+use Rattle.call_rules.specs.Actions.{window_in_action, window_named}
 use Rattle.call_rules.specs.WellFormed.{IsWellFormed}
 use Rattle.lawful_runs.specs.Accesses.{Touching}
 use Rattle.lawful_runs.specs.LawfulRun.{IsLawful, rank_in}
@@ -21,8 +25,12 @@ use Rattle.rank_rules.specs.Epochs.{AccessEpoch, Idle, FenceUnused, FenceUsed, S
 use Rattle.rank_rules.specs.Pending.{is_on, is_towards, completes_access, is_requested_by, waits_for, must_wait}
 use Rattle.rank_rules.specs.Windows.{Window, window_of_name}
 use Rattle.order_rules.specs.Before.{Before, Same, InLog, Across, events_in, leads_to}
-use Rattle.order_rules.specs.CallSteps.{CallStep, IssuedAccess, steps_in, is_numbered, is_step_on, is_later_at_origin, is_later_on_window}
-use Rattle.order_rules.specs.DonePoints.{timeline_of, arrives_at_fence, completes_start, next_step, follows_next, completes_at_target, is_completed_at_target, is_done_by_epoch, completes_at_origin, is_completed_at_origin, request_ended, ends_its_request, is_done_at}
+use Rattle.order_rules.specs.CallSteps.{CallStep, IssuedAccess, steps_in, is_numbered, is_step_on, is_later_at_origin}
+use Rattle.order_rules.specs.CallSteps.{is_later_on_window}
+use Rattle.order_rules.specs.DonePoints.{timeline_of, arrives_at_fence, completes_start, next_step, follows_next}
+use Rattle.order_rules.specs.DonePoints.{completes_at_target, is_completed_at_target, is_done_by_epoch}
+use Rattle.order_rules.specs.DonePoints.{completes_at_origin, is_completed_at_origin, request_ended, ends_its_request}
+use Rattle.order_rules.specs.DonePoints.{is_done_at}
 use Rattle.order_rules.specs.Roles.{is_rma_read, role_of}
 use Rattle.order_laws.proofs.Members.{In, some_of}
 use Rattle.read_laws.proofs.Firsts.{begins_with_step}
@@ -31,7 +39,8 @@ use Rattle.read_laws.proofs.Leaves.{LeavesCollective, leaves_are, step_begins, s
 use Rattle.read_laws.proofs.Lists.{each_get}
 use Rattle.read_laws.proofs.Names.{name_of_window}
 use Rattle.read_laws.proofs.Waits.{touched_before}
-use Rattle.read_laws.proofs.Steps.{IsAccess, IsTouchBy, touch_logged, IsStep, step_is, synchronises, ends_request, is_fence, apart_from_all, request_apart}
+use Rattle.read_laws.proofs.Steps.{IsAccess, IsTouchBy, touch_logged, IsStep, step_is, synchronises, ends_request}
+use Rattle.read_laws.proofs.Steps.{is_fence, apart_from_all, request_apart}
 
 -- ---- the touches of an access before a step
 

@@ -1,5 +1,6 @@
 -- The accesses, the touches and the steps of a run, each with its item.
-use Rattle.std.proofs.Common.{◌≡◌, ℕ, ◌+◌, ◌<◌, Bool, true, false, [], ◌∷◌, Option, Some, None, refl, ap, sym, ◌∙◌, subst, arith}
+use Rattle.std.proofs.Common.{◌≡◌, ℕ, ◌+◌, ◌<◌, Bool, true, false, [], ◌∷◌, Option, Some, None, refl, ap, sym, ◌∙◌}
+use Rattle.std.proofs.Common.{subst, arith}
 use Rattle.std.specs.Prelude.{slice_get}
 use Rattle.std.specs.Option.{option_map_or}
 use Rattle.rma_types.specs.declared.accesses.Step.{Step}
@@ -8,14 +9,17 @@ use Rattle.rma_types.specs.declared.scripts.Script.{Script}
 use Rattle.rma_record.specs.declared.items.Item.{Item}
 use Rattle.rma_record.specs.declared.items.Item.TheVariants.{Touch}
 use Rattle.rma_record.specs.declared.runs.Run.{Run}
-use Rattle.call_rules.specs.Actions.{Action, Creates, Frees, Attaches, Detaches, Synchronises, Meets, Moves, EndsRequest, Synchronisation, Fences, Posts, Starts, Completes, Waits, Locks, Unlocks, Flushes, Syncs, action_of, synchronisation_in, synchronisation_of}
+use Rattle.call_rules.specs.Actions.{Action, Creates, Frees, Attaches, Detaches, Synchronises, Meets, Moves}
+use Rattle.call_rules.specs.Actions.{EndsRequest, Synchronisation, Fences, Posts, Starts, Completes, Waits, Locks}
+use Rattle.call_rules.specs.Actions.{Unlocks, Flushes, Syncs, action_of, synchronisation_in, synchronisation_of}
 use Rattle.call_rules.specs.Pieces.{numbers_from}
 use Rattle.lawful_runs.specs.Accesses.{Touching, issued_by, issued_from}
 use Rattle.lawful_runs.specs.Logs.{Named, log_of, calls_of, named_items}
 use Rattle.rank_rules.specs.Courses.{ArriveAndLeave, OneRequest, course_of, course_of_action, course_of_synchronisation}
 use Rattle.rank_rules.specs.declared.pending.PendingAccess.{PendingAccess}
 use Rattle.rank_rules.specs.Windows.{RankWindows}
-use Rattle.order_rules.specs.CallSteps.{CallStep, IssuedAccess, known_before, step_by, call_step, steps_of_item, steps_in, issued_access, accesses_of, accesses_in}
+use Rattle.order_rules.specs.CallSteps.{CallStep, IssuedAccess, known_before, step_by, call_step, steps_of_item}
+use Rattle.order_rules.specs.CallSteps.{steps_in, issued_access, accesses_of, accesses_in}
 use Rattle.order_rules.specs.DonePoints.{request_ended}
 use Rattle.order_laws.proofs.Events.{named_item_in}
 use Rattle.order_laws.proofs.Members.{In, here, there, flat_map_in, map_in}

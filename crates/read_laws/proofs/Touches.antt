@@ -1,5 +1,6 @@
 -- The touches of a run, each with its item, its access and its element.
-use Rattle.std.proofs.Common.{◌≡◌, ℕ, zero, suc, ◌+◌, ◌<◌, ◌≤◌, inl, inr, Bool, true, false, cond, List, [], ◌∷◌, ◌++◌, length, Option, Some, None, refl, ap, sym, ◌∙◌, subst, arith, append_assoc, length-append}
+use Rattle.std.proofs.Common.{◌≡◌, ℕ, zero, suc, ◌+◌, ◌<◌, ◌≤◌, inl, inr, Bool, true, false, cond, List, [], ◌∷◌, ◌++◌}
+use Rattle.std.proofs.Common.{length, Option, Some, None, refl, ap, sym, ◌∙◌, subst, arith, append_assoc, length-append}
 use Rattle.std.specs.Prelude.{◌==◌, map, slice_get}
 use Rattle.std.specs.List.{filter, flat_map, zip}
 use Rattle.std.specs.Option.{option_map_or}
@@ -13,19 +14,22 @@ use Rattle.rma_types.specs.declared.dtypes.Dtype.{Dtype}
 use Rattle.rma_types.specs.declared.scripts.Layout.{Layout}
 use Rattle.rma_types.specs.declared.scripts.Script.{Script}
 use Rattle.rma_record.specs.declared.items.Item.{Item}
-use Rattle.rma_record.specs.declared.items.Item.TheVariants.{Issue, Null, Touch, Flush, Request, Entry, Tested, Refused, Ended}
+use Rattle.rma_record.specs.declared.items.Item.TheVariants.{Issue, Null, Touch, Flush, Request, Entry, Tested, Refused}
+use Rattle.rma_record.specs.declared.items.Item.TheVariants.{Ended}
 use Rattle.rma_record.specs.declared.runs.Run.{Run}
 use Rattle.call_rules.specs.declared.elements.Piece.{Piece}
 use Rattle.call_rules.specs.Actions.{Transfer}
 use Rattle.call_rules.specs.Elements.{element_in}
 use Rattle.call_rules.specs.Layout.{layout}
 use Rattle.call_rules.specs.Pieces.{numbers_from}
-use Rattle.lawful_runs.specs.Accesses.{Touching, change_made, transfer_at, issued_by, issued_at, issued_from, touching_by, touches_among, touches_of, all_touches}
+use Rattle.lawful_runs.specs.Accesses.{Touching, change_made, transfer_at, issued_by, issued_at, issued_from}
+use Rattle.lawful_runs.specs.Accesses.{touching_by, touches_among, touches_of, all_touches}
 use Rattle.lawful_runs.specs.Logs.{Named, named_from, named_in, log_of, calls_of}
 use Rattle.lawful_runs.specs.TouchLaw.{touch_of, touched_by, elements_from}
 use Rattle.rank_rules.specs.declared.pending.PendingAccess.{PendingAccess}
 use Rattle.order_rules.specs.OrderedReads.{element_touched}
-use Rattle.order_laws.proofs.Members.{In, here, there, append_in, in_append_left, in_append_right, flat_map_in, in_numbers}
+use Rattle.order_laws.proofs.Members.{In, here, there, append_in, in_append_left, in_append_right, flat_map_in}
+use Rattle.order_laws.proofs.Members.{in_numbers}
 
 -- ---- lists
 

@@ -1,5 +1,6 @@
 -- What a touch of a get or a load reads is what the updates before its access leave.
-use Rattle.std.proofs.Common.{◌≡◌, ℕ, suc, ◌+◌, ◌<◌, ◌≤◌, ◌⊎◌, inl, inr, Bool, true, false, List, [], length, Some, None, refl, ap, sym, ◌∙◌, subst, arith}
+use Rattle.std.proofs.Common.{◌≡◌, ℕ, suc, ◌+◌, ◌<◌, ◌≤◌, ◌⊎◌, inl, inr, Bool, true, false, List, [], length, Some}
+use Rattle.std.proofs.Common.{None, refl, ap, sym, ◌∙◌, subst, arith}
 use Rattle.std.specs.Prelude.{◌≢◌, map, nat_lt, slice_index, if◌then◌else◌}
 use Rattle.std.specs.List.{filter, count_by}
 use Rattle.std.proofs.lemmas.Bool.{eq-eqb}
@@ -29,12 +30,14 @@ use Rattle.order_laws.proofs.Members.{In, in_filter, in_contains}
 use Rattle.order_laws.proofs.Order.{transitive}
 use Rattle.order_laws.specs.FindingLaws.{is_update as is_update_role}
 use Rattle.read_laws.proofs.Bytes.{element_agrees}
-use Rattle.read_laws.proofs.Elements.{IsUpdateOn, update_on, is_updating, own_target, earlier_update, update_passed, read_kept, same_issued, same_access, no_read, read_role}
+use Rattle.read_laws.proofs.Elements.{IsUpdateOn, update_on, is_updating, own_target, earlier_update, update_passed}
+use Rattle.read_laws.proofs.Elements.{read_kept, same_issued, same_access, no_read, read_role}
 use Rattle.read_laws.proofs.Folds.{DoShare, folds_agree}
 use Rattle.read_laws.proofs.Meetings.{meeting}
 use Rattle.read_laws.proofs.Ordered.{before_issue, after_issue}
 use Rattle.read_laws.proofs.Parts.{IsOfTransfer, AreOfTransfers, IsPart, no_change}
-use Rattle.read_laws.proofs.Places.{IsAligned, IsElement, LiesIn, element_of, piece_aligned, nested, some_bytes, share_byte}
+use Rattle.read_laws.proofs.Places.{IsAligned, IsElement, LiesIn, element_of, piece_aligned, nested, some_bytes}
+use Rattle.read_laws.proofs.Places.{share_byte}
 use Rattle.read_laws.proofs.Steps.{IsAccess, access_is}
 
 -- a test that is one or none

@@ -1,7 +1,8 @@
 -- Where the touches of an access stand in a lawful log: before an item that waits for it, and directly after its
 -- Issue where it
 -- is a load or a store.
-use Rattle.std.proofs.Common.{◌≡◌, ℕ, zero, suc, ◌+◌, ◌-◌, ◌<◌, ◌≤◌, inl, inr, Bool, true, false, not, List, [], ◌∷◌, length, take, drop, Option, Some, refl, ap, sym, ◌∙◌, subst, arith, length-append}
+use Rattle.std.proofs.Common.{◌≡◌, ℕ, zero, suc, ◌+◌, ◌-◌, ◌<◌, ◌≤◌, inl, inr, Bool, true, false, not, List, [], ◌∷◌}
+use Rattle.std.proofs.Common.{length, take, drop, Option, Some, refl, ap, sym, ◌∙◌, subst, arith, length-append}
 use Rattle.std.specs.Prelude.{◌&&◌, ◌||◌, slice_get}
 use Rattle.std.specs.List.{list_any}
 use Rattle.std.specs.Option.{option_map_or}
@@ -10,7 +11,8 @@ use Rattle.std.proofs.lemmas.List.{take-append-drop}
 use Rattle.std.proofs.lemmas.Option.{slice_get_within}
 use Rattle.rma_types.specs.declared.calls.Call.{Call}
 use Rattle.rma_record.specs.declared.items.Item.{Item}
-use Rattle.rma_record.specs.declared.items.Item.TheVariants.{Issue, Null, Touch, Flush, Request, Entry, Tested, Refused, Ended}
+use Rattle.rma_record.specs.declared.items.Item.TheVariants.{Issue, Null, Touch, Flush, Request, Entry, Tested, Refused}
+use Rattle.rma_record.specs.declared.items.Item.TheVariants.{Ended}
 use Rattle.call_rules.specs.declared.elements.Piece.{Piece}
 use Rattle.call_rules.specs.Pieces.{numbers_from}
 use Rattle.lawful_runs.specs.Accesses.{issued_by}
@@ -18,7 +20,8 @@ use Rattle.lawful_runs.specs.CallItems.{untouched, HasItemsOfCalls}
 use Rattle.lawful_runs.specs.Items.{is_ended, is_own_refusal, number_in, belongs_to}
 use Rattle.lawful_runs.specs.LawfulRun.{IsLawfulLog}
 use Rattle.lawful_runs.specs.Stages.{RankOfRun, calls_here, known_at}
-use Rattle.lawful_runs.specs.TouchLaw.{touch_of, touched_by, elements_from, issued_in, pieces_here, IsTouchedWhole, FollowsDirectly, begins_awaiting, is_awaiting, waits_at, IsAwaitedWhole}
+use Rattle.lawful_runs.specs.TouchLaw.{touch_of, touched_by, elements_from, issued_in, pieces_here, IsTouchedWhole}
+use Rattle.lawful_runs.specs.TouchLaw.{FollowsDirectly, begins_awaiting, is_awaiting, waits_at, IsAwaitedWhole}
 use Rattle.rank_rules.specs.declared.pending.PendingAccess.{PendingAccess}
 use Rattle.rank_rules.specs.Pending.{must_wait}
 use Rattle.order_laws.proofs.Events.{each_in}

@@ -3,7 +3,8 @@ use Rattle.order_rules.specs.Roles.{Role, RmaUpdate, RmaRead, Store, Load}
 use Rattle.order_rules.specs.Rules.{Pair}
 use Rattle.rma_rules.specs.declared.pairs.Asked.{Asked}
 use Rattle.rma_rules.specs.declared.pairs.Part.{Part}
-use Rattle.rma_rules.specs.declared.pairs.Part.TheVariants.{Update as UpdatePart, Read as ReadPart, Store as StorePart, Load as LoadPart}
+use Rattle.rma_rules.specs.declared.pairs.Part.TheVariants.{Update as UpdatePart, Read as ReadPart, Store as StorePart}
+use Rattle.rma_rules.specs.declared.pairs.Part.TheVariants.{Load as LoadPart}
 
 -- the role that a part stands for
 abbrev pub role_by : Part → Role

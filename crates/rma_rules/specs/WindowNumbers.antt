@@ -1,5 +1,6 @@
 -- The numbers of a rank's live windows as a table by name: MPI 3.1, section 11.2.
-use Rattle.std.specs.Prelude.{ℕ, ◌≡◌, ◌<◌, ◌+◌, ◌*◌, ◌==◌, false, List, length, replicate, slice_index, slice_index_or, slice_set, Some, None}
+use Rattle.std.specs.Prelude.{ℕ, ◌≡◌, ◌<◌, ◌+◌, ◌*◌, ◌==◌, false, List, length, replicate, slice_index, slice_index_or}
+use Rattle.std.specs.Prelude.{slice_set, Some, None}
 use Rattle.std.specs.List.{count_by}
 use Rattle.std.specs.Option.{option_map}
 use Rattle.rma_types.specs.declared.scripts.Part.{Part}

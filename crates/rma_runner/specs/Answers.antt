@@ -43,7 +43,8 @@ abbrev pub report_on : Script → Run → List ℕ
 report_on script run = report script run [] Step
 
 -- a run is handed back, and its whole report was written; the status is that of the run
-pub record Reported (options : Options) (left_before left_after written_before written_after : Option (List ℕ)) (answer : ℕ) (handed : Option Run) : Type 0 where
+pub record Reported (options : Options) (left_before left_after written_before written_after : Option (List ℕ))
+    (answer : ℕ) (handed : Option Run) : Type 0 where
   pub script : Script
   pub run : Run
   pub reads : ReadsAs left_before left_after script
@@ -53,7 +54,8 @@ pub record Reported (options : Options) (left_before left_after written_before w
   pub status_is : answer ≡ status run []
 
 -- a run is handed back, and a front of its report was written
-pub record ReportedInPart (options : Options) (left_before left_after written_before written_after : Option (List ℕ)) (handed : Option Run) : Type 0 where
+pub record ReportedInPart (options : Options) (left_before left_after written_before written_after : Option (List ℕ))
+    (handed : Option Run) : Type 0 where
   pub script : Script
   pub run : Run
   pub reads : ReadsAs left_before left_after script
@@ -62,14 +64,16 @@ pub record ReportedInPart (options : Options) (left_before left_after written_be
   pub text : WrotePrefix written_before (report_on script run) written_after
 
 -- the bytes taken are refused by their first fault, and its line was written
-pub record Refused (left_before left_after written_before written_after : Option (List ℕ)) (handed : Option Run) : Type 0 where
+pub record Refused (left_before left_after written_before written_after : Option (List ℕ)) (handed : Option Run) : Type
+    0 where
   pub fault : Fault
   pub reads : ReadsAsNone left_before left_after fault
   pub none : handed ≡ None
   pub text : Wrote written_before (fault_line fault) written_after
 
 -- the same, and a front of the line was written
-pub record RefusedInPart (left_before left_after written_before written_after : Option (List ℕ)) (handed : Option Run) : Type 0 where
+pub record RefusedInPart (left_before left_after written_before written_after : Option (List ℕ))
+    (handed : Option Run) : Type 0 where
   pub fault : Fault
   pub reads : ReadsAsNone left_before left_after fault
   pub none : handed ≡ None

@@ -3,7 +3,8 @@ use Rattle.std.specs.Prelude.{ℕ, List, [], ◌∷◌, codes}
 use Rattle.call_rules.specs.Text.{line, spaced, number}
 use Rattle.script_language.specs.declared.faults.Fault.{Fault}
 use Rattle.script_language.specs.declared.faults.FaultKind.{FaultKind}
-use Rattle.script_language.specs.declared.faults.FaultKind.TheVariants.{Word, Number, Datatype, Op, Name, Shape, Limit, NoMemory}
+use Rattle.script_language.specs.declared.faults.FaultKind.TheVariants.{Word, Number, Datatype, Op, Name, Shape, Limit}
+use Rattle.script_language.specs.declared.faults.FaultKind.TheVariants.{NoMemory}
 
 -- the word of a fault's kind
 abbrev pub kind_text : FaultKind → List ℕ

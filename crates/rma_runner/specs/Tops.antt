@@ -33,7 +33,8 @@ EndsScript options script before after outcome =
     ((run : Run) × IsRunOf options script run × EndsRun script run before after outcome)
     ⊎ ((outcome ≡ record { status = out_of_memory; run = None }) × (after ≡ before))
 
--- the input was read as a script, which was run; or refused by a fault; or a read failed; or there was no memory for the script
+-- the input was read as a script, which was run; or refused by a fault; or a read failed; or there was no memory for
+-- the script
 abbrev pub StepEnds : Options → Option (List ℕ) → Option (List ℕ) → Option (List ℕ) → Option (List ℕ) → Outcome → Type 0
 StepEnds options left_before left_after before after outcome =
     ((script : Script) × ReadsAs left_before left_after script × EndsScript options script before after outcome)

@@ -169,7 +169,8 @@ pub fn refuse_words<K: Sink>(sink: &mut K) -> Outcome
 
 /// The program: runs the script of a source by the words of the command line, and writes to a sink.
 ///
-/// The gate is not passed: the script is run on one thread. The status is 2 where the words are refused, and then the source
+/// The gate is not passed: the script is run on one thread. The status is 2 where the words are refused, and then the
+/// source
 /// is untouched; else it is that of `step_main`.
 pub fn rma_main<S: Source, K: Sink, G: Gate>(
     alloc: Global,
@@ -181,7 +182,8 @@ pub fn rma_main<S: Source, K: Sink, G: Gate>(
     requires source_count { S.faults source.old < 2 ^ 64 - 1 }
     requires sink_count { K.faults sink.old < 2 ^ 64 - 1 }
 
-    // The whole input says a script; its run by the options that the words stand for is handed back, which is lawful, and
+    // The whole input says a script; its run by the options that the words stand for is handed back, which is lawful,
+    // and
     // its report was written.
     ensures reported { IsRunStatus result.status → StandFor (map string_bytes words.now) (λ options.
         Reported options (S.left source.old) (S.left source.new) (K.written sink.old) (K.written sink.new) result.status result.run) }
@@ -219,7 +221,8 @@ pub fn rma_main<S: Source, K: Sink, G: Gate>(
     // Where the end of the input is told, reading is over.
     ensures no_late_read { NoLateRead (S.end source.old) (S.end source.new) }
 
-    // Where the words stand for options and without faults, a script's text is reported on, and any other is refused, unless
+    // Where the words stand for options and without faults, a script's text is reported on, and any other is refused,
+    // unless
     // memory runs out.
     ensures complete { AreOptions (map string_bytes words.now)
         → (text : List ℕ) (script : ScriptValue) → Reads text script → S.left source.old ≡ Some text

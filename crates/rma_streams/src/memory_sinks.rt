@@ -1,5 +1,6 @@
 //! A sink in memory whose calls fail as planned.
-ghost use Rattle.std.specs.Prelude.{◌≡◌, ◌+◌, ◌≤◌, ◌<◌, ◌⊎◌, ◌++◌, [], Some, IsTrue, length, min, take, is_err, IsErr, IfOk, OnOk, OnErr};
+ghost use Rattle.std.specs.Prelude.{◌≡◌, ◌+◌, ◌≤◌, ◌<◌, ◌⊎◌, ◌++◌, [], Some, IsTrue, length, min, take, is_err, IsErr};
+ghost use Rattle.std.specs.Prelude.{IfOk, OnOk, OnErr};
 ghost use Rattle.rma_streams.specs.Faults.{Rose};
 ghost use Rattle.rma_streams.specs.Memory.{call_fails, called, faulted};
 

@@ -1,5 +1,6 @@
 //! A source in memory whose calls fail as planned.
-ghost use Rattle.std.specs.Prelude.{◌≡◌, ◌≤◌, ◌<◌, ◌++◌, [], Some, length, min, take, is_err, if◌then◌else◌, IfOk, OnOk, OnErr};
+ghost use Rattle.std.specs.Prelude.{◌≡◌, ◌≤◌, ◌<◌, ◌++◌, [], Some, length, min, take, is_err, if◌then◌else◌, IfOk};
+ghost use Rattle.std.specs.Prelude.{OnOk, OnErr};
 ghost use Rattle.rma_streams.specs.Ends.{unread, after_read};
 ghost use Rattle.rma_streams.specs.Faults.{Rose, counted};
 ghost use Rattle.rma_streams.specs.Memory.{call_fails, called, faulted};

@@ -1,7 +1,8 @@
 -- The error classes of refused calls: MPI 3.1, sections 8.4 and 11.6.
 use Rattle.std.specs.Prelude.{ℕ, List, codes}
 use Rattle.rma_types.specs.declared.classes.Class.{Class}
-use Rattle.rma_types.specs.declared.classes.Class.TheVariants.{Win, Flavor, Size, Base, Count, Datatype, Op, Rank, Request, Assert, Sync, Disp, Range, Attach}
+use Rattle.rma_types.specs.declared.classes.Class.TheVariants.{Win, Flavor, Size, Base, Count, Datatype, Op, Rank}
+use Rattle.rma_types.specs.declared.classes.Class.TheVariants.{Request, Assert, Sync, Disp, Range, Attach}
 
 -- the standard's name of a class
 abbrev pub class_text : Class → List ℕ

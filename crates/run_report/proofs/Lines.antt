@@ -1,5 +1,6 @@
 -- The lines about a rank's calls, call by call.
-use Rattle.std.proofs.Common.{◌≡◌, ℕ, ◌+◌, ◌<◌, inl, inr, List, [], ◌∷◌, ◌++◌, length, map, refl, ap, sym, ◌∙◌, Bool, true, false, cond, arith}
+use Rattle.std.proofs.Common.{◌≡◌, ℕ, ◌+◌, ◌<◌, inl, inr, List, [], ◌∷◌, ◌++◌, length, map, refl, ap, sym, ◌∙◌, Bool}
+use Rattle.std.proofs.Common.{true, false, cond, arith}
 use Rattle.std.specs.Prelude.{Option, Some, None, ◌==◌, nat_lt, if◌then◌else◌, slice_get, codes}
 use Rattle.std.specs.List.{filter, flat_map, enumerate_from}
 use Rattle.std.specs.Option.{option_map_or}
@@ -11,14 +12,16 @@ use Rattle.rma_types.specs.declared.accesses.Access.{Access}
 use Rattle.rma_types.specs.declared.calls.Call.{Call}
 use Rattle.rma_types.specs.declared.dtypes.Dtype.{Dtype}
 use Rattle.rma_record.specs.declared.items.Item.{Item}
-use Rattle.rma_record.specs.declared.items.Item.TheVariants.{Issue, Null, Touch, Flush, Request, Entry, Tested, Refused, Ended}
+use Rattle.rma_record.specs.declared.items.Item.TheVariants.{Issue, Null, Touch, Flush, Request, Entry, Tested, Refused}
+use Rattle.rma_record.specs.declared.items.Item.TheVariants.{Ended}
 use Rattle.call_rules.specs.Actions.{Transfer, transfer_of, is_testwin}
 use Rattle.call_rules.specs.Pieces.{numbers_from}
 use Rattle.call_rules.specs.Text.{integer, number}
 use Rattle.lawful_runs.specs.Accesses.{transfer_at}
 use Rattle.lawful_runs.specs.Items.{belongs_to, is_touch_of}
 use Rattle.run_report.specs.Chains.{chain_of_number, is_in, links}
-use Rattle.run_report.specs.Parts.{fetches_as, item_lines, lines_of_call, number_found, numbers_found, said_lines, waiting_lines}
+use Rattle.run_report.specs.Parts.{fetches_as, item_lines, lines_of_call, number_found, numbers_found, said_lines}
+use Rattle.run_report.specs.Parts.{waiting_lines}
 use Rattle.run_report.proofs.Asked.{in_chain_of_call}
 use Rattle.run_report.proofs.Lists.{join_is}
 use Rattle.run_texts.specs.Answers.{Answer, answers, fetched, fetched_word, fetched_words, said, say, standing, waiting}

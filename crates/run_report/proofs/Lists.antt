@@ -1,5 +1,6 @@
 -- Lemmas on lists alone.
-use Rattle.std.proofs.Common.{◌≡◌, ℕ, zero, suc, ◌+◌, ◌-◌, ◌<◌, List, [], ◌∷◌, ◌++◌, length, get_or, take, drop, refl, ap, sym, ◌∙◌, arith, Bool, true, false, cond, min, inl, inr}
+use Rattle.std.proofs.Common.{◌≡◌, ℕ, zero, suc, ◌+◌, ◌-◌, ◌<◌, List, [], ◌∷◌, ◌++◌, length, get_or, take, drop, refl}
+use Rattle.std.proofs.Common.{ap, sym, ◌∙◌, arith, Bool, true, false, cond, min, inl, inr}
 use Rattle.std.specs.Prelude.{Option, Some, slice_get, ◌&&◌, ◌||◌}
 use Rattle.std.specs.List.{find, flat_map, join_with_byte, list_all, list_any, sum_by, count_by}
 use Rattle.std.proofs.lemmas.List.{append_assoc, append-nil, at_drop_more, at_drop_all, take_all}

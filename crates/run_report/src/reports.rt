@@ -5,7 +5,8 @@ ghost use Rattle.std.specs.String.{string_bytes};
 ghost use Rattle.call_rules.specs.Layout.{IsWithinLimits, layout as layout_of_script};
 ghost use Rattle.call_rules.specs.Pieces.{numbers_from};
 ghost use Rattle.lawful_runs.specs.Logs.{calls_of, log_of};
-ghost use Rattle.run_texts.specs.Report.{call_lines, cells_at, first_line, full_report, memory_lines, report, summary_line, work_report};
+ghost use Rattle.run_texts.specs.Report.{call_lines, cells_at, first_line, full_report, memory_lines, report};
+ghost use Rattle.run_texts.specs.Report.{summary_line, work_report};
 
 use crate::calls::write_calls;
 use crate::counts::{Counted, count_calls, count_items, total_of};

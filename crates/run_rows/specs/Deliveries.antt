@@ -1,6 +1,7 @@
 -- Accesses that are touched after their calls: MPI 3.1, section 11.7.
 use Rattle.std.specs.Prelude.{◌≡◌, pos, [], ◌∷◌, Some, codes}
-use Rattle.rma_types.specs.declared.calls.Call.TheVariants.{Barrier, Complete, FlushAll, FlushLocalAll, Get, Put, Sync, TestReq, UnlockAll, WaitReq, WaitWin}
+use Rattle.rma_types.specs.declared.calls.Call.TheVariants.{Barrier, Complete, FlushAll, FlushLocalAll, Get, Put, Sync}
+use Rattle.rma_types.specs.declared.calls.Call.TheVariants.{TestReq, UnlockAll, WaitReq, WaitWin}
 use Rattle.rma_types.specs.declared.calls.Lock.TheVariants.{Exclusive, Shared}
 use Rattle.rma_types.specs.declared.dtypes.Dtype.TheVariants.{Int32}
 use Rattle.rma_types.specs.declared.findings.Rule.TheVariants.{S1, S2}
@@ -10,7 +11,8 @@ use Rattle.rma_types.specs.declared.schedules.Order.TheVariants.{Greedy, Robin}
 use Rattle.rma_types.specs.declared.scripts.Script.{Script}
 use Rattle.step_runs.specs.Generator.{seeded, stirred, drawn_from, delivery_stream, order_stream}
 use Rattle.step_runs.specs.StepRun.{step_run}
-use Rattle.run_rows.specs.Scripts.{Gives, acc, allocate, fence, flush, flush_local, fop, get, load, lock, lock_all, pair, plain_run, post, put, script, start, store, unlock}
+use Rattle.run_rows.specs.Scripts.{Gives, acc, allocate, fence, flush, flush_local, fop, get, load, lock, lock_all}
+use Rattle.run_rows.specs.Scripts.{pair, plain_run, post, put, script, start, store, unlock}
 
 abbrev pub put_and_load : Script
 put_and_load = script

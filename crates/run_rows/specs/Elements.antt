@@ -5,11 +5,13 @@ use Rattle.rma_types.specs.declared.calls.Lock.TheVariants.{Exclusive}
 use Rattle.rma_types.specs.declared.dtypes.Dtype.{Dtype}
 use Rattle.rma_types.specs.declared.dtypes.Dtype.TheVariants.{Byte, Int16, Int32, Int8, Uint16, Uint32, Uint8}
 use Rattle.rma_types.specs.declared.ops.Op.{Op}
-use Rattle.rma_types.specs.declared.ops.Op.TheVariants.{Band, Bor, Bxor, Land, Lor, Lxor, Max, Min, NoOp, Prod, Replace, Sum}
+use Rattle.rma_types.specs.declared.ops.Op.TheVariants.{Band, Bor, Bxor, Land, Lor, Lxor, Max, Min, NoOp, Prod, Replace}
+use Rattle.rma_types.specs.declared.ops.Op.TheVariants.{Sum}
 use Rattle.rma_types.specs.declared.scripts.Script.{Script}
 use Rattle.rma_record.specs.declared.items.Item.TheVariants.{Touch}
 use Rattle.call_rules.specs.Elements.{combined}
-use Rattle.run_rows.specs.Scripts.{Gives, HasItem, acc, allocate, cas, fence, flush, fop, load, lock, lock_all, plain_run, put, script, store, unlock}
+use Rattle.run_rows.specs.Scripts.{Gives, HasItem, acc, allocate, cas, fence, flush, fop, load, lock, lock_all}
+use Rattle.run_rows.specs.Scripts.{plain_run, put, script, store, unlock}
 
 abbrev pub sum_of_a_byte : Script
 sum_of_a_byte = script
@@ -118,7 +120,8 @@ operations =
 
 abbrev pub OperatesOnItsRange : Type 0
 OperatesOnItsRange =
-    map (λ (one : Operation). combined one.op one.dtype one.old one.operand) operations ≡ map (λ (one : Operation). one.new) operations
+    map (λ (one : Operation). combined one.op one.dtype one.old one.operand) operations ≡ map
+    (λ (one : Operation). one.new) operations
 
 abbrev pub two_swaps : Script
 two_swaps = script

@@ -1,12 +1,15 @@
 -- Calls that are refused, names that are used again, and requests: MPI 3.1, sections 11.2, 11.5 and 11.6.
 use Rattle.std.specs.Prelude.{true, pos, negsuc, [], ◌∷◌, Some, None, codes}
-use Rattle.rma_types.specs.declared.calls.Call.TheVariants.{Allocate, Complete, Fence, FlushAll, FlushLocalAll, Free, Get, LockAll, LockOne, Post, Put, Start, Sync, TestReq, TestWin, UnlockAll, WaitReq, WaitWin}
+use Rattle.rma_types.specs.declared.calls.Call.TheVariants.{Allocate, Complete, Fence, FlushAll, FlushLocalAll, Free}
+use Rattle.rma_types.specs.declared.calls.Call.TheVariants.{Get, LockAll, LockOne, Post, Put, Start, Sync, TestReq}
+use Rattle.rma_types.specs.declared.calls.Call.TheVariants.{TestWin, UnlockAll, WaitReq, WaitWin}
 use Rattle.rma_types.specs.declared.calls.Lock.TheVariants.{Shared}
 use Rattle.rma_types.specs.declared.dtypes.Dtype.TheVariants.{Int32}
 use Rattle.rma_types.specs.declared.findings.Rule.TheVariants.{S2}
 use Rattle.rma_types.specs.declared.scripts.Script.{Script}
 use Rattle.run_rows.specs.Scripts.{no_asserts}
-use Rattle.run_rows.specs.Scripts.{Gives, allocate, attach, create, fence, flush, get, load, lock, lock_all, pair, plain_run, post, put, script, spaced_script, start, store, unlock}
+use Rattle.run_rows.specs.Scripts.{Gives, allocate, attach, create, fence, flush, get, load, lock, lock_all, pair}
+use Rattle.run_rows.specs.Scripts.{plain_run, post, put, script, spaced_script, start, store, unlock}
 
 abbrev pub before_a_fence : Script
 before_a_fence = script

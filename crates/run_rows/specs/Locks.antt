@@ -6,7 +6,8 @@ use Rattle.rma_types.specs.declared.dtypes.Dtype.TheVariants.{Byte, Int32, Uint3
 use Rattle.rma_types.specs.declared.findings.Rule.TheVariants.{S1, S2, S3}
 use Rattle.rma_types.specs.declared.ops.Op.TheVariants.{Max, NoOp, Sum}
 use Rattle.rma_types.specs.declared.scripts.Script.{Script}
-use Rattle.run_rows.specs.Scripts.{Gives, acc, allocate, flush, flush_local, fop, get, load, lock, lock_all, pair, plain_run, put, script, store, unlock}
+use Rattle.run_rows.specs.Scripts.{Gives, acc, allocate, flush, flush_local, fop, get, load, lock, lock_all, pair}
+use Rattle.run_rows.specs.Scripts.{plain_run, put, script, store, unlock}
 
 abbrev pub puts_in_a_lock : Script
 puts_in_a_lock = script

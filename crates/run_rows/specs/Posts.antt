@@ -11,7 +11,8 @@ use Rattle.rma_types.specs.declared.schedules.Order.TheVariants.{Greedy, Reverse
 use Rattle.rma_types.specs.declared.scripts.Script.{Script}
 use Rattle.rma_record.specs.declared.items.Item.TheVariants.{Entry, Refused}
 use Rattle.step_runs.specs.StepRun.{step_run}
-use Rattle.run_rows.specs.Scripts.{Gives, HasItem, allocate, get, lock, pair, plain_run, post, put, script, start, unlock}
+use Rattle.run_rows.specs.Scripts.{Gives, HasItem, allocate, get, lock, pair, plain_run, post, put, script, start}
+use Rattle.run_rows.specs.Scripts.{unlock}
 
 abbrev pub put_and_get : Script
 put_and_get = script

@@ -3,7 +3,8 @@ use Rattle.std.specs.Prelude.{pos, negsuc, [], ◌∷◌, codes}
 use Rattle.rma_types.specs.declared.calls.Call.TheVariants.{Attach, Barrier, Dynamic, Free, Sync, UnlockAll}
 use Rattle.rma_types.specs.declared.dtypes.Dtype.TheVariants.{Int16, Int32, Int8}
 use Rattle.rma_types.specs.declared.scripts.Script.{Script}
-use Rattle.run_rows.specs.Scripts.{Gives, attach, create, detach, fence, flush, get, load, lock_all, plain_run, put, spaced_script, store}
+use Rattle.run_rows.specs.Scripts.{Gives, attach, create, detach, fence, flush, get, load, lock_all, plain_run, put}
+use Rattle.run_rows.specs.Scripts.{spaced_script, store}
 
 abbrev pub between_barriers : Script
 between_barriers = spaced_script (0 ∷ 32 ∷ [])

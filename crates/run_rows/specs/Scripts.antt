@@ -1,8 +1,11 @@
 -- Scripts in few words, and what their runs give.
 use Rattle.std.specs.List.{flat_map}
-use Rattle.std.specs.Prelude.{ℕ, ◌≡◌, false, not, ◌==◌, pos, List, [], length, map, replicate, slice_get, slice_index_or, Some, None}
+use Rattle.std.specs.Prelude.{ℕ, ◌≡◌, false, not, ◌==◌, pos, List, [], length, map, replicate, slice_get}
+use Rattle.std.specs.Prelude.{slice_index_or, Some, None}
 use Rattle.rma_types.specs.declared.calls.Call.{Call}
-use Rattle.rma_types.specs.declared.calls.Call.TheVariants.{Allocate, Create, Attach, Detach, Fence, Post, Start, LockOne, Unlock, LockAll, Flush, FlushLocal, Put, Get, Acc, Fop, Cas, Load, Store}
+use Rattle.rma_types.specs.declared.calls.Call.TheVariants.{Allocate, Create, Attach, Detach, Fence, Post, Start}
+use Rattle.rma_types.specs.declared.calls.Call.TheVariants.{LockOne, Unlock, LockAll, Flush, FlushLocal, Put, Get, Acc}
+use Rattle.rma_types.specs.declared.calls.Call.TheVariants.{Fop, Cas, Load, Store}
 use Rattle.rma_types.specs.declared.calls.Lock.{Lock}
 use Rattle.rma_types.specs.declared.dtypes.Dtype.{Dtype}
 use Rattle.rma_types.specs.declared.findings.Finding.{Finding}

@@ -1,5 +1,10 @@
 //! Accesses that are touched after their calls.
-ghost use Rattle.run_rows.specs.Deliveries.{LoadsBeforeThePut, LoadsAfterThePut, DeliversWhatAWaitingRankPut, CompletesByUnlocksAndFlushes, CompletesRequestedGets, LeavesTheRequestedPut, CompletesByComplete, LeavesThePutToAnother, GivesWayToTheFirstSum, GivesWayThroughAnother, CompletesByFlushes, DrawsByTheGenerator, DrawsForEachRank, DeliversAtAnOddDraw, WaitsAtAnEvenDraw, DeliversTheFirst, DeliversTheSecond};
+ghost use Rattle.run_rows.specs.Deliveries.{LoadsBeforeThePut, LoadsAfterThePut, DeliversWhatAWaitingRankPut};
+ghost use Rattle.run_rows.specs.Deliveries.{CompletesByUnlocksAndFlushes, CompletesRequestedGets};
+ghost use Rattle.run_rows.specs.Deliveries.{LeavesTheRequestedPut, CompletesByComplete, LeavesThePutToAnother};
+ghost use Rattle.run_rows.specs.Deliveries.{GivesWayToTheFirstSum, GivesWayThroughAnother, CompletesByFlushes};
+ghost use Rattle.run_rows.specs.Deliveries.{DrawsByTheGenerator, DrawsForEachRank, DeliversAtAnOddDraw};
+ghost use Rattle.run_rows.specs.Deliveries.{WaitsAtAnEvenDraw, DeliversTheFirst, DeliversTheSecond};
 
 /// A put that is touched late is not seen by a load of its own rank, and is there in the end, also where its rank waits
 /// for ever (MPI 3.1, sections 11.5.4 and 11.7).
@@ -9,7 +14,8 @@ pub fn late_touches()
     ensures in_the_end { DeliversWhatAWaitingRankPut }
 {}
 
-/// A call that completes accesses has them touched before its first item, and no other pending ones, where each access is
+/// A call that completes accesses has them touched before its first item, and no other pending ones, where each access
+/// is
 /// touched when a call must have it (MPI 3.1, sections 11.3.5, 11.5.2 to 11.5.4 and 11.7).
 pub fn touches_of_completed_accesses()
     ensures locks_and_flush { CompletesByUnlocksAndFlushes }
@@ -19,7 +25,8 @@ pub fn touches_of_completed_accesses()
     ensures flush_of_another { LeavesThePutToAnother }
 {}
 
-/// A call has the accesses touched that it completes, a fetching one after an earlier accumulate of its cell. Draws choose
+/// A call has the accesses touched that it completes, a fetching one after an earlier accumulate of its cell. Draws
+/// choose
 /// among the others (MPI 3.1, sections 11.5.4 and 11.7).
 pub fn touches_that_are_due()
     ensures gives_way { GivesWayToTheFirstSum }

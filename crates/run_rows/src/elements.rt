@@ -1,5 +1,6 @@
 //! Elements of a cell, and operations on them.
-ghost use Rattle.run_rows.specs.Elements.{WrapsAndKeepsNeighbours, WrapsInBothCells, OperatesOnItsRange, SwapsWhatIsEqual, HasPlaceOne, RefusesOperations};
+ghost use Rattle.run_rows.specs.Elements.{WrapsAndKeepsNeighbours, WrapsInBothCells, OperatesOnItsRange};
+ghost use Rattle.run_rows.specs.Elements.{SwapsWhatIsEqual, HasPlaceOne, RefusesOperations};
 
 /// A sum wraps in its element and leaves the neighbours of the element as they are. A compare-and-swap changes what is
 /// equal alone. Operations that a datatype does not have are refused (MPI 3.1, sections 5.9.2 and 11.3.4).

@@ -1,5 +1,7 @@
 //! Calls that are refused, and requests.
-ghost use Rattle.run_rows.specs.Epochs.{RefusesBeforeAFence, RefusesOutsideEpochs, EndsFencesByNosucceed, RefusesAnotherAssertion, RefusesByEachTest, RefusesAssertionsAndRanks, FollowsTheEpochs, HasItsOwnMemory, CompletesRequests};
+ghost use Rattle.run_rows.specs.Epochs.{RefusesBeforeAFence, RefusesOutsideEpochs, EndsFencesByNosucceed};
+ghost use Rattle.run_rows.specs.Epochs.{RefusesAnotherAssertion, RefusesByEachTest, RefusesAssertionsAndRanks};
+ghost use Rattle.run_rows.specs.Epochs.{FollowsTheEpochs, HasItsOwnMemory, CompletesRequests};
 
 /// A call outside its epoch is refused, and its rank goes on. Each test of a call gives its class
 /// (MPI 3.1, sections 11.5 and 11.6).
@@ -13,7 +15,8 @@ pub fn refusals()
     ensures each_epoch { FollowsTheEpochs }
 {}
 
-/// A window's name can be used again after its free, and the next window has memory of its own. A request names an access
+/// A window's name can be used again after its free, and the next window has memory of its own. A request names an
+/// access
 /// until it is waited for or tested (MPI 3.1, sections 11.2.5 and 11.3.5).
 pub fn names_and_requests()
     ensures name_used_again { HasItsOwnMemory }

@@ -1,7 +1,10 @@
-//! Small scripts with the reports of their runs, as theorems over the definitions of a run, and laws of the definitions.
+//! Small scripts with the reports of their runs, as theorems over the definitions of a run, and laws of the
+//! definitions.
 //!
-//! Each function does nothing: its clauses are the theorems, whose statements stand in `specs/`. A theorem on a script is
-//! about the run of that script alone. The findings of a report are given to it: nothing here says which pairs are forbidden.
+//! Each function does nothing: its clauses are the theorems, whose statements stand in `specs/`. A theorem on a script
+//! is
+//! about the run of that script alone. The findings of a report are given to it: nothing here says which pairs are
+//! forbidden.
 #![tactic(auto)]
 
 mod cells;

@@ -1,5 +1,7 @@
 //! Runs with locks.
-ghost use Rattle.run_rows.specs.Locks.{ReportsTwoPuts, PutsAfterAFlush, ReportsTheGetOfAPut, GetsBeforeThePut, AddsBothSums, ReportsOtherOperations, ReportsOtherDatatypes, ReadsBesideASum, ReportsTheLoad, LoadsAfterASync, ReportsTheStore};
+ghost use Rattle.run_rows.specs.Locks.{ReportsTwoPuts, PutsAfterAFlush, ReportsTheGetOfAPut, GetsBeforeThePut};
+ghost use Rattle.run_rows.specs.Locks.{AddsBothSums, ReportsOtherOperations, ReportsOtherDatatypes, ReadsBesideASum};
+ghost use Rattle.run_rows.specs.Locks.{ReportsTheLoad, LoadsAfterASync, ReportsTheStore};
 
 /// Two accesses to one place in one epoch are made in the order of their calls, with a flush between them and without
 /// (MPI 3.1, sections 11.5.3, 11.5.4 and 11.7).
@@ -19,7 +21,8 @@ pub fn accumulates_of_two_ranks()
     ensures read { ReadsBesideASum }
 {}
 
-/// What was put and flushed is loaded by its owner after a barrier, with a sync and without. A store beside a put leaves
+/// What was put and flushed is loaded by its owner after a barrier, with a sync and without. A store beside a put
+/// leaves
 /// both (MPI 3.1, sections 11.4, 11.5.4 and 11.7).
 pub fn loads_and_stores()
     ensures load_without_sync { ReportsTheLoad }

@@ -1,7 +1,10 @@
 //! Runs with posts and starts.
-ghost use Rattle.run_rows.specs.Posts.{ReportsTheGetBeforeTheWait, RefusesALockOfAPostedRank, LooksAfterThePost, RefusesAPostOfALockedRank, TestsInRobin, TestsInReverse, TestsInGreedy, TestsInSeeded};
+ghost use Rattle.run_rows.specs.Posts.{ReportsTheGetBeforeTheWait, RefusesALockOfAPostedRank, LooksAfterThePost};
+ghost use Rattle.run_rows.specs.Posts.{RefusesAPostOfALockedRank, TestsInRobin, TestsInReverse, TestsInGreedy};
+ghost use Rattle.run_rows.specs.Posts.{TestsInSeeded};
 
-/// A put of one origin of a post is fetched by a later get of another one. A posted rank is not locked, and a locked rank
+/// A put of one origin of a post is fetched by a later get of another one. A posted rank is not locked, and a locked
+/// rank
 /// does not post (MPI 3.1, sections 11.5.2, 11.5.3 and 11.7).
 pub fn posts_and_locks()
     ensures wait_of_the_target { ReportsTheGetBeforeTheWait }

@@ -1,5 +1,6 @@
 -- The text of a report on a run: this project's profile.
-use Rattle.std.specs.Prelude.{ℕ, ◌+◌, ◌*◌, ◌/◌, ◌%◌, Bool, false, ◌==◌, if◌then◌else◌, List, [], ◌∷◌, ◌++◌, length, take, drop, sum, sum_by, count_by, slice_get, codes}
+use Rattle.std.specs.Prelude.{ℕ, ◌+◌, ◌*◌, ◌/◌, ◌%◌, Bool, false, ◌==◌, if◌then◌else◌, List, [], ◌∷◌, ◌++◌, length}
+use Rattle.std.specs.Prelude.{take, drop, sum, sum_by, count_by, slice_get, codes}
 use Rattle.std.specs.List.{filter, flat_map, list_all}
 use Rattle.std.specs.Option.{option_map_or}
 use Rattle.std.specs.Fmt.{digit_glyph}
@@ -55,7 +56,8 @@ byte_hex byte = digit_glyph false (byte / 16) ∷ digit_glyph false (byte % 16) 
 -- the 4 bytes of a cell, little-endian
 abbrev pub cell_hex : ℕ → List ℕ
 cell_hex cell =
-    byte_hex (cell % 256) ++ byte_hex (cell / 256 % 256) ++ byte_hex (cell / 65536 % 256) ++ byte_hex (cell / 16777216 % 256)
+    byte_hex (cell % 256) ++ byte_hex (cell / 256 % 256) ++ byte_hex (cell / 65536 % 256) ++ byte_hex
+    (cell / 16777216 % 256)
 
 -- the line of some cells of a rank's memory from an address on, where one of them is not 0
 abbrev pub memory_line : ℕ → ℕ → List ℕ → List ℕ
@@ -66,7 +68,8 @@ memory_line rank address cells =
 -- the lines of a rank's memory, 8 cells to a line; the last may have fewer
 abbrev pub memory_lines : ℕ → List ℕ → List ℕ
 memory_lines rank cells =
-    flat_map (λ piece. memory_line rank (32 * piece) (take 8 (drop (8 * piece) cells))) (numbers_from 0 ((length cells + 7) / 8))
+    flat_map (λ piece. memory_line rank (32 * piece) (take 8 (drop (8 * piece) cells)))
+    (numbers_from 0 ((length cells + 7) / 8))
 
 -- the cells of a part of the memory
 abbrev pub cells_in : List ℕ → MemoryPart → List ℕ
@@ -89,7 +92,8 @@ access_name run id =
 
 abbrev pub finding_line : Run → Finding → List ℕ
 finding_line run finding =
-    line (spaced (codes "finding" ∷ rule_text finding.rule ∷ access_name run finding.first ∷ access_name run finding.second ∷ []))
+    line (spaced (codes "finding" ∷ rule_text finding.rule ∷ access_name run finding.first
+    ∷ access_name run finding.second ∷ []))
 
 -- ---- the report
 
@@ -101,11 +105,13 @@ first_line run = line (if all_ended run then codes "ended" else codes "stuck")
 
 abbrev pub summary_line : Run → List Finding → List ℕ
 summary_line run found = line (spaced
-    (codes "summary" ∷ codes "accesses" ∷ number (items_where is_issue run) ∷ codes "touches" ∷ number (items_where is_touch run)
+    (codes "summary" ∷ codes "accesses" ∷ number (items_where is_issue run) ∷ codes "touches"
+    ∷ number (items_where is_touch run)
     ∷ codes "entries" ∷ number (items_where is_entry run) ∷ codes "refused" ∷ number (items_where is_refused run)
     ∷ codes "findings" ∷ number (length found) ∷ []))
 
--- the report on a script's run: how it ended, then the calls and then the memory of each rank, the findings, and the counts
+-- the report on a script's run: how it ended, then the calls and then the memory of each rank, the findings, and the
+-- counts
 abbrev pub full_report : Script → Run → List Finding → List ℕ
 full_report script run found =
     first_line run

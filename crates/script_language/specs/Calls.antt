@@ -2,13 +2,35 @@
 use Rattle.std.specs.Prelude.{ℕ, false, pos, [], Option, Some, None, unwrap_or}
 use Rattle.rma_types.specs.declared.calls.Asserts.{Asserts}
 use Rattle.rma_types.specs.declared.calls.Call.{Call}
-use Rattle.rma_types.specs.declared.calls.Call.TheVariants.{Allocate, Create, Dynamic, Free, Attach, Detach, Fence, Post, Start, Complete, WaitWin, TestWin, LockOne, Unlock, LockAll, UnlockAll, Flush, FlushAll, FlushLocal, FlushLocalAll, Sync, Barrier, Put, Get, Acc, GetAcc, Fop, Cas, Load, Store, WaitReq, TestReq}
+use Rattle.rma_types.specs.declared.calls.Call.TheVariants.{Allocate, Create, Dynamic, Free, Attach, Detach, Fence}
+use Rattle.rma_types.specs.declared.calls.Call.TheVariants.{Post, Start, Complete, WaitWin, TestWin, LockOne, Unlock}
+use Rattle.rma_types.specs.declared.calls.Call.TheVariants.{LockAll, UnlockAll, Flush, FlushAll, FlushLocal}
+use Rattle.rma_types.specs.declared.calls.Call.TheVariants.{FlushLocalAll, Sync, Barrier, Put, Get, Acc, GetAcc, Fop}
+use Rattle.rma_types.specs.declared.calls.Call.TheVariants.{Cas, Load, Store, WaitReq, TestReq}
 use Rattle.rma_types.specs.declared.calls.Lock.TheVariants.{Shared}
 use Rattle.rma_types.specs.declared.dtypes.Dtype.TheVariants.{Int8}
 use Rattle.rma_types.specs.declared.ops.Op.TheVariants.{Replace}
 use Rattle.script_language.specs.declared.fields.Fields.{Fields}
 use Rattle.script_language.specs.declared.forms.CallForm.{CallForm}
-use Rattle.script_language.specs.declared.forms.CallForm.TheVariants.{Allocate as AllocateForm, Create as CreateForm, Dynamic as DynamicForm, Free as FreeForm, Attach as AttachForm, Detach as DetachForm, Fence as FenceForm, Post as PostForm, Start as StartForm, Complete as CompleteForm, WaitWin as WaitWinForm, TestWin as TestWinForm, LockOne as LockOneForm, Unlock as UnlockForm, LockAll as LockAllForm, UnlockAll as UnlockAllForm, Flush as FlushForm, FlushAll as FlushAllForm, FlushLocal as FlushLocalForm, FlushLocalAll as FlushLocalAllForm, Sync as SyncForm, Barrier as BarrierForm, Put as PutForm, RequestPut, Get as GetForm, RequestGet, Acc as AccForm, RequestAcc, GetAcc as GetAccForm, RequestGetAcc, Fop as FopForm, Cas as CasForm, Load as LoadForm, Store as StoreForm, WaitReq as WaitReqForm, TestReq as TestReqForm}
+use Rattle.script_language.specs.declared.forms.CallForm.TheVariants.{Allocate as AllocateForm, Create as CreateForm}
+use Rattle.script_language.specs.declared.forms.CallForm.TheVariants.{Dynamic as DynamicForm, Free as FreeForm}
+use Rattle.script_language.specs.declared.forms.CallForm.TheVariants.{Attach as AttachForm, Detach as DetachForm}
+use Rattle.script_language.specs.declared.forms.CallForm.TheVariants.{Fence as FenceForm, Post as PostForm}
+use Rattle.script_language.specs.declared.forms.CallForm.TheVariants.{Start as StartForm, Complete as CompleteForm}
+use Rattle.script_language.specs.declared.forms.CallForm.TheVariants.{WaitWin as WaitWinForm, TestWin as TestWinForm}
+use Rattle.script_language.specs.declared.forms.CallForm.TheVariants.{LockOne as LockOneForm, Unlock as UnlockForm}
+use Rattle.script_language.specs.declared.forms.CallForm.TheVariants.{LockAll as LockAllForm}
+use Rattle.script_language.specs.declared.forms.CallForm.TheVariants.{UnlockAll as UnlockAllForm, Flush as FlushForm}
+use Rattle.script_language.specs.declared.forms.CallForm.TheVariants.{FlushAll as FlushAllForm}
+use Rattle.script_language.specs.declared.forms.CallForm.TheVariants.{FlushLocal as FlushLocalForm}
+use Rattle.script_language.specs.declared.forms.CallForm.TheVariants.{FlushLocalAll as FlushLocalAllForm}
+use Rattle.script_language.specs.declared.forms.CallForm.TheVariants.{Sync as SyncForm, Barrier as BarrierForm}
+use Rattle.script_language.specs.declared.forms.CallForm.TheVariants.{Put as PutForm, RequestPut, Get as GetForm}
+use Rattle.script_language.specs.declared.forms.CallForm.TheVariants.{RequestGet, Acc as AccForm, RequestAcc}
+use Rattle.script_language.specs.declared.forms.CallForm.TheVariants.{GetAcc as GetAccForm, RequestGetAcc}
+use Rattle.script_language.specs.declared.forms.CallForm.TheVariants.{Fop as FopForm, Cas as CasForm, Load as LoadForm}
+use Rattle.script_language.specs.declared.forms.CallForm.TheVariants.{Store as StoreForm, WaitReq as WaitReqForm}
+use Rattle.script_language.specs.declared.forms.CallForm.TheVariants.{TestReq as TestReqForm}
 
 abbrev pub no_asserts : Asserts
 no_asserts = record { nocheck = false; nostore = false; noput = false; noprecede = false; nosucceed = false }
@@ -69,9 +91,11 @@ call_of RequestPut fields = Put (Some fields.req) fields.win fields.target field
 call_of GetForm fields = Get None fields.win fields.target fields.disp fields.dtype fields.count
 call_of RequestGet fields = Get (Some fields.req) fields.win fields.target fields.disp fields.dtype fields.count
 call_of AccForm fields = Acc None fields.win fields.target fields.disp fields.dtype fields.op fields.values
-call_of RequestAcc fields = Acc (Some fields.req) fields.win fields.target fields.disp fields.dtype fields.op fields.values
+call_of RequestAcc fields = Acc (Some fields.req) fields.win fields.target fields.disp fields.dtype fields.op
+    fields.values
 call_of GetAccForm fields = GetAcc None fields.win fields.target fields.disp fields.dtype fields.op fields.values
-call_of RequestGetAcc fields = GetAcc (Some fields.req) fields.win fields.target fields.disp fields.dtype fields.op fields.values
+call_of RequestGetAcc fields = GetAcc (Some fields.req) fields.win fields.target fields.disp fields.dtype fields.op
+    fields.values
 call_of FopForm fields = Fop fields.win fields.target fields.disp fields.dtype fields.op fields.value
 call_of CasForm fields = Cas fields.win fields.target fields.disp fields.dtype fields.compare fields.value
 call_of LoadForm fields = Load fields.win fields.disp fields.dtype fields.count
@@ -143,12 +167,18 @@ fields_of (FlushLocal win peer) = record no_fields { win = win; peer = peer }
 fields_of (FlushLocalAll win) = record no_fields { win = win }
 fields_of (Sync win) = record no_fields { win = win }
 fields_of Barrier = no_fields
-fields_of (Put req win target disp dtype values) = record no_fields { req = unwrap_or req 0; win = win; target = target; disp = disp; dtype = dtype; values = values }
-fields_of (Get req win target disp dtype count) = record no_fields { req = unwrap_or req 0; win = win; target = target; disp = disp; dtype = dtype; count = count }
-fields_of (Acc req win target disp dtype op values) = record no_fields { req = unwrap_or req 0; win = win; target = target; disp = disp; dtype = dtype; op = op; values = values }
-fields_of (GetAcc req win target disp dtype op values) = record no_fields { req = unwrap_or req 0; win = win; target = target; disp = disp; dtype = dtype; op = op; values = values }
-fields_of (Fop win target disp dtype op value) = record no_fields { win = win; target = target; disp = disp; dtype = dtype; op = op; value = value }
-fields_of (Cas win target disp dtype compare value) = record no_fields { win = win; target = target; disp = disp; dtype = dtype; compare = compare; value = value }
+fields_of (Put req win target disp dtype values) = record no_fields
+    { req = unwrap_or req 0; win = win; target = target; disp = disp; dtype = dtype; values = values }
+fields_of (Get req win target disp dtype count) = record no_fields
+    { req = unwrap_or req 0; win = win; target = target; disp = disp; dtype = dtype; count = count }
+fields_of (Acc req win target disp dtype op values) = record no_fields
+    { req = unwrap_or req 0; win = win; target = target; disp = disp; dtype = dtype; op = op; values = values }
+fields_of (GetAcc req win target disp dtype op values) = record no_fields
+    { req = unwrap_or req 0; win = win; target = target; disp = disp; dtype = dtype; op = op; values = values }
+fields_of (Fop win target disp dtype op value) = record no_fields
+    { win = win; target = target; disp = disp; dtype = dtype; op = op; value = value }
+fields_of (Cas win target disp dtype compare value) = record no_fields
+    { win = win; target = target; disp = disp; dtype = dtype; compare = compare; value = value }
 fields_of (Load win disp dtype count) = record no_fields { win = win; disp = disp; dtype = dtype; count = count }
 fields_of (Store win disp dtype values) = record no_fields { win = win; disp = disp; dtype = dtype; values = values }
 fields_of (WaitReq req) = record no_fields { req = req }

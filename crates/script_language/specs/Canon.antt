@@ -30,9 +30,11 @@ abbrev pub rank_lines : ℕ → List (List MpiCall) → List ℕ
 rank_lines rank [] = []
 rank_lines rank ([] ∷ lists) = rank_lines (rank + 1) lists
 rank_lines rank ((call ∷ calls) ∷ lists) =
-    form_line Rank (record no_fields { members = rank ∷ [] }) ++ flat_map call_line (call ∷ calls) ++ rank_lines (rank + 1) lists
+    form_line Rank (record no_fields { members = rank ∷ [] }) ++ flat_map call_line (call ∷ calls) ++ rank_lines
+    (rank + 1) lists
 
 -- the number of ranks, then their space, then their calls
 unfoldable pub canon : Script → List ℕ
 canon script =
-    form_line Ranks (record no_fields { ranks = script.ranks }) ++ space_lines 0 script.spaces ++ rank_lines 0 script.calls
+    form_line Ranks (record no_fields { ranks = script.ranks }) ++ space_lines 0 script.spaces ++ rank_lines 0
+    script.calls

@@ -1,5 +1,7 @@
 -- What the lines say so far, where a line may stand, and what it adds.
-use Rattle.std.specs.Prelude.{ℕ, zero, suc, Bool, not, ◌&&◌, nat_le, if◌then◌else◌, List, [], ◌∷◌, ◌++◌, length, map, replicate, slice_set, slice_index_or, Option, Some, None, unwrap_or, is_some, Result, Ok, Err}
+use Rattle.std.specs.Prelude.{ℕ, zero, suc, Bool, not, ◌&&◌, nat_le, if◌then◌else◌, List, [], ◌∷◌, ◌++◌, length, map}
+use Rattle.std.specs.Prelude.{replicate, slice_set, slice_index_or, Option, Some, None, unwrap_or, is_some, Result, Ok}
+use Rattle.std.specs.Prelude.{Err}
 use Rattle.rma_types.specs.declared.calls.Call.{Call as MpiCall}
 use Rattle.rma_types.specs.declared.scripts.Script.{Script}
 use Rattle.call_rules.specs.Layout.{calls_of, memory_of}

@@ -1,11 +1,21 @@
 -- The table of all forms of a line: the word that begins it, and the places that follow the word.
 use Rattle.std.specs.Prelude.{ℕ, Bool, true, false, List, [], ◌∷◌, map, codes}
 use Rattle.script_language.specs.declared.forms.CallForm.{CallForm}
-use Rattle.script_language.specs.declared.forms.CallForm.TheVariants.{Allocate, Create, Dynamic, Free, Attach, Detach, Fence, Post, Start, Complete, WaitWin, TestWin, LockOne, Unlock, LockAll, UnlockAll, Flush, FlushAll, FlushLocal, FlushLocalAll, Sync, Barrier, Put, RequestPut, Get, RequestGet, Acc, RequestAcc, GetAcc, RequestGetAcc, Fop, Cas, Load, Store, WaitReq, TestReq}
+use Rattle.script_language.specs.declared.forms.CallForm.TheVariants.{Allocate, Create, Dynamic, Free, Attach, Detach}
+use Rattle.script_language.specs.declared.forms.CallForm.TheVariants.{Fence, Post, Start, Complete, WaitWin, TestWin}
+use Rattle.script_language.specs.declared.forms.CallForm.TheVariants.{LockOne, Unlock, LockAll, UnlockAll, Flush}
+use Rattle.script_language.specs.declared.forms.CallForm.TheVariants.{FlushAll, FlushLocal, FlushLocalAll, Sync}
+use Rattle.script_language.specs.declared.forms.CallForm.TheVariants.{Barrier, Put, RequestPut, Get, RequestGet, Acc}
+use Rattle.script_language.specs.declared.forms.CallForm.TheVariants.{RequestAcc, GetAcc, RequestGetAcc, Fop, Cas, Load}
+use Rattle.script_language.specs.declared.forms.CallForm.TheVariants.{Store, WaitReq, TestReq}
 use Rattle.script_language.specs.declared.forms.Form.{Form}
 use Rattle.script_language.specs.declared.forms.Form.TheVariants.{Ranks, Space, Rank, Repeat, End, Call}
 use Rattle.script_language.specs.declared.places.Place.{Place}
-use Rattle.script_language.specs.declared.places.Place.TheVariants.{Ranks as RankCount, Owner, Room, Member, Members, Times, Request, Window, Base, Size, Unit, LockKind, Peer, Group, Assertions, Target, Displacement, ElementType, Operation, Count, Compare, Value, Values}
+use Rattle.script_language.specs.declared.places.Place.TheVariants.{Ranks as RankCount, Owner, Room, Member, Members}
+use Rattle.script_language.specs.declared.places.Place.TheVariants.{Times, Request, Window, Base, Size, Unit, LockKind}
+use Rattle.script_language.specs.declared.places.Place.TheVariants.{Peer, Group, Assertions, Target, Displacement}
+use Rattle.script_language.specs.declared.places.Place.TheVariants.{ElementType, Operation, Count, Compare, Value}
+use Rattle.script_language.specs.declared.places.Place.TheVariants.{Values}
 
 abbrev pub call_word : CallForm → List ℕ
 call_word Allocate = codes "allocate"

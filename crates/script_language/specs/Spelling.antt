@@ -8,8 +8,13 @@ use Rattle.script_language.specs.declared.fields.Fields.{Fields}
 use Rattle.script_language.specs.declared.places.Assertion.{Assertion}
 use Rattle.script_language.specs.declared.places.Assertion.TheVariants.{NoCheck, NoStore, NoPut, NoPrecede, NoSucceed}
 use Rattle.script_language.specs.declared.places.Place.{Place}
-use Rattle.script_language.specs.declared.places.Place.TheVariants.{Ranks, Owner, Room, Member, Members, Times, Request, Window, Base, Size, Unit as UnitPlace, LockKind, Peer, Group, Assertions, Target, Displacement, ElementType, Operation, Count, Compare, Value, Values}
-use Rattle.script_language.specs.Words.{dtype_text, op_text, lock_text, assertion_text, all_assertions, window_text, request_text}
+use Rattle.script_language.specs.declared.places.Place.TheVariants.{Ranks, Owner, Room, Member, Members, Times, Request}
+use Rattle.script_language.specs.declared.places.Place.TheVariants.{Window, Base, Size, Unit as UnitPlace, LockKind}
+use Rattle.script_language.specs.declared.places.Place.TheVariants.{Peer, Group, Assertions, Target, Displacement}
+use Rattle.script_language.specs.declared.places.Place.TheVariants.{ElementType, Operation, Count, Compare, Value}
+use Rattle.script_language.specs.declared.places.Place.TheVariants.{Values}
+use Rattle.script_language.specs.Words.{dtype_text, op_text, lock_text, assertion_text, all_assertions, window_text}
+use Rattle.script_language.specs.Words.{request_text}
 
 -- MPI_PROC_NULL, or a rank
 abbrev pub target_text : Option ℤ → List ℕ

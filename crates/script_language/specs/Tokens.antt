@@ -1,5 +1,6 @@
 -- What a token says at its place, and the tokens of a line one after the other.
-use Rattle.std.specs.Prelude.{ℕ, ◌-◌, Bool, true, false, ◌&&◌, ◌||◌, not, ◌==◌, nat_lt, if◌then◌else◌, ℤ, pos, List, [], ◌∷◌, ◌++◌, length, slice_index_or, Option, Some, None, is_some, Result, Ok, Err, codes}
+use Rattle.std.specs.Prelude.{ℕ, ◌-◌, Bool, true, false, ◌&&◌, ◌||◌, not, ◌==◌, nat_lt, if◌then◌else◌, ℤ, pos, List, []}
+use Rattle.std.specs.Prelude.{◌∷◌, ◌++◌, length, slice_index_or, Option, Some, None, is_some, Result, Ok, Err, codes}
 use Rattle.std.specs.Char.{is_ascii_digit}
 use Rattle.std.specs.List.{list_all}
 use Rattle.std.specs.Str.{bytes_eq}
@@ -13,7 +14,11 @@ use Rattle.script_language.specs.declared.fields.Fields.{Fields}
 use Rattle.script_language.specs.declared.places.Assertion.{Assertion}
 use Rattle.script_language.specs.declared.places.Assertion.TheVariants.{NoCheck, NoStore, NoPut, NoPrecede, NoSucceed}
 use Rattle.script_language.specs.declared.places.Place.{Place}
-use Rattle.script_language.specs.declared.places.Place.TheVariants.{Ranks, Owner, Room, Member, Members, Times, Request, Window, Base, Size, Unit as UnitPlace, LockKind, Peer, Group, Assertions, Target, Displacement, ElementType, Operation, Count, Compare, Value, Values}
+use Rattle.script_language.specs.declared.places.Place.TheVariants.{Ranks, Owner, Room, Member, Members, Times, Request}
+use Rattle.script_language.specs.declared.places.Place.TheVariants.{Window, Base, Size, Unit as UnitPlace, LockKind}
+use Rattle.script_language.specs.declared.places.Place.TheVariants.{Peer, Group, Assertions, Target, Displacement}
+use Rattle.script_language.specs.declared.places.Place.TheVariants.{ElementType, Operation, Count, Compare, Value}
+use Rattle.script_language.specs.declared.places.Place.TheVariants.{Values}
 use Rattle.script_language.specs.Answers.{◌>>=◌, found_or}
 use Rattle.script_language.specs.Forms.{is_group, is_many}
 use Rattle.script_language.specs.Integers.{integer_within, integer_up_to, plain_integer, least_of, greatest_of}
@@ -72,10 +77,13 @@ abbrev pub token_read : Draft → Fields → Place → List ℕ → Result Field
 token_read draft fields Ranks token = natural_within 1 16 token >>= λ n. Ok (record fields { ranks = n })
 token_read draft fields Owner token = owner_read draft token >>= λ rank. Ok (record fields { owner = rank })
 token_read draft fields Room token = natural_within 0 65536 token >>= λ n. Ok (record fields { room = n })
-token_read draft fields Member token = members_read draft fields.members token >>= λ ranks. Ok (record fields { members = ranks })
-token_read draft fields Members token = members_read draft fields.members token >>= λ ranks. Ok (record fields { members = ranks })
+token_read draft fields Member token = members_read draft fields.members token >>= λ ranks. Ok
+    (record fields { members = ranks })
+token_read draft fields Members token = members_read draft fields.members token >>= λ ranks. Ok
+    (record fields { members = ranks })
 token_read draft fields Times token = natural_within 1 65536 token >>= λ n. Ok (record fields { times = n })
-token_read draft fields Request token = found_or Name (request_named token) >>= λ name. Ok (record fields { req = name })
+token_read draft fields Request token = found_or Name (request_named token) >>= λ name. Ok
+    (record fields { req = name })
 token_read draft fields Window token = found_or Name (window_named token) >>= λ name. Ok (record fields { win = name })
 token_read draft fields Base token = plain_integer token >>= λ z. Ok (record fields { base = z })
 token_read draft fields Size token = integer_up_to 65536 token >>= λ z. Ok (record fields { bytes = z })
@@ -84,13 +92,16 @@ token_read draft fields LockKind token = found_or Word (lock_named token) >>= λ
 token_read draft fields Peer token = plain_integer token >>= λ rank. Ok (record fields { peer = rank })
 token_read draft fields Group token = group_read fields.group token >>= λ ranks. Ok (record fields { group = ranks })
 token_read draft fields Assertions token =
-    found_or Word (assertion_named token) >>= λ assertion. Ok (record fields { asserts = with_assertion fields.asserts assertion })
+    found_or Word (assertion_named token) >>= λ assertion. Ok
+    (record fields { asserts = with_assertion fields.asserts assertion })
 token_read draft fields Target token = target_read token >>= λ rank. Ok (record fields { target = rank })
 token_read draft fields Displacement token = plain_integer token >>= λ z. Ok (record fields { disp = z })
-token_read draft fields ElementType token = found_or Datatype (dtype_named token) >>= λ dtype. Ok (record fields { dtype = dtype })
+token_read draft fields ElementType token = found_or Datatype (dtype_named token) >>= λ dtype. Ok
+    (record fields { dtype = dtype })
 token_read draft fields Operation token = found_or Op (op_named token) >>= λ op. Ok (record fields { op = op })
 token_read draft fields Count token = integer_up_to 256 token >>= λ z. Ok (record fields { count = z })
-token_read draft fields Compare token = pattern_read fields token >>= λ pattern. Ok (record fields { compare = pattern })
+token_read draft fields Compare token = pattern_read fields token >>= λ pattern. Ok
+    (record fields { compare = pattern })
 token_read draft fields Value token = pattern_read fields token >>= λ pattern. Ok (record fields { value = pattern })
 token_read draft fields Values token = values_read fields token >>= λ patterns. Ok (record fields { values = patterns })
 

@@ -7,7 +7,8 @@ use Rattle.rma_types.specs.declared.calls.Lock.TheVariants.{Shared, Exclusive}
 use Rattle.rma_types.specs.declared.dtypes.Dtype.{Dtype}
 use Rattle.rma_types.specs.declared.dtypes.Dtype.TheVariants.{Int8, Int16, Int32, Uint8, Uint16, Uint32, Byte}
 use Rattle.rma_types.specs.declared.ops.Op.{Op}
-use Rattle.rma_types.specs.declared.ops.Op.TheVariants.{Replace, NoOp, Max, Min, Sum, Prod, Land, Band, Lor, Bor, Lxor, Bxor}
+use Rattle.rma_types.specs.declared.ops.Op.TheVariants.{Replace, NoOp, Max, Min, Sum, Prod, Land, Band, Lor, Bor, Lxor}
+use Rattle.rma_types.specs.declared.ops.Op.TheVariants.{Bxor}
 use Rattle.call_rules.specs.Text.{number}
 use Rattle.script_language.specs.declared.forms.Form.{Form}
 use Rattle.script_language.specs.declared.places.Assertion.{Assertion}

@@ -4,7 +4,11 @@ use Rattle.std.specs.Prelude.{Result, Ok, Err, OnOk}
 use Rattle.std.specs.List.{flat_map}
 use Rattle.std.proofs.lemmas.List.{append-nil}
 use Rattle.rma_types.specs.declared.calls.Call.{Call}
-use Rattle.rma_types.specs.declared.calls.Call.TheVariants.{Allocate, Create, Dynamic, Free, Attach, Detach, Fence, Post, Start, Complete, WaitWin, TestWin, LockOne, Unlock, LockAll, UnlockAll, Flush, FlushAll, FlushLocal, FlushLocalAll, Sync, Barrier, Put, Get, Acc, GetAcc, Fop, Cas, Load, Store, WaitReq, TestReq}
+use Rattle.rma_types.specs.declared.calls.Call.TheVariants.{Allocate, Create, Dynamic, Free, Attach, Detach, Fence}
+use Rattle.rma_types.specs.declared.calls.Call.TheVariants.{Post, Start, Complete, WaitWin, TestWin, LockOne, Unlock}
+use Rattle.rma_types.specs.declared.calls.Call.TheVariants.{LockAll, UnlockAll, Flush, FlushAll, FlushLocal}
+use Rattle.rma_types.specs.declared.calls.Call.TheVariants.{FlushLocalAll, Sync, Barrier, Put, Get, Acc, GetAcc, Fop}
+use Rattle.rma_types.specs.declared.calls.Call.TheVariants.{Cas, Load, Store, WaitReq, TestReq}
 use Rattle.rma_types.specs.CallWords.{word_of}
 use Rattle.call_rules.specs.Text.{spaced, line}
 use Rattle.script_language.specs.Calls.{form_of, no_fields}
@@ -57,21 +61,25 @@ spaced_is word [] = sym (append-nil word)
 spaced_is word (token ∷ tokens) = ap (λ (rest : List ℕ). word ++ (32 ∷ rest)) (spaced_is token tokens)
 
 -- the line of one space, and those behind it
-pub spaces_next : (rank bytes : ℕ) (spaces : List ℕ) → space_lines rank (bytes ∷ spaces) ≡ space_lines rank (bytes ∷ []) ++ space_lines (rank + 1) spaces
+pub spaces_next : (rank bytes : ℕ) (spaces : List ℕ) → space_lines rank (bytes ∷ spaces) ≡ space_lines rank
+    (bytes ∷ []) ++ space_lines (rank + 1) spaces
 spaces_next rank zero spaces = refl
 spaces_next rank (suc bytes) spaces =
     let here : List ℕ = form_line Space (record no_fields { owner = rank; room = suc bytes }) in
     ap (λ (first : List ℕ). first ++ space_lines (rank + 1) spaces) (sym (append-nil here))
 
 -- the block of one rank, and those behind it
-pub ranks_next : (rank : ℕ) (calls : List Call) (lists : List (List Call)) → rank_lines rank (calls ∷ lists) ≡ rank_lines rank (calls ∷ []) ++ rank_lines (rank + 1) lists
+pub ranks_next : (rank : ℕ) (calls : List Call) (lists : List (List Call)) →
+    rank_lines rank (calls ∷ lists) ≡ rank_lines rank (calls ∷ []) ++ rank_lines (rank + 1) lists
 ranks_next rank [] lists = refl
 ranks_next rank (call ∷ calls) lists =
-    let here : List ℕ = form_line Rank (record no_fields { members = rank ∷ [] }) ++ flat_map call_line (call ∷ calls) in
+    let here : List ℕ = form_line Rank (record no_fields { members = rank ∷ [] }) ++ flat_map call_line
+    (call ∷ calls) in
     ap (λ (first : List ℕ). first ++ rank_lines (rank + 1) lists) (sym (append-nil here))
 
 -- a line that is written piece by piece
-pub line_written : (old word : List ℕ) (tokens : List (List ℕ)) (first second third : List ℕ) → first ≡ old ++ word → second ≡ first ++ behind_spaces tokens → third ≡ second ++ 10 ∷ [] → third ≡ old ++ line (spaced (word ∷ tokens))
+pub line_written : (old word : List ℕ) (tokens : List (List ℕ)) (first second third : List ℕ) → first ≡ old ++ word →
+    second ≡ first ++ behind_spaces tokens → third ≡ second ++ 10 ∷ [] → third ≡ old ++ line (spaced (word ∷ tokens))
 line_written old word tokens first second third one two three =
     three
     ∙ ap (λ (bytes : List ℕ). bytes ++ 10 ∷ []) (two ∙ ap (λ (bytes : List ℕ). bytes ++ behind_spaces tokens) one)
@@ -80,7 +88,8 @@ line_written old word tokens first second third one two three =
     ∙ ap (λ (bytes : List ℕ). old ++ (bytes ++ 10 ∷ [])) (sym (spaced_is word tokens))
 
 -- three parts that are written one after the other
-pub parts_written : {E : Type 0} (r : Result (Unit {0}) E) (old a b c first second third : List ℕ) → first ≡ old ++ a → second ≡ first ++ b → OnOk r (third ≡ second ++ c) → OnOk r (third ≡ old ++ (a ++ b ++ c))
+pub parts_written : {E : Type 0} (r : Result (Unit {0}) E) (old a b c first second third : List ℕ) → first ≡ old ++ a →
+    second ≡ first ++ b → OnOk r (third ≡ second ++ c) → OnOk r (third ≡ old ++ (a ++ b ++ c))
 parts_written (Ok x) old a b c first second third one two three =
     three
     ∙ ap (λ (bytes : List ℕ). bytes ++ c) (two ∙ ap (λ (bytes : List ℕ). bytes ++ b) one ∙ append_assoc old a b)

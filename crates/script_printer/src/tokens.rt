@@ -5,7 +5,8 @@ ghost use Rattle.std.specs.Option.{option_to_list};
 ghost use Rattle.call_rules.specs.Numbers.{signed_number};
 ghost use Rattle.call_rules.specs.Text.{number, integer};
 ghost use Rattle.script_language.specs.Spelling.{spelled, target_text, is_given, pattern_text};
-ghost use Rattle.script_language.specs.Words.{all_assertions, assertion_text, dtype_text, op_text, lock_text, window_text, request_text};
+ghost use Rattle.script_language.specs.Words.{all_assertions, assertion_text, dtype_text, op_text, lock_text};
+ghost use Rattle.script_language.specs.Words.{window_text, request_text};
 ghost use Rattle.script_printer.specs.Printing.{behind_spaces, fields_said};
 
 use crate::said::Said;

@@ -1,5 +1,6 @@
 -- A line that reads leaves the script so far within its ranges, and at its end it is a script that a text can say.
-use Rattle.std.proofs.Common.{◌≡◌, ℕ, zero, suc, ◌<◌, ◌≤◌, true, false, not, cond, leb, List, [], ◌∷◌, ◌++◌, map, get_or, set, replicate, Option, Some, None, unwrap_or, Ok, ℤ, refl, ◌∙◌, subst, arith}
+use Rattle.std.proofs.Common.{◌≡◌, ℕ, zero, suc, ◌<◌, ◌≤◌, true, false, not, cond, leb, List, [], ◌∷◌, ◌++◌, map}
+use Rattle.std.proofs.Common.{get_or, set, replicate, Option, Some, None, unwrap_or, Ok, refl, ◌∙◌, subst, arith}
 use Rattle.std.specs.Prelude.{IfSome}
 use Rattle.std.specs.List.{AllByRecursion}
 use Rattle.std.proofs.lemmas.Bool.{leb-true}
@@ -7,71 +8,26 @@ use Rattle.std.proofs.lemmas.Grind.{common_steps}
 use Rattle.std.proofs.Math.ListN.{length-set}
 use Rattle.std.proofs.lemmas.List.{length-map, length-replicate}
 use Rattle.rma_types.specs.declared.calls.Call.{Call as MpiCall}
-use Rattle.call_rules.specs.Actions.{target_of}
 use Rattle.call_rules.specs.Layout.{calls_of, memory_of, IsWithinLimits}
-use Rattle.call_rules.specs.WellFormed.{IsNumber, IsWrittenTarget, IsWrittenCall, IsWellFormed}
+use Rattle.call_rules.specs.WellFormed.{IsWrittenCall, IsWellFormed}
 use Rattle.script_language.specs.declared.drafts.Draft.{Draft}
 use Rattle.script_language.specs.declared.faults.FaultKind.TheVariants.{Limit}
 use Rattle.script_language.specs.declared.fields.Fields.{Fields}
-use Rattle.script_language.specs.declared.forms.CallForm.{CallForm}
-use Rattle.script_language.specs.declared.forms.CallForm.TheVariants.{Allocate, Create, Dynamic, Free, Attach, Detach, Fence, Post, Start, Complete, WaitWin, TestWin, LockOne, Unlock, LockAll, UnlockAll, Flush, FlushAll, FlushLocal, FlushLocalAll, Sync, Barrier, Put, RequestPut, Get, RequestGet, Acc, RequestAcc, GetAcc, RequestGetAcc, Fop, Cas, Load, Store, WaitReq, TestReq}
 use Rattle.script_language.specs.declared.forms.Form.{Form}
 use Rattle.script_language.specs.declared.forms.Form.TheVariants.{Ranks, Space, Rank, Repeat, End, Call}
 use Rattle.script_language.specs.Calls.{call_of}
-use Rattle.script_language.specs.Drafts.{no_lines, is_begun, is_in_repeat, may_stand, repeated, added_to, with_call, with_line, script_of, is_within_limits, limited}
+use Rattle.script_language.specs.Drafts.{no_lines, is_begun, is_in_repeat, may_stand, repeated, added_to, with_call}
+use Rattle.script_language.specs.Drafts.{with_line, script_of, is_within_limits, limited}
 use Rattle.script_reader.specs.Sound.{IsSoundDraft, IsSoundLine}
 use Rattle.script_reader.proofs.Charging.{ok_from_if, both_true}
 use Rattle.script_reader.proofs.Growing.{length-added_to}
-use Rattle.script_reader.proofs.TokenRanges.{bound, all_append}
-
--- ---- the call of a line
-
-target_written : (target : Option ℤ) → IfSome target IsNumber → IsWrittenTarget (target_of target)
-target_written None s = tt
-target_written (Some rank) s = s
-
--- a call within its ranges
-call_written : (ranks : ℕ) (form : CallForm) (fields : Fields) → IsSoundLine ranks fields → IsWrittenCall (call_of form fields)
-call_written ranks Allocate fields s = record { name = s.window; address = omega arith; size = s.numbers.bytes; units = s.numbers.unit }
-call_written ranks Create fields s = record { name = s.window; address = s.numbers.base; size = s.numbers.bytes; units = s.numbers.unit }
-call_written ranks Dynamic fields s = record { name = s.window; address = omega arith; size = omega arith; units = omega arith }
-call_written ranks Free fields s = s.window
-call_written ranks Attach fields s = (s.window, s.numbers.base, s.numbers.bytes)
-call_written ranks Detach fields s = (s.window, s.numbers.base)
-call_written ranks Fence fields s = (s.window, tt)
-call_written ranks Post fields s = (s.window, s.group)
-call_written ranks Start fields s = (s.window, s.group)
-call_written ranks Complete fields s = (s.window, tt)
-call_written ranks WaitWin fields s = (s.window, tt)
-call_written ranks TestWin fields s = (s.window, tt)
-call_written ranks LockOne fields s = (s.window, s.numbers.peer)
-call_written ranks Unlock fields s = (s.window, s.numbers.peer)
-call_written ranks LockAll fields s = (s.window, tt)
-call_written ranks UnlockAll fields s = (s.window, tt)
-call_written ranks Flush fields s = (s.window, s.numbers.peer)
-call_written ranks FlushAll fields s = (s.window, tt)
-call_written ranks FlushLocal fields s = (s.window, s.numbers.peer)
-call_written ranks FlushLocalAll fields s = (s.window, tt)
-call_written ranks Sync fields s = (s.window, tt)
-call_written ranks Barrier fields s = tt
-call_written ranks Put fields s = record { name = s.window; named_request = tt; rank = target_written fields.target s.target; place = s.numbers.disp; elements = s.elements.amount; amount = s.elements.amount; patterns = s.elements.patterns; compared = tt }
-call_written ranks RequestPut fields s = record { name = s.window; named_request = s.request; rank = target_written fields.target s.target; place = s.numbers.disp; elements = s.elements.amount; amount = s.elements.amount; patterns = s.elements.patterns; compared = tt }
-call_written ranks Get fields s = record { name = s.window; named_request = tt; rank = target_written fields.target s.target; place = s.numbers.disp; elements = s.numbers.count; amount = omega arith; patterns = tt; compared = tt }
-call_written ranks RequestGet fields s = record { name = s.window; named_request = s.request; rank = target_written fields.target s.target; place = s.numbers.disp; elements = s.numbers.count; amount = omega arith; patterns = tt; compared = tt }
-call_written ranks Acc fields s = record { name = s.window; named_request = tt; rank = target_written fields.target s.target; place = s.numbers.disp; elements = s.elements.amount; amount = s.elements.amount; patterns = s.elements.patterns; compared = tt }
-call_written ranks RequestAcc fields s = record { name = s.window; named_request = s.request; rank = target_written fields.target s.target; place = s.numbers.disp; elements = s.elements.amount; amount = s.elements.amount; patterns = s.elements.patterns; compared = tt }
-call_written ranks GetAcc fields s = record { name = s.window; named_request = tt; rank = target_written fields.target s.target; place = s.numbers.disp; elements = s.elements.amount; amount = s.elements.amount; patterns = s.elements.patterns; compared = tt }
-call_written ranks RequestGetAcc fields s = record { name = s.window; named_request = s.request; rank = target_written fields.target s.target; place = s.numbers.disp; elements = s.elements.amount; amount = s.elements.amount; patterns = s.elements.patterns; compared = tt }
-call_written ranks Fop fields s = record { name = s.window; named_request = tt; rank = target_written fields.target s.target; place = s.numbers.disp; elements = omega arith; amount = omega arith; patterns = (s.elements.stored, tt); compared = tt }
-call_written ranks Cas fields s = record { name = s.window; named_request = tt; rank = target_written fields.target s.target; place = s.numbers.disp; elements = omega arith; amount = omega arith; patterns = (s.elements.stored, tt); compared = s.elements.compared }
-call_written ranks Load fields s = record { name = s.window; named_request = tt; rank = tt; place = s.numbers.disp; elements = s.numbers.count; amount = omega arith; patterns = tt; compared = tt }
-call_written ranks Store fields s = record { name = s.window; named_request = tt; rank = tt; place = s.numbers.disp; elements = s.elements.amount; amount = s.elements.amount; patterns = s.elements.patterns; compared = tt }
-call_written ranks WaitReq fields s = s.request
-call_written ranks TestReq fields s = s.request
+use Rattle.script_reader.proofs.TokenParts.{bound, all_append}
+use Rattle.script_reader.proofs.CallsWritten.{call_written}
 
 -- ---- lists
 
-all_set : {A : Type 0} (P : A → Type 0) (xs : List A) (i : ℕ) (y : A) → AllByRecursion P xs → P y → AllByRecursion P (set xs i y)
+all_set : {A : Type 0} (P : A → Type 0) (xs : List A) (i : ℕ) (y : A) → AllByRecursion P xs → P y →
+    AllByRecursion P (set xs i y)
 all_set P [] i y all here = tt
 all_set P (x ∷ xs) zero y all here = (here, all.1)
 all_set P (x ∷ xs) (suc i) y all here = (all.0, all_set P xs i y all.1 here)
@@ -85,27 +41,39 @@ all_replicate : {A : Type 0} (P : A → Type 0) (n : ℕ) (x : A) → P x → Al
 all_replicate P zero x here = tt
 all_replicate P (suc n) x here = (here, all_replicate P n x here)
 
-all_weaker : {A : Type 0} (P Q : A → Type 0) → ((x : A) → P x → Q x) → (xs : List A) → AllByRecursion P xs → AllByRecursion Q xs
+all_weaker : {A : Type 0} (P Q : A → Type 0) → ((x : A) → P x → Q x) → (xs : List A) → AllByRecursion P xs →
+    AllByRecursion Q xs
 all_weaker P Q step [] all = tt
 all_weaker P Q step (x ∷ xs) all = (step x all.0, all_weaker P Q step xs all.1)
 
-all_repeated : (P : MpiCall → Type 0) (times : ℕ) (calls : List MpiCall) → AllByRecursion P calls → AllByRecursion P (repeated times calls)
+all_repeated : (P : MpiCall → Type 0) (times : ℕ) (calls : List MpiCall) → AllByRecursion P calls →
+    AllByRecursion P (repeated times calls)
 all_repeated P zero calls all = tt
 all_repeated P (suc times) calls all = all_append P calls (repeated times calls) all (all_repeated P times calls all)
 
-all_added : (P : MpiCall → Type 0) (block : List ℕ) (added : List MpiCall) (lists : List (List MpiCall)) → AllByRecursion P added → AllByRecursion (AllByRecursion P) lists → AllByRecursion (AllByRecursion P) (added_to block added lists)
+all_added : (P : MpiCall → Type 0) (block : List ℕ) (added : List MpiCall) (lists : List (List MpiCall)) →
+    AllByRecursion P added → AllByRecursion (AllByRecursion P) lists → AllByRecursion (AllByRecursion P)
+    (added_to block added lists)
 all_added P [] added lists more all = all
 all_added P (rank ∷ block) added lists more all =
-    let here : AllByRecursion P (get_or lists rank [] ++ added) = all_append P (get_or lists rank []) added (all_get (AllByRecursion P) lists rank [] all tt) more in
-    all_added P block added (set lists rank (get_or lists rank [] ++ added)) more (all_set (AllByRecursion P) lists rank (get_or lists rank [] ++ added) all here)
+    let here : AllByRecursion P (get_or lists rank [] ++ added) = all_append P (get_or lists rank []) added
+    (all_get (AllByRecursion P) lists rank [] all tt) more in
+    all_added P block added (set lists rank (get_or lists rank [] ++ added)) more
+    (all_set (AllByRecursion P) lists rank (get_or lists rank [] ++ added) all here)
 
 -- ---- a line
 
 limits_from : (next line : Draft) → limited line ≡ Ok next → (line ≡ next) × IsWithinLimits (script_of line)
 limits_from next line h =
     let g = ok_from_if (is_within_limits (script_of line)) line next Limit h in
-    let b = both_true (leb (calls_of (script_of line)) 65536) (leb (memory_of (script_of line)) 65536) g.0 in
-    (g.1, record { calls = leb-true (calls_of (script_of line)) 65536 b.0; memory = leb-true (memory_of (script_of line)) 65536 b.1 })
+    let b = both_true (leb (calls_of (script_of line)) 65536) (leb (memory_of (script_of line)) 65536) g.0 in (
+      g.1,
+      record {
+        calls = leb-true (calls_of (script_of line)) 65536 b.0;
+        memory = leb-true
+            (memory_of (script_of line)) 65536 b.1;
+      },
+    )
 
 ranks_told : (draft : Draft) → is_begun draft ≡ true → bound draft ≡ draft.ranks
 ranks_told draft h = let some = leb-true 1 draft.ranks h in omega arith
@@ -113,21 +81,51 @@ ranks_told draft h = let some = leb-true 1 draft.ranks h in omega arith
 ranks_untold : (draft : Draft) → not (is_begun draft) ≡ true → draft.ranks ≡ 0
 ranks_untold draft h = grind (arith, common_steps)
 
-call_kept : (draft : Draft) (call : MpiCall) → IsSoundDraft draft → IsWrittenCall call → IsWithinLimits (script_of (with_call draft call)) → IsSoundDraft (with_call draft call)
+call_kept : (draft : Draft) (call : MpiCall) → IsSoundDraft draft → IsWrittenCall call →
+    IsWithinLimits (script_of (with_call draft call)) → IsSoundDraft (with_call draft call)
 call_kept draft call s written limits =
-    elim (is_in_repeat draft) as (λ b. IsWithinLimits (script_of (cond b (let inner : Draft = record draft { inside = draft.inside ++ call ∷ [] } in inner) (let outer : Draft = record draft { calls = added_to draft.block (call ∷ []) draft.calls } in outer))) → IsSoundDraft (cond b (let inner : Draft = record draft { inside = draft.inside ++ call ∷ [] } in inner) (let outer : Draft = record draft { calls = added_to draft.block (call ∷ []) draft.calls } in outer))) [
-      | true ↦ λ l. record { few_ranks = s.few_ranks; spaces = s.spaces; lists = s.lists; few_bytes = s.few_bytes; block = s.block; calls = s.calls; inside = all_append IsWrittenCall draft.inside (call ∷ []) s.inside (written, tt); limits = l }
-      | false ↦ λ l. record { few_ranks = s.few_ranks; spaces = s.spaces; lists = length-added_to draft.block (call ∷ []) draft.calls ∙ s.lists; few_bytes = s.few_bytes; block = s.block; calls = all_added IsWrittenCall draft.block (call ∷ []) draft.calls (written, tt) s.calls; inside = s.inside; limits = l }
+    elim (is_in_repeat draft) as (λ b. IsWithinLimits
+    (script_of (cond b (let inner : Draft = record draft { inside = draft.inside ++ call ∷ [] } in inner)
+    (let outer : Draft = record draft { calls = added_to draft.block (call ∷ []) draft.calls } in outer))) →
+    IsSoundDraft (cond b (let inner : Draft = record draft { inside = draft.inside ++ call ∷ [] } in inner)
+    (let outer : Draft = record draft { calls = added_to draft.block (call ∷ []) draft.calls } in outer))) [
+      | true ↦ λ l. record {
+        few_ranks = s.few_ranks;
+        spaces = s.spaces;
+        lists = s.lists;
+        few_bytes = s.few_bytes;
+        block
+            = s.block;
+        calls = s.calls;
+        inside = all_append IsWrittenCall draft.inside (call ∷ []) s.inside
+            (written, tt);
+        limits = l;
+      }
+      | false ↦ λ l. record {
+        few_ranks = s.few_ranks;
+        spaces = s.spaces;
+        lists = length-added_to draft.block
+            (call ∷ []) draft.calls ∙ s.lists;
+        few_bytes = s.few_bytes;
+        block = s.block;
+        calls = all_added IsWrittenCall
+            draft.block (call ∷ []) draft.calls (written, tt) s.calls;
+        inside = s.inside;
+        limits = l;
+      }
     ] limits
 
 -- the lines so far with a line more
-with_kept : (draft : Draft) (form : Form) (fields : Fields) → IsSoundDraft draft → may_stand draft form ≡ true → IsSoundLine (bound draft) fields → IsWithinLimits (script_of (with_line draft form fields)) → IsSoundDraft (with_line draft form fields)
+with_kept : (draft : Draft) (form : Form) (fields : Fields) → IsSoundDraft draft → may_stand draft form ≡ true →
+    IsSoundLine (bound draft) fields → IsWithinLimits (script_of (with_line draft form fields)) →
+    IsSoundDraft (with_line draft form fields)
 with_kept draft Ranks fields s stands f l = record {
   few_ranks = f.directive.few;
   spaces = length-replicate fields.ranks None;
   lists = length-replicate fields.ranks [];
   few_bytes = all_replicate (λ (space : Option ℕ). IfSome space (λ bytes. bytes ≤ 65536)) fields.ranks None tt;
-  block = all_weaker (λ rank. rank < draft.ranks) (λ rank. rank < fields.ranks) (λ rank below. absurd (let none = ranks_untold draft stands in omega arith)) draft.block s.block;
+  block = all_weaker (λ rank. rank < draft.ranks) (λ rank. rank < fields.ranks)
+      (λ rank below. absurd (let none = ranks_untold draft stands in omega arith)) draft.block s.block;
   calls = all_replicate (AllByRecursion IsWrittenCall) fields.ranks [] tt;
   inside = s.inside;
   limits = l;
@@ -136,7 +134,8 @@ with_kept draft Space fields s stands f l = record {
   few_ranks = s.few_ranks;
   spaces = length-set draft.spaces fields.owner (Some fields.room) ∙ s.spaces;
   lists = s.lists;
-  few_bytes = all_set (λ (space : Option ℕ). IfSome space (λ bytes. bytes ≤ 65536)) draft.spaces fields.owner (Some fields.room) s.few_bytes f.directive.room;
+  few_bytes = all_set (λ (space : Option ℕ). IfSome space (λ bytes. bytes ≤ 65536)) draft.spaces fields.owner
+      (Some fields.room) s.few_bytes f.directive.room;
   block = s.block;
   calls = s.calls;
   inside = s.inside;
@@ -147,35 +146,60 @@ with_kept draft Rank fields s stands f l = record {
   spaces = s.spaces;
   lists = s.lists;
   few_bytes = s.few_bytes;
-  block = (let told = ranks_told draft (both_true (is_begun draft) (not (is_in_repeat draft)) stands).0 in all_weaker (λ rank. rank < bound draft) (λ rank. rank < draft.ranks) (λ rank below. omega arith) fields.members f.directive.members);
+  block = (let told = ranks_told draft (both_true (is_begun draft) (not (is_in_repeat draft)) stands).0 in all_weaker
+      (λ rank. rank < bound draft) (λ rank. rank < draft.ranks) (λ rank below. omega arith) fields.members
+      f.directive.members);
   calls = s.calls;
   inside = s.inside;
   limits = l;
 }
-with_kept draft Repeat fields s stands f l = record { few_ranks = s.few_ranks; spaces = s.spaces; lists = s.lists; few_bytes = s.few_bytes; block = s.block; calls = s.calls; inside = s.inside; limits = l }
+with_kept draft Repeat fields s stands f l = record {
+  few_ranks = s.few_ranks;
+  spaces = s.spaces;
+  lists = s.lists;
+  few_bytes = s.few_bytes;
+  block = s.block;
+  calls = s.calls;
+  inside = s.inside;
+  limits = l;
+}
 with_kept draft End fields s stands f l = record {
   few_ranks = s.few_ranks;
   spaces = s.spaces;
   lists = length-added_to draft.block (repeated (unwrap_or draft.times 0) draft.inside) draft.calls ∙ s.lists;
   few_bytes = s.few_bytes;
   block = s.block;
-  calls = all_added IsWrittenCall draft.block (repeated (unwrap_or draft.times 0) draft.inside) draft.calls (all_repeated IsWrittenCall (unwrap_or draft.times 0) draft.inside s.inside) s.calls;
+  calls = all_added IsWrittenCall draft.block (repeated (unwrap_or draft.times 0) draft.inside) draft.calls
+      (all_repeated IsWrittenCall (unwrap_or draft.times 0) draft.inside s.inside) s.calls;
   inside = tt;
   limits = l;
 }
-with_kept draft (Call form) fields s stands f l = call_kept draft (call_of form fields) s (call_written (bound draft) form fields f) l
+with_kept draft (Call form) fields s stands f l = call_kept draft (call_of form fields) s
+    (call_written (bound draft) form fields f) l
 
-pub line_kept : (draft next : Draft) (form : Form) (fields : Fields) → IsSoundDraft draft → may_stand draft form ≡ true → IsSoundLine (bound draft) fields → limited (with_line draft form fields) ≡ Ok next → IsSoundDraft next
+pub line_kept : (draft next : Draft) (form : Form) (fields : Fields) → IsSoundDraft draft →
+    may_stand draft form ≡ true → IsSoundLine (bound draft) fields → limited (with_line draft form fields) ≡ Ok next →
+    IsSoundDraft next
 line_kept draft next form fields s stands f h =
     let l = limits_from next (with_line draft form fields) h in
     subst IsSoundDraft l.0 (with_kept draft form fields s stands f l.1)
 
 pub none_kept : IsSoundDraft no_lines
-none_kept = record { few_ranks = omega arith; spaces = refl; lists = refl; few_bytes = tt; block = tt; calls = tt; inside = tt; limits = record { calls = omega arith; memory = omega arith } }
+none_kept = record {
+  few_ranks = omega arith;
+  spaces = refl;
+  lists = refl;
+  few_bytes = tt;
+  block = tt;
+  calls = tt;
+  inside = tt;
+  limits = record { calls = omega arith; memory = omega arith };
+}
 
 -- ---- the end of the text
 
-bytes_kept : (spaces : List (Option ℕ)) → AllByRecursion (λ (space : Option ℕ). IfSome space (λ bytes. bytes ≤ 65536)) spaces → AllByRecursion (λ bytes. bytes ≤ 65536) (map (λ (space : Option ℕ). unwrap_or space 0) spaces)
+bytes_kept : (spaces : List (Option ℕ)) → AllByRecursion (λ (space : Option ℕ). IfSome space (λ bytes. bytes ≤ 65536))
+    spaces → AllByRecursion (λ bytes. bytes ≤ 65536) (map (λ (space : Option ℕ). unwrap_or space 0) spaces)
 bytes_kept [] all = tt
 bytes_kept (None ∷ spaces) all = (omega arith, bytes_kept spaces all.1)
 bytes_kept (Some bytes ∷ spaces) all = (all.0, bytes_kept spaces all.1)

@@ -2,8 +2,10 @@
 ghost use Rattle.std.specs.Prelude.{◌≡◌, ◌<◌, ◌≤◌, ◌≤ℤ◌, pos, nat_abs, IfOk};
 ghost use Rattle.call_rules.specs.Ranks.{is_member};
 ghost use Rattle.call_rules.specs.Numbers.{patterns_of, pattern_of as the_pattern_of};
-ghost use Rattle.script_language.specs.Integers.{integer_up_to as the_integer_up_to, plain_integer, least_of, greatest_of};
-ghost use Rattle.script_language.specs.Tokens.{natural_within, pattern_read, target_read, rank_read, owner_read, members_read, group_read, values_read};
+ghost use Rattle.script_language.specs.Integers.{integer_up_to as the_integer_up_to, plain_integer, least_of};
+ghost use Rattle.script_language.specs.Integers.{greatest_of};
+ghost use Rattle.script_language.specs.Tokens.{natural_within, pattern_read, target_read, rank_read, owner_read};
+ghost use Rattle.script_language.specs.Tokens.{members_read, group_read, values_read};
 ghost use Rattle.script_reader.specs.Answers.{Does};
 ghost use Rattle.script_reader.specs.Telling.{with_value};
 

@@ -3,7 +3,11 @@ ghost use Rattle.std.specs.Prelude.{◌≡◌, ◌∷◌, ◌<◌};
 ghost use Rattle.std.specs.Fmt.{decimal};
 ghost use Rattle.std.specs.Str.{bytes_eq};
 ghost use Rattle.script_language.specs.Forms.{word_of_form, call_word};
-ghost use Rattle.script_language.specs.Words.{dtype_text, op_text, lock_text, assertion_text, form_named as the_form_named, dtype_named as the_dtype_named, op_named as the_op_named, lock_named as the_lock_named, assertion_named as the_assertion_named, window_named as the_window_named, request_named as the_request_named};
+ghost use Rattle.script_language.specs.Words.{dtype_text, op_text, lock_text, assertion_text};
+ghost use Rattle.script_language.specs.Words.{form_named as the_form_named, dtype_named as the_dtype_named};
+ghost use Rattle.script_language.specs.Words.{op_named as the_op_named, lock_named as the_lock_named};
+ghost use Rattle.script_language.specs.Words.{assertion_named as the_assertion_named, window_named as the_window_named};
+ghost use Rattle.script_language.specs.Words.{request_named as the_request_named};
 
 use rma_types::{Dtype, Lock, Op};
 use script_language::{Assertion, CallForm, Form};

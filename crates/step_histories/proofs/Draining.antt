@@ -1,5 +1,6 @@
 -- The deliveries at the end of the run on one thread go on with the histories of all ranks and cells.
-use Rattle.std.proofs.Common.{◌≡◌, ℕ, ◌<◌, ◌⊎◌, inl, inr, Bool, true, false, not, List, [], ◌∷◌, ◌++◌, length, None, refl, sym, ◌∙◌, subst, arith, append-nil, length-set}
+use Rattle.std.proofs.Common.{◌≡◌, ℕ, ◌<◌, ◌⊎◌, inl, inr, Bool, true, false, not, List, [], ◌∷◌, ◌++◌, length, None}
+use Rattle.std.proofs.Common.{refl, sym, ◌∙◌, subst, arith, append-nil, length-set}
 use Rattle.std.specs.Prelude.{◌&&◌}
 use Rattle.std.specs.List.{fold, AllByRecursion}
 use Rattle.rma_types.specs.declared.schedules.Delay.{Delay}

@@ -1,5 +1,6 @@
 -- The history of a rank in the run on one thread: what it can still touch are the cells as they are at the moment.
-use Rattle.std.proofs.Common.{◌≡◌, ◌≢◌, ℕ, true, false, List, [], ◌∷◌, ◌++◌, length, Option, Some, None, refl, sym, ◌∙◌, ap, subst, arith, append-nil, append_assoc}
+use Rattle.std.proofs.Common.{◌≡◌, ◌≢◌, ℕ, true, false, List, [], ◌∷◌, ◌++◌, length, Option, Some, None, refl, sym, ◌∙◌}
+use Rattle.std.proofs.Common.{ap, subst, arith, append-nil, append_assoc}
 use Rattle.std.specs.Prelude.{map}
 use Rattle.std.specs.List.{AllByRecursion}
 use Rattle.std.specs.Option.{option_map_or}
@@ -23,7 +24,8 @@ use Rattle.step_runs.specs.Agents.{Agent, tries_entry}
 use Rattle.step_runs.specs.BoardSteps.{board_step}
 use Rattle.step_runs.specs.DataSteps.{OnMemory, Move, deliver, move_of, data_step}
 
--- A history of the rank among the entries so far, of which it knows all up to its last. Its lows are not above these, and
+-- A history of the rank among the entries so far, of which it knows all up to its last. Its lows are not above these,
+-- and
 -- its log has the Issues of what is pending or touched.
 pub record IsLiving (stage : Stage) (seed rank : ℕ) (puts : List Put) (agent : Agent) (now : Lows) : Type 0 where
   pub known : List Put
@@ -102,7 +104,8 @@ pub living_looks : (stage : Stage) (seed rank : ℕ) (puts : List Put) (agent : 
     IsLiving stage seed rank (puts ++ puts_with now more) step.agent now)
 living_looks stage seed rank puts agent now rows more living past tries is =
     subst (λ (rs : List Row). (board_step stage agent rs).rows ≡ rs ++ more →
-    HasIssues stage rank (board_step stage agent rs).agent → IsLiving stage seed rank (puts ++ new) (board_step stage agent rs).agent now) (sym is)
+    HasIssues stage rank (board_step stage agent rs).agent → IsLiving stage seed rank (puts ++ new)
+    (board_step stage agent rs).agent now) (sym is)
     (λ put has. record {
       known = puts ++ new;
       later = [];
@@ -162,7 +165,8 @@ living_steps script delay seed rank puts agent cells living mine tries fit memor
     untouched : touches_at stage rank move.agent ≡ touches_at stage rank agent
     untouched = (move_plain stage rank agent mine living.issues).touches
 
-    lived : (next : Agent) (now : List Cell) → HasIssues stage rank next → IsMade stage move living.lows next (places_of now) →
+    lived : (next : Agent) (now : List Cell) → HasIssues stage rank next → IsMade stage move living.lows next
+        (places_of now) →
         IsLiving stage seed rank puts next (places_of now)
     lived next now has made = record {
       known = living.known;

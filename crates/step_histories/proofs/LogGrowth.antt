@@ -1,5 +1,6 @@
 -- The touches of a log that goes on.
-use Rattle.std.proofs.Common.{◌≡◌, ℕ, ◌+◌, ◌<◌, Bool, true, false, cond, List, [], ◌∷◌, ◌++◌, length, Option, Some, None, refl, sym, ◌∙◌, ap, subst, arith, append-nil, length-append}
+use Rattle.std.proofs.Common.{◌≡◌, ℕ, ◌+◌, ◌<◌, Bool, true, false, cond, List, [], ◌∷◌, ◌++◌, length, Option, Some}
+use Rattle.std.proofs.Common.{None, refl, sym, ◌∙◌, ap, subst, arith, append-nil, length-append}
 use Rattle.std.specs.Prelude.{nat_lt}
 use Rattle.std.specs.List.{AllByRecursion}
 use Rattle.std.specs.Option.{option_map_or}
@@ -9,16 +10,19 @@ use Rattle.rma_types.specs.declared.accesses.Id.{Id}
 use Rattle.rma_types.specs.declared.calls.Call.{Call}
 use Rattle.rma_types.specs.declared.scripts.Layout.{Layout}
 use Rattle.rma_record.specs.declared.items.Item.{Item}
-use Rattle.rma_record.specs.declared.items.Item.TheVariants.{Issue, Null, Touch, Flush, Request, Entry, Tested, Refused, Ended}
+use Rattle.rma_record.specs.declared.items.Item.TheVariants.{Issue, Null, Touch, Flush, Request, Entry, Tested, Refused}
+use Rattle.rma_record.specs.declared.items.Item.TheVariants.{Ended}
 use Rattle.call_rules.specs.Actions.{Transfer}
-use Rattle.lawful_runs.specs.Accesses.{Touching, touching_by, touches_among, change_made, issued_at, issued_by, transfer_at}
+use Rattle.lawful_runs.specs.Accesses.{Touching, touching_by, touches_among, change_made, issued_at, issued_by}
+use Rattle.lawful_runs.specs.Accesses.{transfer_at}
 use Rattle.lawful_runs.specs.Items.{is_touch}
 use Rattle.lawful_runs.specs.Logs.{Named, named_from, named_in}
 use Rattle.lawful_runs.specs.Stages.{Stage, calls_at}
 use Rattle.lawful_runs.specs.TouchLaw.{issue_of, issues_touched}
 use Rattle.rank_laws.proofs.CellOrder.{named_joined}
 use Rattle.rank_laws.proofs.Lists.{each_turned, each_append, each_front, each_back, get_rest}
-use Rattle.rank_laws.proofs.Touching.{IsTouchOf, issues_joined, issues_plain, issues_of_touches, issued_front, issued_inside, issued_still}
+use Rattle.rank_laws.proofs.Touching.{IsTouchOf, issues_joined, issues_plain, issues_of_touches, issued_front}
+use Rattle.rank_laws.proofs.Touching.{issued_inside, issued_still}
 use Rattle.rank_rules.specs.declared.pending.PendingAccess.{PendingAccess}
 use Rattle.step_runs.specs.Agents.{Agent}
 use Rattle.step_runs.specs.DataSteps.{made_pending}

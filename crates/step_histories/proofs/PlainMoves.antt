@@ -1,5 +1,6 @@
 -- What a rank does by itself, and what it does at the board, touches nothing.
-use Rattle.std.proofs.Common.{◌≡◌, ℕ, Bool, true, false, cond, List, [], ◌∷◌, ◌++◌, length, Option, Some, None, refl, sym, ◌∙◌, ap, subst, append_assoc, append-nil}
+use Rattle.std.proofs.Common.{◌≡◌, ℕ, Bool, true, false, cond, List, [], ◌∷◌, ◌++◌, length, Option, Some, None, refl}
+use Rattle.std.proofs.Common.{sym, ◌∙◌, ap, subst, append_assoc, append-nil}
 use Rattle.std.specs.List.{AllByRecursion}
 use Rattle.std.specs.Option.{option_map_or}
 use Rattle.rma_types.specs.declared.accesses.Access.{Access}
@@ -15,14 +16,17 @@ use Rattle.lawful_runs.specs.Items.{is_touch}
 use Rattle.lawful_runs.specs.Stages.{Stage, calls_at}
 use Rattle.rank_laws.proofs.DataPaths.{its_transfer}
 use Rattle.rank_laws.proofs.Lists.{each_append}
-use Rattle.rank_rules.specs.Courses.{Course, OneNull, OneIssue, LookUpAndIssue, OneFlush, OneRequest, ArriveAndLeave, EntryOrTested, OneEntry, course_of, access_of}
+use Rattle.rank_rules.specs.Courses.{Course, OneNull, OneIssue, LookUpAndIssue, OneFlush, OneRequest, ArriveAndLeave}
+use Rattle.rank_rules.specs.Courses.{EntryOrTested, OneEntry, course_of, access_of}
 use Rattle.rank_rules.specs.Knowledge.{own_class}
 use Rattle.step_histories.proofs.LogGrowth.{HasIssues, IsPlain, plain_same, plain_item, plain_issue}
 use Rattle.step_laws.proofs.DataWeights.{ended_now}
-use Rattle.step_laws.proofs.EntryMoves.{HasBegun, with_row, IsTurnedAway, ByRefusal, ByTest, EntryMove, TurnsAway, Arrives, LooksUp, Leaves, EntersOnce, moves_keep, board_step_moves}
+use Rattle.step_laws.proofs.EntryMoves.{HasBegun, with_row, IsTurnedAway, ByRefusal, ByTest, EntryMove, TurnsAway}
+use Rattle.step_laws.proofs.EntryMoves.{Arrives, LooksUp, Leaves, EntersOnce, moves_keep, board_step_moves}
 use Rattle.step_runs.specs.Agents.{Agent, next_call, has_pending, must_draw, awaited_by, tries_entry}
 use Rattle.step_runs.specs.BoardSteps.{next_row, board_step}
-use Rattle.step_runs.specs.DataSteps.{just_delivers, without_delivery, with_item, with_issue, issue_of, issue, draw, first_item, wait_or_go_on, judge, begin, go_on, end, move_of}
+use Rattle.step_runs.specs.DataSteps.{just_delivers, without_delivery, with_item, with_issue, issue_of, issue, draw}
+use Rattle.step_runs.specs.DataSteps.{first_item, wait_or_go_on, judge, begin, go_on, end, move_of}
 
 -- ---- without the board
 

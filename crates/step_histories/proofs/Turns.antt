@@ -1,5 +1,7 @@
--- Each turn of the run on one thread goes on with the histories of all ranks and cells, in any order and with any delay.
-use Rattle.std.proofs.Common.{◌≡◌, ◌≢◌, ℕ, zero, suc, ◌+◌, ◌<◌, Bool, true, false, cond, List, [], ◌∷◌, ◌++◌, length, get_or, refl, sym, ◌∙◌, ap, subst, arith, append-nil, length-append}
+-- Each turn of the run on one thread goes on with the histories of all ranks and cells, in any order and with any
+-- delay.
+use Rattle.std.proofs.Common.{◌≡◌, ◌≢◌, ℕ, zero, suc, ◌+◌, ◌<◌, Bool, true, false, cond, List, [], ◌∷◌, ◌++◌, length}
+use Rattle.std.proofs.Common.{get_or, refl, sym, ◌∙◌, ap, subst, arith, append-nil, length-append}
 use Rattle.std.specs.Prelude.{◌||◌, map, nat_lt}
 use Rattle.std.specs.List.{flat_map, AllByRecursion}
 use Rattle.std.proofs.lemmas.Bool.{ne_eqb, lt-ltb}
@@ -22,14 +24,16 @@ use Rattle.rank_laws.proofs.Histories.{rows_joined}
 use Rattle.step_histories.proofs.AllTouches.{touches_of_all, recorded_step}
 use Rattle.step_histories.proofs.CellGrowth.{AreRecorded, none_recorded, places_of, made_rise, length_made}
 use Rattle.step_histories.proofs.Deliveries.{IsFit}
-use Rattle.step_histories.proofs.Living.{IsLiving, lows_rise, puts_with, IsPast, rows_with, each_put, each_past, living_looks, living_learns, IsDataStep, living_steps}
+use Rattle.step_histories.proofs.Living.{IsLiving, lows_rise, puts_with, IsPast, rows_with, each_put, each_past}
+use Rattle.step_histories.proofs.Living.{living_looks, living_learns, IsDataStep, living_steps}
 use Rattle.step_histories.proofs.LogGrowth.{touches_at}
 use Rattle.step_histories.proofs.PlainMoves.{IsLooked, move_plain, board_looked}
 use Rattle.step_histories.proofs.Waits.{IsStuck, waits_stuck}
 use Rattle.step_laws.proofs.Lists.{each_set_apart}
 use Rattle.step_laws.proofs.SoundRuns.{IsSoundWorld, sound_picks, sound_at_board, sound_on_memory, first_is_sound}
 use Rattle.step_laws.proofs.SoundSteps.{move_sound}
-use Rattle.step_laws.proofs.Turns.{MayTurn, KeptByPicks, KeptAtBoard, KeptOnMemory, not_ended, turns_kept, run_keeps, at_first}
+use Rattle.step_laws.proofs.Turns.{MayTurn, KeptByPicks, KeptAtBoard, KeptOnMemory, not_ended, turns_kept, run_keeps}
+use Rattle.step_laws.proofs.Turns.{at_first}
 use Rattle.step_laws.specs.Inside.{world_after}
 use Rattle.step_runs.specs.Agents.{Agent, new_agent, tries_entry}
 use Rattle.step_runs.specs.BoardSteps.{AtBoard, board_step}
@@ -232,7 +236,8 @@ lived_on_memory script delay seed world rank may tries sound lived = record {
         }
 
     made : IsDataStep script delay seed rank lived.puts agent world.cells step
-    made = living_steps script delay seed rank lived.puts agent world.cells living (sound.each rank may.0).mine tries fit
+    made = living_steps script delay seed rank lived.puts agent world.cells living (sound.each rank may.0).mine tries
+        fit
         lived.memory
 
     rise : AreAtMost now (places_of step.cells)

@@ -1,5 +1,6 @@
 -- A rank that is found waiting at the board is stuck there: it tries an entry that is not yet possible.
-use Rattle.std.proofs.Common.{◌≡◌, ◌⊎◌, inl, inr, Bool, true, false, cond, List, Option, Some, None, refl, sym, ◌∙◌, ap, subst}
+use Rattle.std.proofs.Common.{◌≡◌, ◌⊎◌, inl, inr, Bool, true, false, cond, List, Option, Some, None, refl, sym, ◌∙◌, ap}
+use Rattle.std.proofs.Common.{subst}
 use Rattle.std.specs.Prelude.{is_none}
 use Rattle.std.specs.Option.{option_map_or}
 use Rattle.rma_types.specs.declared.accesses.Step.{Step}
@@ -10,9 +11,11 @@ use Rattle.board_rules.specs.Entries.{Row}
 use Rattle.call_rules.specs.Actions.{transfer_of}
 use Rattle.lawful_runs.specs.Stages.{Stage}
 use Rattle.rank_laws.proofs.CallKinds.{moves_nothing}
-use Rattle.rank_rules.specs.Courses.{Course, OneNull, OneIssue, LookUpAndIssue, OneFlush, OneRequest, ArriveAndLeave, EntryOrTested, OneEntry, course_of}
+use Rattle.rank_rules.specs.Courses.{Course, OneNull, OneIssue, LookUpAndIssue, OneFlush, OneRequest, ArriveAndLeave}
+use Rattle.rank_rules.specs.Courses.{EntryOrTested, OneEntry, course_of}
 use Rattle.step_runs.specs.Agents.{Agent, next_call, finished, opened, begins_with_entry, tries_entry}
-use Rattle.step_runs.specs.BoardSteps.{AtBoard, next_row, waiting, entered, enter_by, test_by, leave, leave_if_entered, first_entry, entry_of, board_step}
+use Rattle.step_runs.specs.BoardSteps.{AtBoard, next_row, waiting, entered, enter_by, test_by, leave, leave_if_entered}
+use Rattle.step_runs.specs.BoardSteps.{first_entry, entry_of, board_step}
 
 -- the rank tries an entry, which is not yet possible after the rows
 abbrev pub IsStuck : Stage → Agent → List Row → Type 0

@@ -1,5 +1,6 @@
 -- A step of a rank at the board leaves the rank waiting, or lowers what is left of it.
-use Rattle.std.proofs.Common.{◌≡◌, ℕ, ◌+◌, ◌<◌, ◌⊎◌, inl, inr, Bool, true, false, cond, List, [], ◌∷◌, ◌++◌, length, Option, Some, None, refl, sym, ap, subst, arith}
+use Rattle.std.proofs.Common.{◌≡◌, ℕ, ◌+◌, ◌<◌, ◌⊎◌, inl, inr, Bool, true, false, cond, List, [], ◌∷◌, ◌++◌, length}
+use Rattle.std.proofs.Common.{Option, Some, None, refl, sym, ap, subst, arith}
 use Rattle.std.specs.Option.{option_map_or}
 use Rattle.rma_types.specs.declared.accesses.Step.{Step}
 use Rattle.rma_types.specs.declared.accesses.Step.TheVariants.{Arrive, Leave, One}
@@ -11,9 +12,12 @@ use Rattle.rma_types.specs.declared.scripts.Part.{Part}
 use Rattle.board_rules.specs.Board.{Decision, Refuse, Allow, NotYet, decide}
 use Rattle.board_rules.specs.Entries.{Row}
 use Rattle.lawful_runs.specs.Stages.{Stage, shapes_in}
-use Rattle.rank_rules.specs.Courses.{Course, OneNull, OneIssue, LookUpAndIssue, OneFlush, OneRequest, ArriveAndLeave, EntryOrTested, OneEntry, course_of}
+use Rattle.rank_rules.specs.Courses.{Course, OneNull, OneIssue, LookUpAndIssue, OneFlush, OneRequest, ArriveAndLeave}
+use Rattle.rank_rules.specs.Courses.{EntryOrTested, OneEntry, course_of}
 use Rattle.step_runs.specs.Agents.{Agent, next_call, kept, finished, opened}
-use Rattle.step_runs.specs.BoardSteps.{AtBoard, next_row, waiting, entered, refused, turned_away, enter_by, enter, test_by, test, leave, leave_if_entered, arrive, first_entry, entry_of, board_step}
+use Rattle.step_runs.specs.BoardSteps.{AtBoard, next_row, waiting, entered, refused, turned_away, enter_by, enter}
+use Rattle.step_runs.specs.BoardSteps.{test_by, test, leave, leave_if_entered, arrive, first_entry, entry_of}
+use Rattle.step_runs.specs.BoardSteps.{board_step}
 use Rattle.step_laws.proofs.Weights.{weight_of, FallsFar, IsFinished, finished_falls, opened_falls}
 
 -- a rank waits, or less is left of it

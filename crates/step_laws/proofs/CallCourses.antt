@@ -1,5 +1,6 @@
 -- What calls are by their courses, and what a rank learns when a call ends.
-use Rattle.std.proofs.Common.{◌≡◌, ℕ, ◌+◌, Bool, true, false, cond, List, [], ◌∷◌, Option, Some, None, refl, sym, ◌∙◌, ap, subst}
+use Rattle.std.proofs.Common.{◌≡◌, ℕ, ◌+◌, Bool, true, false, cond, List, [], ◌∷◌, Option, Some, None, refl, sym, ◌∙◌}
+use Rattle.std.proofs.Common.{ap, subst}
 use Rattle.std.specs.Prelude.{slice_get, is_none}
 use Rattle.std.specs.Option.{option_map_or}
 use Rattle.rma_types.specs.declared.accesses.Step.{Step}
@@ -7,8 +8,10 @@ use Rattle.rma_types.specs.declared.calls.Call.{Call}
 use Rattle.rma_types.specs.declared.calls.Flavor.TheVariants.{Dynamic}
 use Rattle.rma_types.specs.declared.scripts.Part.{Part}
 use Rattle.rma_record.specs.declared.items.Item.TheVariants.{Entry}
-use Rattle.call_rules.specs.Actions.{Creates, Creation, Transfer, Target, Own, Null, Named, action_of, creation_in, creation_of, transfer_of}
-use Rattle.rank_rules.specs.Courses.{Course, OneNull, OneIssue, LookUpAndIssue, ArriveAndLeave, course_of_transfer, course_of_action, course_of}
+use Rattle.call_rules.specs.Actions.{Creates, Creation, Transfer, Target, Own, Null, Named, action_of, creation_in}
+use Rattle.call_rules.specs.Actions.{creation_of, transfer_of}
+use Rattle.rank_rules.specs.Courses.{Course, OneNull, OneIssue, LookUpAndIssue, ArriveAndLeave, course_of_transfer}
+use Rattle.rank_rules.specs.Courses.{course_of_action, course_of}
 use Rattle.rank_rules.specs.Knowledge.{Knowledge, ends_call, known_after_call, learn}
 use Rattle.rank_rules.specs.Windows.{Window, RankWindows, window_of_name, is_same_flavor}
 use Rattle.step_laws.proofs.EntryMoves.{IsOneEntry}
@@ -46,7 +49,8 @@ one_entry_moves_none known call one = by_transfer (transfer_of call) refl
         (course_by_target known t IsOneEntry (λ h. h) (λ h. h) (λ h. h)
         (subst (λ a. IsOneEntry (course_of_action known a)) (moves_it call t e) one))
 
-pub one_entry_makes_none : (known : RankWindows) (call : Call) (creation : Creation) → IsOneEntry (course_of known call) →
+pub one_entry_makes_none : (known : RankWindows) (call : Call) (creation : Creation) →
+    IsOneEntry (course_of known call) →
     action_of call ≡ Creates creation → ⊥
 one_entry_makes_none known call creation one is = subst (λ a. IsOneEntry (course_of_action known a)) is one
 

@@ -1,20 +1,24 @@
 -- The parts of windows lie in memory: each is what its rank's call of the window's creation brought.
-use Rattle.std.proofs.Common.{◌≡◌, ℕ, zero, suc, ◌+◌, ◌*◌, ◌<◌, ◌≤◌, Bool, true, false, cond, List, [], ◌∷◌, ◌++◌, length, Option, Some, None, refl, sym, ◌∙◌, ap, subst, arith}
+use Rattle.std.proofs.Common.{◌≡◌, ℕ, zero, suc, ◌+◌, ◌*◌, ◌<◌, ◌≤◌, Bool, true, false, cond, List, [], ◌∷◌, ◌++◌}
+use Rattle.std.proofs.Common.{length, Option, Some, None, refl, sym, ◌∙◌, ap, subst, arith}
 use Rattle.std.specs.Prelude.{◌&&◌, ◌==◌, not, map, slice_get, slice_index_or, ℤ, pos, negsuc, is_some}
 use Rattle.std.specs.List.{find, filter, fold, AllByRecursion}
 use Rattle.std.specs.Option.{option_map_or}
 use Rattle.std.proofs.lemmas.Bool.{and_parts, eqb-true}
 use Rattle.rma_types.specs.declared.accesses.Step.{Step}
 use Rattle.rma_types.specs.declared.calls.Call.{Call}
-use Rattle.rma_types.specs.declared.calls.Call.TheVariants.{Allocate as AllocateCall, Create as CreateCall, Dynamic as DynamicCall}
+use Rattle.rma_types.specs.declared.calls.Call.TheVariants.{Allocate as AllocateCall, Create as CreateCall}
+use Rattle.rma_types.specs.declared.calls.Call.TheVariants.{Dynamic as DynamicCall}
 use Rattle.rma_types.specs.declared.calls.Flavor.{Flavor}
 use Rattle.rma_types.specs.declared.calls.Flavor.TheVariants.{Allocate, Create, Dynamic}
 use Rattle.rma_types.specs.declared.scripts.Part.{Part}
 use Rattle.rma_types.specs.declared.scripts.Script.{Script}
 use Rattle.board_rules.specs.AttachedRanges.{ranges_after, ranges_attached}
-use Rattle.board_rules.specs.Entries.{Row, Act, acts, acts_after, window_of, is_arrive, is_creation, begins_window, is_by_on}
+use Rattle.board_rules.specs.Entries.{Row, Act, acts, acts_after, window_of, is_arrive, is_creation, begins_window}
+use Rattle.board_rules.specs.Entries.{is_by_on}
 use Rattle.board_rules.specs.Shapes.{base_of, base_made, part_made, part_brought, part_in, parts_of}
-use Rattle.call_rules.specs.Actions.{Action, Creates, Frees, Attaches, Detaches, Synchronises, Meets, Moves, EndsRequest, Creation, action_of, creation_in, creation_of}
+use Rattle.call_rules.specs.Actions.{Action, Creates, Frees, Attaches, Detaches, Synchronises, Meets, Moves}
+use Rattle.call_rules.specs.Actions.{EndsRequest, Creation, action_of, creation_in, creation_of}
 use Rattle.call_rules.specs.Layout.{layout}
 use Rattle.call_rules.specs.Pieces.{numbers_from}
 use Rattle.call_rules.specs.Ranks.{natural}

@@ -1,5 +1,6 @@
 -- A step of a rank without the board finishes the rank's call, or leaves it as it was.
-use Rattle.std.proofs.Common.{◌≡◌, ℕ, ◌⊎◌, inl, inr, Bool, true, false, cond, List, [], ◌∷◌, Option, Some, None, refl, sym, ◌∙◌, ap, subst}
+use Rattle.std.proofs.Common.{◌≡◌, ℕ, ◌⊎◌, inl, inr, Bool, true, false, cond, List, [], ◌∷◌, Option, Some, None, refl}
+use Rattle.std.proofs.Common.{sym, ◌∙◌, ap, subst}
 use Rattle.std.specs.Prelude.{slice_get}
 use Rattle.std.specs.Option.{option_map_or}
 use Rattle.rma_types.specs.declared.accesses.Access.{Access}
@@ -8,11 +9,14 @@ use Rattle.rma_types.specs.declared.classes.Class.{Class}
 use Rattle.call_rules.specs.declared.cells.Cell.{Cell}
 use Rattle.call_rules.specs.Actions.{Transfer, transfer_of}
 use Rattle.lawful_runs.specs.Stages.{Stage, calls_at}
-use Rattle.rank_rules.specs.Courses.{Course, OneNull, OneIssue, LookUpAndIssue, OneFlush, OneRequest, ArriveAndLeave, EntryOrTested, OneEntry, course_of, access_of}
+use Rattle.rank_rules.specs.Courses.{Course, OneNull, OneIssue, LookUpAndIssue, OneFlush, OneRequest, ArriveAndLeave}
+use Rattle.rank_rules.specs.Courses.{EntryOrTested, OneEntry, course_of, access_of}
 use Rattle.rank_rules.specs.Knowledge.{Knowledge, own_class}
 use Rattle.rank_rules.specs.declared.pending.PendingAccess.{PendingAccess}
 use Rattle.step_runs.specs.Agents.{Agent, next_call, has_pending, must_draw, awaited_by}
-use Rattle.step_runs.specs.DataSteps.{OnMemory, with_delivery, deliver, Move, just_delivers, without_delivery, issue_of, issue, draw, first_item, wait_or_go_on, judge, begin, go_on, end, move_of, data_step}
+use Rattle.step_runs.specs.DataSteps.{OnMemory, with_delivery, deliver, Move, just_delivers, without_delivery, issue_of}
+use Rattle.step_runs.specs.DataSteps.{issue, draw, first_item, wait_or_go_on, judge, begin, go_on, end, move_of}
+use Rattle.step_runs.specs.DataSteps.{data_step}
 use Rattle.step_laws.proofs.DataWeights.{ended_now}
 use Rattle.step_laws.proofs.EntryMoves.{HasBegun, IsTwofold}
 use Rattle.step_laws.proofs.Weights.{with_delivery_is}

@@ -1,5 +1,7 @@
 -- A step of a rank without the board lowers what is left of it, where the rank has not ended.
-use Rattle.std.proofs.Common.{◌≡◌, ℕ, zero, suc, ◌+◌, ◌-◌, ◌*◌, ◌<◌, ◌≤◌, ◌⊎◌, inl, inr, Bool, true, false, cond, not, List, [], ◌∷◌, ◌++◌, length, Option, Some, None, refl, sym, ◌∙◌, ap, subst, arith, length-append}
+use Rattle.std.proofs.Common.{◌≡◌, ℕ, zero, suc, ◌+◌, ◌-◌, ◌*◌, ◌<◌, ◌≤◌, ◌⊎◌, inl, inr, Bool, true, false, cond, not}
+use Rattle.std.proofs.Common.{List, [], ◌∷◌, ◌++◌, length, Option, Some, None, refl, sym, ◌∙◌, ap, subst, arith}
+use Rattle.std.proofs.Common.{length-append}
 use Rattle.std.specs.Prelude.{◌&&◌, ◌==◌, nat_lt, is_none, slice_get}
 use Rattle.std.specs.Option.{option_map_or}
 use Rattle.std.proofs.lemmas.Bool.{and_parts, not-true, eqb-true}
@@ -11,14 +13,19 @@ use Rattle.rma_record.specs.declared.items.Item.TheVariants.{Null, Flush, Reques
 use Rattle.call_rules.specs.declared.cells.Cell.{Cell}
 use Rattle.call_rules.specs.Actions.{Transfer, transfer_of}
 use Rattle.lawful_runs.specs.Stages.{Stage, calls_at}
-use Rattle.rank_rules.specs.Courses.{Course, OneNull, OneIssue, LookUpAndIssue, OneFlush, OneRequest, ArriveAndLeave, EntryOrTested, OneEntry, course_of, has_entry, access_of}
+use Rattle.rank_rules.specs.Courses.{Course, OneNull, OneIssue, LookUpAndIssue, OneFlush, OneRequest, ArriveAndLeave}
+use Rattle.rank_rules.specs.Courses.{EntryOrTested, OneEntry, course_of, has_entry, access_of}
 use Rattle.rank_rules.specs.Knowledge.{Knowledge, own_class}
 use Rattle.rank_rules.specs.declared.pending.PendingAccess.{PendingAccess}
-use Rattle.step_runs.specs.Agents.{Agent, next_call, kept, finished, has_pending, is_seeded, must_draw, awaited_by, begins_with_entry, tries_entry}
-use Rattle.step_runs.specs.DataSteps.{OnMemory, with_delivery, deliver, Move, just_delivers, without_delivery, no_shapes, with_item, made_pending, with_issue, issue_of, issue, draw, first_item, wait_or_go_on, judge, begin, go_on, end, move_of, deliver_if, data_step}
+use Rattle.step_runs.specs.Agents.{Agent, next_call, kept, finished, has_pending, is_seeded, must_draw, awaited_by}
+use Rattle.step_runs.specs.Agents.{begins_with_entry, tries_entry}
+use Rattle.step_runs.specs.DataSteps.{OnMemory, with_delivery, deliver, Move, just_delivers, without_delivery}
+use Rattle.step_runs.specs.DataSteps.{no_shapes, with_item, made_pending, with_issue, issue_of, issue, draw, first_item}
+use Rattle.step_runs.specs.DataSteps.{wait_or_go_on, judge, begin, go_on, end, move_of, deliver_if, data_step}
 use Rattle.step_laws.proofs.EntryMoves.{HasBegun, IsTwofold}
 use Rattle.step_laws.proofs.OwnTests.{HasIssue, transfer_with_issue, allowed_has_access}
-use Rattle.step_laws.proofs.Weights.{weight, weight_of, IsFinished, finished_falls, issued_falls, delivery_falls, delivery_no_more, awaited_within, with_delivery_is}
+use Rattle.step_laws.proofs.Weights.{weight, weight_of, IsFinished, finished_falls, issued_falls, delivery_falls}
+use Rattle.step_laws.proofs.Weights.{delivery_no_more, awaited_within, with_delivery_is}
 
 -- less is left, or a pending access will be delivered
 abbrev pub LowersOrDelivers : Stage → Agent → Move → Type 0

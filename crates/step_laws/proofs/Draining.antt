@@ -1,5 +1,6 @@
 -- After the deliveries at the end of a run nothing is pending.
-use Rattle.std.proofs.Common.{◌≡◌, ℕ, zero, suc, ◌+◌, ◌<◌, ◌≤◌, inl, inr, List, [], ◌∷◌, length, get_or, Option, Some, None, refl, sym, ◌∙◌, ap, subst, arith, length-set, get_or-set_same, get_or-set_other}
+use Rattle.std.proofs.Common.{◌≡◌, ℕ, zero, suc, ◌+◌, ◌<◌, ◌≤◌, inl, inr, List, [], ◌∷◌, length, get_or, Option, Some}
+use Rattle.std.proofs.Common.{None, refl, sym, ◌∙◌, ap, subst, arith, length-set, get_or-set_same, get_or-set_other}
 use Rattle.std.specs.Prelude.{slice_get, slice_set, remove}
 use Rattle.std.specs.List.{fold}
 use Rattle.std.specs.Option.{option_map_or}
@@ -13,7 +14,8 @@ use Rattle.lawful_runs.specs.Stages.{Stage, stage_of}
 use Rattle.rank_rules.specs.declared.pending.PendingAccess.{PendingAccess}
 use Rattle.step_runs.specs.Agents.{Agent, new_agent}
 use Rattle.step_runs.specs.DataSteps.{OnMemory, deliver}
-use Rattle.step_runs.specs.StepRun.{World, agent_at, deliver_each, drain_rank, drain, turn_on_memory, run_from, first_world, most_turns}
+use Rattle.step_runs.specs.StepRun.{World, agent_at, deliver_each, drain_rank, drain, turn_on_memory, run_from}
+use Rattle.step_runs.specs.StepRun.{first_world, most_turns}
 use Rattle.step_laws.proofs.Turns.{IsRegular, regular_picks, regular_turns, run_keeps, first_is_regular}
 use Rattle.step_laws.proofs.Weights.{delivers_is}
 use Rattle.step_laws.specs.Drained.{NothingIsPending, RunIsDrained}

@@ -1,5 +1,6 @@
 -- A run ends by itself, in any order and with any delay: each turn lowers what is left of all ranks.
-use Rattle.std.proofs.Common.{◌≡◌, ℕ, zero, suc, ◌+◌, ◌*◌, ◌<◌, ◌≤◌, ◌⊎◌, inl, inr, Bool, true, false, cond, not, List, [], ◌∷◌, length, get_or, Option, Some, None, refl, sym, ◌∙◌, ap, subst, arith}
+use Rattle.std.proofs.Common.{◌≡◌, ℕ, zero, suc, ◌+◌, ◌*◌, ◌<◌, ◌≤◌, ◌⊎◌, inl, inr, Bool, true, false, cond, not, List}
+use Rattle.std.proofs.Common.{[], ◌∷◌, length, get_or, Option, Some, None, refl, sym, ◌∙◌, ap, subst, arith}
 use Rattle.std.specs.Prelude.{◌||◌, ◌==◌, map, nat_lt, slice_set, sum_by}
 use Rattle.std.specs.Option.{option_map_or}
 use Rattle.std.proofs.lemmas.Bool.{eq-eqb, le-ltb}
@@ -13,11 +14,13 @@ use Rattle.step_runs.specs.Agents.{Agent, new_agent, tries_entry}
 use Rattle.step_runs.specs.BoardSteps.{AtBoard, board_step, waiting}
 use Rattle.step_runs.specs.DataSteps.{data_step}
 use Rattle.step_runs.specs.Schedules.{Schedule, pick, after_board}
-use Rattle.step_runs.specs.StepRun.{World, agent_at, turn_at_board, turn_on_memory, turn, is_ready, picked_turn, run_from, first_world}
+use Rattle.step_runs.specs.StepRun.{World, agent_at, turn_at_board, turn_on_memory, turn, is_ready, picked_turn}
+use Rattle.step_runs.specs.StepRun.{run_from, first_world}
 use Rattle.step_laws.proofs.BoardWeights.{board_step_falls}
 use Rattle.step_laws.proofs.DataWeights.{data_step_falls}
 use Rattle.step_laws.proofs.Picks.{pick_is}
-use Rattle.step_laws.proofs.Turns.{MayTurn, with_schedule, picked_may_turn, not_ended, IsRegular, regular_picks, regular_turns}
+use Rattle.step_laws.proofs.Turns.{MayTurn, with_schedule, picked_may_turn, not_ended, IsRegular, regular_picks}
+use Rattle.step_laws.proofs.Turns.{regular_turns}
 use Rattle.step_laws.proofs.Weights.{weight_of, FallsFar}
 
 -- ---- the ranks that do not wait

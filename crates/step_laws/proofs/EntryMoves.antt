@@ -1,5 +1,7 @@
--- What a step of a rank at the board does: nothing, one entry or look, or the Arrive of a collective and then its Leave.
-use Rattle.std.proofs.Common.{◌≡◌, ℕ, ◌+◌, Bool, true, false, cond, not, List, [], ◌∷◌, ◌++◌, length, Option, Some, None, refl, sym, ◌∙◌, ap, subst}
+-- What a step of a rank at the board does: nothing, one entry or look, or the Arrive of a collective and then its
+-- Leave.
+use Rattle.std.proofs.Common.{◌≡◌, ℕ, ◌+◌, Bool, true, false, cond, not, List, [], ◌∷◌, ◌++◌, length, Option, Some}
+use Rattle.std.proofs.Common.{None, refl, sym, ◌∙◌, ap, subst}
 use Rattle.std.specs.Prelude.{◌&&◌, is_none, slice_get}
 use Rattle.std.specs.Option.{option_map_or}
 use Rattle.std.proofs.lemmas.Bool.{and_parts}
@@ -16,11 +18,15 @@ use Rattle.board_rules.specs.Questions.{question}
 use Rattle.board_rules.specs.Rounds.{all_arrived}
 use Rattle.call_rules.specs.Actions.{transfer_of}
 use Rattle.lawful_runs.specs.Stages.{Stage, calls_at, shapes_in}
-use Rattle.rank_rules.specs.Courses.{Course, OneNull, OneIssue, LookUpAndIssue, OneFlush, OneRequest, ArriveAndLeave, EntryOrTested, OneEntry, course_of, has_entry}
+use Rattle.rank_rules.specs.Courses.{Course, OneNull, OneIssue, LookUpAndIssue, OneFlush, OneRequest, ArriveAndLeave}
+use Rattle.rank_rules.specs.Courses.{EntryOrTested, OneEntry, course_of, has_entry}
 use Rattle.rank_rules.specs.Knowledge.{Knowledge, own_class, ends_call, known_after_number, learn}
 use Rattle.rank_rules.specs.Windows.{RankWindows}
-use Rattle.step_runs.specs.Agents.{Agent, next_call, kept, finished, opened, must_draw, awaited_by, begins_with_entry, tries_entry}
-use Rattle.step_runs.specs.BoardSteps.{AtBoard, next_row, waiting, entered, refused, turned_away, enter_by, enter, test_by, test, leave, leave_if_entered, arrive, first_entry, entry_of, board_step}
+use Rattle.step_runs.specs.Agents.{Agent, next_call, kept, finished, opened, must_draw, awaited_by, begins_with_entry}
+use Rattle.step_runs.specs.Agents.{tries_entry}
+use Rattle.step_runs.specs.BoardSteps.{AtBoard, next_row, waiting, entered, refused, turned_away, enter_by, enter}
+use Rattle.step_runs.specs.BoardSteps.{test_by, test, leave, leave_if_entered, arrive, first_entry, entry_of}
+use Rattle.step_runs.specs.BoardSteps.{board_step}
 use Rattle.step_laws.proofs.OwnTests.{HasIssue, transfer_with_issue}
 
 -- a call of two parts: a collective call, or an RMA call on a dynamic window
@@ -73,7 +79,8 @@ pub data IsTurnedAway (agent : Agent) (rows : List Row) (item : Item) : Type 0 w
 abbrev pub with_row : Agent → List Row → Call → Step → List Row
 with_row agent rows call step = rows ++ next_row agent call step ∷ []
 
--- one move of a rank at the board: it is turned away, it arrives at a collective call or looks up where an RMA call goes,
+-- one move of a rank at the board: it is turned away, it arrives at a collective call or looks up where an RMA call
+-- goes,
 -- it leaves the collective call, or it puts the only entry of a call
 pub data EntryMove (stage : Stage) (agent : Agent) (rows : List Row) (next : Agent) (now : List Row) : Type 0 where
   TurnsAway : (call : Call) (item : Item) → next_call stage agent ≡ Some call → agent.entered ≡ false →

@@ -1,5 +1,6 @@
 -- The memory of each rank's space and allocates lies in the rank's memory, and that in the cells of all ranks.
-use Rattle.std.proofs.Common.{◌≡◌, ℕ, zero, suc, ◌+◌, ◌*◌, ◌/◌, ◌%◌, ◌<◌, ◌≤◌, Bool, cond, List, [], ◌∷◌, ◌++◌, length, get_or, Option, Some, None, refl, sym, ◌∙◌, ap, subst, arith, add-zero, zero-add}
+use Rattle.std.proofs.Common.{◌≡◌, ℕ, zero, suc, ◌+◌, ◌*◌, ◌/◌, ◌%◌, ◌<◌, ◌≤◌, Bool, cond, List, [], ◌∷◌, ◌++◌, length}
+use Rattle.std.proofs.Common.{get_or, Option, Some, None, refl, sym, ◌∙◌, ap, subst, arith, add-zero, zero-add}
 use Rattle.std.specs.Prelude.{map, slice_get, slice_index_or, sum_by, ◌==◌, ℤ, pos, negsuc}
 use Rattle.std.specs.List.{find, zip, AllByRecursion}
 use Rattle.std.specs.Option.{option_map_or}
@@ -19,7 +20,8 @@ use Rattle.rma_types.specs.Datatypes.{size_of}
 use Rattle.board_rules.specs.Shapes.{base_of}
 use Rattle.call_rules.specs.declared.elements.Piece.{Piece}
 use Rattle.call_rules.specs.Actions.{Creation, creation_of}
-use Rattle.call_rules.specs.Layout.{rounded, own_bytes, call_bytes, memory_bytes, base_for, base_at, bases_from, ranks_of, parts_from, layout, cells_of}
+use Rattle.call_rules.specs.Layout.{rounded, own_bytes, call_bytes, memory_bytes, base_for, base_at, bases_from}
+use Rattle.call_rules.specs.Layout.{ranks_of, parts_from, layout, cells_of}
 use Rattle.call_rules.specs.Pieces.{numbers_from, first_cell, piece_at, pieces}
 use Rattle.call_rules.specs.Ranks.{natural}
 use Rattle.step_laws.proofs.Lists.{each_mapped, numbers_below}

@@ -1,5 +1,6 @@
 -- What lies in memory where a rank does not refuse a call: the ranges that it names, and the bytes that it reaches.
-use Rattle.std.proofs.Common.{◌≡◌, ℕ, zero, suc, ◌+◌, ◌*◌, ◌%◌, ◌<◌, ◌≤◌, Bool, true, false, cond, not, List, [], ◌∷◌, Option, Some, None, refl, sym, ◌∙◌, ap, subst, arith}
+use Rattle.std.proofs.Common.{◌≡◌, ℕ, zero, suc, ◌+◌, ◌*◌, ◌%◌, ◌<◌, ◌≤◌, Bool, true, false, cond, not, List, [], ◌∷◌}
+use Rattle.std.proofs.Common.{Option, Some, None, refl, sym, ◌∙◌, ap, subst, arith}
 use Rattle.std.specs.Prelude.{◌&&◌, ◌||◌, ◌==◌, nat_lt, nat_le, map, ℤ, pos, negsuc, int_lt, ◌+ℤ◌, slice_index_or}
 use Rattle.std.specs.List.{filter, list_any, list_all, AllByRecursion}
 use Rattle.std.specs.Option.{option_map_or}
@@ -21,8 +22,11 @@ use Rattle.rank_rules.specs.Courses.{OneNull, OneIssue, LookUpAndIssue, course_o
 use Rattle.rank_rules.specs.Epochs.{Epochs}
 use Rattle.rank_rules.specs.EpochTests.{is_wrong_target, epoch_tests, epoch_class}
 use Rattle.rank_rules.specs.Ranges.{Range, has_byte, covers}
-use Rattle.rank_rules.specs.Windows.{Window, OwnRange, RankWindows, window_of_name, is_live, is_same_flavor, part_at, attached_to}
-use Rattle.rank_rules.specs.WindowTests.{is_outside, is_in_use, has_wrong_base, is_not_dynamic, address_in, is_misplaced, passes_end, is_unattached, part_reached, address_of, is_out_of_range, has_rank_and_count, place_tests, window_tests, window_class}
+use Rattle.rank_rules.specs.Windows.{Window, OwnRange, RankWindows, window_of_name, is_live, is_same_flavor, part_at}
+use Rattle.rank_rules.specs.Windows.{attached_to}
+use Rattle.rank_rules.specs.WindowTests.{is_outside, is_in_use, has_wrong_base, is_not_dynamic, address_in}
+use Rattle.rank_rules.specs.WindowTests.{is_misplaced, passes_end, is_unattached, part_reached, address_of}
+use Rattle.rank_rules.specs.WindowTests.{is_out_of_range, has_rank_and_count, place_tests, window_tests, window_class}
 use Rattle.step_laws.proofs.Lists.{each_mapped, each_kept, number_among}
 use Rattle.step_laws.proofs.OwnTests.{HasIssue, none_applies}
 use Rattle.step_laws.specs.Inside.{bytes_at, LiesInMemory}

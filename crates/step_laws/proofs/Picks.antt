@@ -1,5 +1,6 @@
 -- The rank that is picked may have a turn; where none is picked, none may. So it is in each order.
-use Rattle.std.proofs.Common.{◌≡◌, ℕ, zero, suc, ◌+◌, ◌<◌, ◌≤◌, Bool, true, false, List, [], ◌∷◌, ◌++◌, length, take, drop, Option, Some, None, refl, sym, subst, arith}
+use Rattle.std.proofs.Common.{◌≡◌, ℕ, zero, suc, ◌+◌, ◌<◌, ◌≤◌, Bool, true, false, List, [], ◌∷◌, ◌++◌, length, take}
+use Rattle.std.proofs.Common.{drop, Option, Some, None, refl, sym, subst, arith}
 use Rattle.std.specs.Prelude.{slice_get, ◌%◌, reverse}
 use Rattle.std.specs.List.{filter, AllByRecursion}
 use Rattle.std.specs.Option.{option_map_or}
@@ -9,7 +10,9 @@ use Rattle.rma_types.specs.declared.schedules.Order.TheVariants.{Robin, Reverse,
 use Rattle.call_rules.specs.Pieces.{numbers_from}
 use Rattle.step_runs.specs.Generator.{drawn_from}
 use Rattle.step_runs.specs.Schedules.{Schedule, in_order, turn_of, with_draw, pick_among, pick}
-use Rattle.step_laws.proofs.Lists.{each_take, each_drop, each_append, each_front, each_back, each_of_parts, each_reverse, each_unreversed, each_filter, none_filter, each_get, numbers_below, number_among}
+use Rattle.step_laws.proofs.Lists.{each_take, each_drop, each_append, each_front, each_back, each_of_parts}
+use Rattle.step_laws.proofs.Lists.{each_reverse, each_unreversed, each_filter, none_filter, each_get, numbers_below}
+use Rattle.step_laws.proofs.Lists.{number_among}
 
 -- what holds of the ranks in one order holds of them all in another
 to_order : (P : ℕ → Type 0) (order : Order) (last ranks : ℕ) → AllByRecursion P (numbers_from 0 ranks) →

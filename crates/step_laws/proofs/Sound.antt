@@ -1,6 +1,8 @@
--- What holds of the entries and of each rank through a run: the windows and ranges that it knows lie in memory, and so do
+-- What holds of the entries and of each rank through a run: the windows and ranges that it knows lie in memory, and so
+-- do
 -- the accesses that it looked up or that are pending.
-use Rattle.std.proofs.Common.{◌≡◌, ℕ, zero, suc, ◌+◌, ◌-◌, ◌*◌, ◌<◌, ◌≤◌, inl, inr, Bool, true, false, cond, not, List, [], ◌∷◌, ◌++◌, length, Option, Some, None, refl, sym, ◌∙◌, ap, subst, arith, append_assoc}
+use Rattle.std.proofs.Common.{◌≡◌, ℕ, zero, suc, ◌+◌, ◌-◌, ◌*◌, ◌<◌, ◌≤◌, inl, inr, Bool, true, false, cond, not, List}
+use Rattle.std.proofs.Common.{[], ◌∷◌, ◌++◌, length, Option, Some, None, refl, sym, ◌∙◌, ap, subst, arith, append_assoc}
 use Rattle.std.specs.Prelude.{◌&&◌, ◌==◌, slice_get, is_none}
 use Rattle.std.specs.List.{count_by, sum_by, filter, AllByRecursion}
 use Rattle.std.specs.Option.{option_map_or}
@@ -17,18 +19,24 @@ use Rattle.rma_types.specs.declared.scripts.Layout.{Layout}
 use Rattle.rma_types.specs.declared.scripts.Part.{Part}
 use Rattle.rma_types.specs.declared.scripts.Script.{Script}
 use Rattle.board_rules.specs.Board.{Allow, decide}
-use Rattle.board_rules.specs.Entries.{Row, Act, acts, is_arrive, is_creation, begins_window, names_window, creations, window_of}
-use Rattle.call_rules.specs.Actions.{Action, Creates, Frees, Attaches, Detaches, Synchronises, Meets, Moves, EndsRequest, Creation, Transfer, action_of, creation_in, creation_of, transfer_of}
+use Rattle.board_rules.specs.Entries.{Row, Act, acts, is_arrive, is_creation, begins_window, names_window, creations}
+use Rattle.board_rules.specs.Entries.{window_of}
+use Rattle.call_rules.specs.Actions.{Action, Creates, Frees, Attaches, Detaches, Synchronises, Meets, Moves}
+use Rattle.call_rules.specs.Actions.{EndsRequest, Creation, Transfer, action_of, creation_in, creation_of, transfer_of}
 use Rattle.call_rules.specs.Layout.{layout}
 use Rattle.call_rules.specs.Ranks.{natural}
 use Rattle.call_rules.specs.WellFormed.{IsWellFormed, IsWrittenCall, IsWrittenAction}
 use Rattle.lawful_runs.specs.Logs.{calls_of}
 use Rattle.lawful_runs.specs.Stages.{Stage, stage_of}
 use Rattle.rank_rules.specs.Courses.{access_on}
-use Rattle.rank_rules.specs.Windows.{Window, OwnRange, RankWindows, window_of_name, next_number, is_same_flavor, part_at, range_made, with_window, is_attached_from, windows_after}
+use Rattle.rank_rules.specs.Windows.{Window, OwnRange, RankWindows, window_of_name, next_number, is_same_flavor}
+use Rattle.rank_rules.specs.Windows.{part_at, range_made, with_window, is_attached_from, windows_after}
 use Rattle.step_runs.specs.Agents.{Agent, next_call}
 use Rattle.step_laws.proofs.Creations.{HasRoom, HasLists, IsSoundRow, IsSoundAct, MakesWith, creates_it}
-use Rattle.step_laws.proofs.Flavors.{IsNumberedAct, AreRegular, AreOfOneFlavor, act_after, acts_push, begins_by, creations_push, numbered_push, same_as_new}
+use Rattle.step_laws.proofs.Flavors.{AreRegular, AreOfOneFlavor}
+use Rattle.step_laws.proofs.EntryNumbers.{IsNumberedAct, act_after, acts_push, begins_by}
+use Rattle.step_laws.proofs.Flavors.{same_as_new}
+use Rattle.step_laws.proofs.EntryNumbers.{creations_push, numbered_push}
 use Rattle.step_laws.proofs.Lists.{each_append, each_kept, each_get, each_get_or, get_append}
 use Rattle.step_laws.proofs.OwnRoom.{AreRoomy, IsRoomyWindow, FitsMemory, IsByAddress, EndsInMemory}
 use Rattle.step_laws.specs.Inside.{bytes_at, LiesInMemory, ArePendingInside, begun_names, names_so_far}

@@ -1,116 +1,47 @@
 -- Each move of a rank at the board leaves what holds of the entries and of all ranks.
-use Rattle.std.proofs.Common.{◌≡◌, ℕ, zero, suc, ◌+◌, ◌-◌, ◌*◌, ◌<◌, ◌≤◌, Bool, true, false, cond, not, List, [], ◌∷◌, ◌++◌, length, Option, Some, None, refl, sym, ◌∙◌, ap, subst, arith}
-use Rattle.std.specs.Prelude.{◌&&◌, ◌==◌, slice_get, is_none, is_some, ℤ}
-use Rattle.std.specs.List.{count_by, sum_by, find, AllByRecursion}
+use Rattle.std.proofs.Common.{◌≡◌, ℕ, ◌+◌, ◌-◌, ◌<◌, ◌≤◌, true, false, cond, List, [], ◌∷◌, ◌++◌, length, Option, Some}
+use Rattle.std.proofs.Common.{None, refl, sym, ◌∙◌, ap, subst, arith}
+use Rattle.std.specs.Prelude.{◌&&◌, ◌==◌, slice_get}
+use Rattle.std.specs.List.{count_by, AllByRecursion}
 use Rattle.std.specs.Option.{option_map_or}
-use Rattle.std.proofs.lemmas.Bool.{and_left, and_right, eq-eqb, not-false}
+use Rattle.std.proofs.lemmas.Bool.{eq-eqb}
 use Rattle.std.proofs.lemmas.List.{append-nil}
-use Rattle.std.proofs.lemmas.List.Sums.{sum_by-append, sum_by-cons}
 use Rattle.rma_types.specs.declared.accesses.Step.{Step}
 use Rattle.rma_types.specs.declared.accesses.Step.TheVariants.{Arrive, Leave, One}
 use Rattle.rma_types.specs.declared.calls.Call.{Call}
 use Rattle.rma_types.specs.declared.calls.Flavor.{Flavor}
 use Rattle.rma_types.specs.declared.calls.Flavor.TheVariants.{Dynamic}
-use Rattle.rma_types.specs.declared.classes.Class.{Class}
-use Rattle.rma_types.specs.declared.classes.Class.TheVariants.{Range as RangeClass}
 use Rattle.rma_types.specs.declared.schedules.Delay.{Delay}
 use Rattle.rma_types.specs.declared.scripts.Part.{Part}
 use Rattle.rma_types.specs.declared.scripts.Script.{Script}
 use Rattle.rma_record.specs.declared.items.Item.{Item}
-use Rattle.rma_record.specs.declared.items.Item.TheVariants.{Entry}
-use Rattle.board_rules.specs.AttachedRanges.{ranges_attached, reaches_unattached}
-use Rattle.board_rules.specs.Board.{Allow, refuse_if, one_refusal, refusal, decision_by, is_allowed_now, decide}
-use Rattle.board_rules.specs.Entries.{Row, Act, acts, is_arrive, is_creation, begins_window, names_window, creations, window_of}
-use Rattle.board_rules.specs.Questions.{Question, question}
-use Rattle.call_rules.specs.Actions.{Action, Creates, Frees, Attaches, Detaches, Synchronises, Meets, Moves, EndsRequest, Creation, Transfer, Target, Own, Null, Named, action_of, creation_in, creation_of, transfer_in, transfer_of}
+use Rattle.board_rules.specs.Entries.{Row, acts, is_arrive, is_creation, names_window, creations}
+use Rattle.call_rules.specs.Actions.{Creation, Transfer, action_of, creation_in, creation_of, transfer_of}
 use Rattle.call_rules.specs.Layout.{layout}
-use Rattle.call_rules.specs.Ranks.{natural}
-use Rattle.call_rules.specs.Transfers.{rank_reached, bytes_of}
 use Rattle.call_rules.specs.WellFormed.{IsWellFormed}
 use Rattle.lawful_runs.specs.Stages.{Stage, stage_of, calls_at, shapes_in}
-use Rattle.rank_rules.specs.Courses.{Course, OneNull, OneIssue, LookUpAndIssue, OneFlush, OneRequest, ArriveAndLeave, EntryOrTested, OneEntry, course_of_transfer, course_of_action, course_of, access_on}
-use Rattle.rank_rules.specs.Classes.{first_class}
-use Rattle.rank_rules.specs.EpochTests.{epoch_class}
-use Rattle.rank_rules.specs.WindowTests.{place_tests, window_class}
-use Rattle.rank_rules.specs.Knowledge.{Knowledge, own_class, ends_call, known_after_call, learn}
-use Rattle.rank_rules.specs.Ranges.{covers}
-use Rattle.rank_rules.specs.Windows.{Window, RankWindows, window_of_name, window_number, next_number, is_same_flavor, part_at, windows_after}
+use Rattle.rank_rules.specs.Courses.{LookUpAndIssue, ArriveAndLeave, course_of}
+use Rattle.rank_rules.specs.Knowledge.{Knowledge, ends_call, learn}
+use Rattle.rank_rules.specs.Windows.{RankWindows, window_number, next_number, is_same_flavor, windows_after}
 use Rattle.step_runs.specs.Agents.{Agent, next_call, kept, finished, opened}
 use Rattle.step_runs.specs.BoardSteps.{next_row}
-use Rattle.step_laws.proofs.CallCourses.{collective_moves_none, one_entry_moves_none, one_entry_makes_none, transfer_makes_none, learns_call}
-use Rattle.step_laws.proofs.Creations.{HasRoom, HasLists, IsSoundRow, acts_sound, own_has_room, MakesWith, creates_it, attached_lie, parts_fit, parts_by_address}
-use Rattle.step_laws.proofs.EntryMoves.{IsOneEntry, HasBegun, IsAllowedEntry, with_entry, IsTurnedAway, ByRefusal, ByTest, with_row, EntryMove, TurnsAway, Arrives, LooksUp, Leaves, EntersOnce, known_stays, look_up_opens, begun_kept}
-use Rattle.step_laws.proofs.Flavors.{AreRegular, act_after, acts_push, begins_by, creations_push, names_it, is_creation_if, new_number, same_flavor}
-use Rattle.step_laws.proofs.Lists.{each_get, found_is}
+use Rattle.step_laws.proofs.CallCourses.{collective_moves_none, one_entry_moves_none, one_entry_makes_none}
+use Rattle.step_laws.proofs.CallCourses.{transfer_makes_none, learns_call}
+use Rattle.step_laws.proofs.Creations.{HasRoom, HasLists, MakesWith, creates_it, parts_fit, parts_by_address}
+use Rattle.step_laws.proofs.EntryMoves.{IsOneEntry, IsAllowedEntry, with_entry, IsTurnedAway, ByRefusal, ByTest}
+use Rattle.step_laws.proofs.EntryMoves.{with_row, EntryMove, TurnsAway, Arrives, LooksUp, Leaves, EntersOnce}
+use Rattle.step_laws.proofs.EntryMoves.{known_stays, look_up_opens, begun_kept}
+use Rattle.step_laws.proofs.Flavors.{AreRegular, same_flavor}
+use Rattle.step_laws.proofs.EntryNumbers.{act_after, acts_push, begins_by, creations_push, is_creation_if, new_number}
+use Rattle.step_laws.proofs.Lists.{each_get}
 use Rattle.step_laws.proofs.LookUps.{look_up_lies}
-use Rattle.step_laws.proofs.OwnRoom.{IsRoomyWindow, IsByAddress, right_place, looked_up_lies}
-use Rattle.step_laws.proofs.OwnTests.{HasIssue, moves_it, transfer_with_issue, windows_allow, epochs_allow, transfer_passed}
-use Rattle.step_laws.proofs.Sound.{IsSoundRank, HasArrived, regular_push, other_push, no_more_creations, still_arrived, AreRoomyShapes, MakesByAddress, windows_stay_roomy, rank_stays, space_stays, name_made, created_grows}
-use Rattle.step_laws.specs.Inside.{bytes_at, LiesInMemory, begun_names, names_so_far}
+use Rattle.step_laws.proofs.OwnTests.{HasIssue, transfer_with_issue}
+use Rattle.step_laws.proofs.Sound.{IsSoundRank, HasArrived, regular_push, no_more_creations, still_arrived}
+use Rattle.step_laws.proofs.Sound.{MakesByAddress, windows_stay_roomy, rank_stays, space_stays, name_made}
+use Rattle.step_laws.proofs.Sound.{created_grows}
+use Rattle.step_laws.specs.Inside.{bytes_at, begun_names, names_so_far}
+use Rattle.step_laws.proofs.OwnEntries.{IsSoundAt, own_row_sound, pushed_at, count_names, count_made, no_begin}
 
--- ---- the rank's own entry
-
--- what holds of the entries, and of the rank that makes moves; other ranks' facts are those of the entries at first
-pub record IsSoundAt (script : Script) (delay : Delay) (rank : ℕ) (first : List Row) (agent : Agent) (rows : List Row)
-    : Type 0 where
-  pub sound : IsSoundRank script delay rank agent rows
-  pub regular : AreRegular script rows
-  pub begun : HasBegun (stage_of script delay) agent
-  pub others : (other : ℕ) (a : Agent) → (other ≡ rank → ⊥) → IsSoundRank script delay other a first →
-      IsSoundRank script delay other a rows
-
-own_row_sound : (script : Script) (delay : Delay) (rank : ℕ) (agent : Agent) (rows : List Row) (call : Call)
-    (step : Step) → rank < script.ranks → IsSoundRank script delay rank agent rows →
-    IsAllowedEntry (stage_of script delay) agent rows call step → IsSoundRow script (next_row agent call step)
-own_row_sound script delay rank agent rows call step inside sound entry = record {
-  inside = subst (λ r. r < script.ranks) (sym sound.mine) inside;
-  here = entry.here;
-  room = own_has_room agent.known (bytes_at (layout script) agent.rank) call
-      (subst (λ r. agent.known.windows.space ≤ bytes_at (layout script) r) (sym sound.mine) sound.space) entry.own;
-}
-
--- the entries with the rank's own
-pushed_at : (script : Script) (delay : Delay) (rank : ℕ) (first : List Row) (agent next : Agent) (rows : List Row)
-    (call : Call) (step : Step) → IsWellFormed script → rank < script.ranks →
-    IsSoundAt script delay rank first agent rows → IsAllowedEntry (stage_of script delay) agent rows call step →
-    IsSoundRank script delay rank next (with_row agent rows call step) → HasBegun (stage_of script delay) next →
-    IsSoundAt script delay rank first next (with_row agent rows call step)
-pushed_at script delay rank first agent next rows call step formed inside at entry sound begun = record {
-  sound = sound;
-  regular = regular_push script rows (next_row agent call step) formed at.regular
-      (own_row_sound script delay rank agent rows call step inside at.sound entry) entry.allowed;
-  begun = begun;
-  others = λ other a apart old. other_push script delay other a rows (next_row agent call step)
-      (λ e. apart (sym e ∙ at.sound.mine)) (at.others other a apart old);
-}
-
--- ---- the numbers of windows
-
-count_names : (win : ℕ) (xs ys : List ℕ) → count_by (λ name. name == win) (xs ++ ys) ≡ count_by (λ name. name == win)
-    xs + count_by (λ name. name == win) ys
-count_names win xs ys = sum_by-append (λ name. cond (name == win) 1 0) xs ys
-
--- a call that begins to make a window of the name counts once
-count_made : (call : Call) (mine : Bool) (win : ℕ) → mine ≡ true →
-    cond (mine && is_creation call && names_window win call) 1 0 ≡ count_by (λ name. name == win) (name_made call)
-count_made call false win e = absurd (cc e)
-count_made call true win e = by_creation (creation_of call) refl
-  where
-    one : (creation : Creation) → cond (creation.win == win) 1 0 ≡ count_by (λ name. name == win) (creation.win ∷ [])
-    one creation = let split = sum_by-cons (λ name. cond (name == win) 1 0) creation.win [] in sums
-        (cond (creation.win == win) 1 0) _ split
-      where
-        sums : (a b : ℕ) → b ≡ a + 0 → a ≡ b
-        sums a b e = omega arith
-
-    by_creation : (o : Option Creation) → creation_of call ≡ o →
-        cond (true && is_some o && names_window win call) 1 0 ≡ count_by (λ name. name == win)
-        (option_map_or (λ (creation : Creation). creation.win ∷ []) o [])
-    by_creation None none = refl
-    by_creation (Some creation) makes = ap (λ b. cond b 1 0) (names_it call creation win makes) ∙ one creation
-
-no_begin : (x y z : Bool) → (x && (false && y) && z) ≡ false
-no_begin true y z = refl
 no_begin false y z = refl
 
 -- ---- moves

@@ -1,6 +1,8 @@
--- After any number of turns the accesses of all ranks lie in memory, and the ranks and the board agree on the numbers of
+-- After any number of turns the accesses of all ranks lie in memory, and the ranks and the board agree on the numbers
+-- of
 -- windows.
-use Rattle.std.proofs.Common.{◌≡◌, ℕ, ◌+◌, ◌<◌, ◌≤◌, inl, inr, Bool, true, false, cond, List, [], ◌∷◌, ◌++◌, length, get_or, refl, sym, ◌∙◌, ap, subst, arith}
+use Rattle.std.proofs.Common.{◌≡◌, ℕ, ◌+◌, ◌<◌, ◌≤◌, inl, inr, Bool, true, false, cond, List, [], ◌∷◌, ◌++◌, length}
+use Rattle.std.proofs.Common.{get_or, refl, sym, ◌∙◌, ap, subst, arith}
 use Rattle.std.specs.Prelude.{slice_set, slice_index_or, ◌==◌}
 use Rattle.std.specs.List.{count_by, AllByRecursion}
 use Rattle.rma_types.specs.declared.calls.Flavor.TheVariants.{Dynamic}
@@ -20,9 +22,11 @@ use Rattle.step_laws.proofs.Flavors.{AreRegular}
 use Rattle.step_laws.proofs.Lists.{each_set_apart}
 use Rattle.step_laws.proofs.Memory.{space_has_memory}
 use Rattle.step_laws.proofs.Sound.{IsSoundRank}
-use Rattle.step_laws.proofs.SoundEntries.{IsSoundAt, entry_keeps}
+use Rattle.step_laws.proofs.SoundEntries.{entry_keeps}
+use Rattle.step_laws.proofs.OwnEntries.{IsSoundAt}
 use Rattle.step_laws.proofs.SoundSteps.{move_sound, step_sound}
-use Rattle.step_laws.proofs.Turns.{MayTurn, KeptByPicks, KeptAtBoard, KeptOnMemory, turns_kept, run_keeps, IsRegular, regular_picks, regular_at_board, regular_on_memory, first_is_regular, at_first}
+use Rattle.step_laws.proofs.Turns.{MayTurn, KeptByPicks, KeptAtBoard, KeptOnMemory, turns_kept, run_keeps, IsRegular}
+use Rattle.step_laws.proofs.Turns.{regular_picks, regular_at_board, regular_on_memory, first_is_regular, at_first}
 use Rattle.step_laws.specs.Inside.{bytes_at, world_after, AccessesLieInMemory, WindowNumbersAgree}
 
 -- the entries are regular, and each rank is sound
@@ -72,7 +76,8 @@ sound_at_board script delay formed world rank may tries sound = record {
         })
         (board_step_moves stage agent world.rows (sound.ranks.begun rank) tries)
 
-pub sound_on_memory : (script : Script) (delay : Delay) → KeptOnMemory (stage_of script delay) (IsSoundWorld script delay)
+pub sound_on_memory : (script : Script) (delay : Delay) → KeptOnMemory (stage_of script delay)
+    (IsSoundWorld script delay)
 sound_on_memory script delay world rank may tries sound =
     let stage = stage_of script delay in
     let agent = agent_at stage world rank in

@@ -1,5 +1,6 @@
 -- Each step of a rank without the board leaves what holds of the rank: what is pending lies in memory.
-use Rattle.std.proofs.Common.{◌≡◌, ℕ, ◌+◌, ◌<◌, ◌≤◌, ◌⊎◌, inl, inr, Bool, true, false, cond, not, List, [], ◌∷◌, ◌++◌, length, Option, Some, None, refl, sym, ◌∙◌, ap, subst}
+use Rattle.std.proofs.Common.{◌≡◌, ℕ, ◌+◌, ◌<◌, ◌≤◌, ◌⊎◌, inl, inr, Bool, true, false, cond, not, List, [], ◌∷◌, ◌++◌}
+use Rattle.std.proofs.Common.{length, Option, Some, None, refl, sym, ◌∙◌, ap, subst}
 use Rattle.std.specs.Prelude.{◌&&◌, ◌==◌, nat_lt, slice_get, is_none, remove}
 use Rattle.std.specs.List.{count_by, AllByRecursion}
 use Rattle.std.specs.Option.{option_map_or}
@@ -13,25 +14,32 @@ use Rattle.rma_record.specs.declared.items.Item.{Item}
 use Rattle.rma_record.specs.declared.items.Item.TheVariants.{Issue, Null, Flush, Request, Refused, Ended}
 use Rattle.board_rules.specs.Entries.{Row, creations}
 use Rattle.call_rules.specs.declared.cells.Cell.{Cell}
-use Rattle.call_rules.specs.Actions.{Action, Creates, Frees, Attaches, Detaches, Synchronises, Meets, Moves, EndsRequest, Creation, Transfer, action_of, creation_in, creation_of, transfer_of}
+use Rattle.call_rules.specs.Actions.{Action, Creates, Frees, Attaches, Detaches, Synchronises, Meets, Moves}
+use Rattle.call_rules.specs.Actions.{EndsRequest, Creation, Transfer, action_of, creation_in, creation_of, transfer_of}
 use Rattle.call_rules.specs.Layout.{layout}
 use Rattle.lawful_runs.specs.Accesses.{transfer_at}
 use Rattle.lawful_runs.specs.Logs.{calls_of}
 use Rattle.lawful_runs.specs.Stages.{Stage, stage_of, calls_at}
 use Rattle.rank_rules.specs.Classes.{first_class}
-use Rattle.rank_rules.specs.Courses.{Course, OneNull, OneIssue, LookUpAndIssue, OneFlush, OneRequest, ArriveAndLeave, EntryOrTested, OneEntry, course_of_transfer, course_of_action, course_of, has_entry, access_on, access_of}
+use Rattle.rank_rules.specs.Courses.{Course, OneNull, OneIssue, LookUpAndIssue, OneFlush, OneRequest, ArriveAndLeave}
+use Rattle.rank_rules.specs.Courses.{EntryOrTested, OneEntry, course_of_transfer, course_of_action, course_of}
+use Rattle.rank_rules.specs.Courses.{has_entry, access_on, access_of}
 use Rattle.rank_rules.specs.EpochTests.{epoch_class}
 use Rattle.rank_rules.specs.Knowledge.{Knowledge, own_class, known_after_call, learn}
 use Rattle.rank_rules.specs.declared.pending.PendingAccess.{PendingAccess}
 use Rattle.rank_rules.specs.Windows.{Window, RankWindows, window_of_name, windows_after}
 use Rattle.rank_rules.specs.WindowTests.{place_tests, window_class}
-use Rattle.step_runs.specs.Agents.{Agent, next_call, kept, finished, has_pending, must_draw, awaited_by, begins_with_entry, tries_entry}
-use Rattle.step_runs.specs.DataSteps.{OnMemory, with_touches, with_delivery, deliver, Move, just_delivers, without_delivery, no_shapes, with_item, made_pending, with_issue, issue_of, issue, draw, first_item, wait_or_go_on, judge, begin, go_on, end, move_of, data_step}
+use Rattle.step_runs.specs.Agents.{Agent, next_call, kept, finished, has_pending, must_draw, awaited_by}
+use Rattle.step_runs.specs.Agents.{begins_with_entry, tries_entry}
+use Rattle.step_runs.specs.DataSteps.{OnMemory, with_touches, with_delivery, deliver, Move, just_delivers}
+use Rattle.step_runs.specs.DataSteps.{without_delivery, no_shapes, with_item, made_pending, with_issue, issue_of, issue}
+use Rattle.step_runs.specs.DataSteps.{draw, first_item, wait_or_go_on, judge, begin, go_on, end, move_of, data_step}
 use Rattle.step_laws.proofs.CallCourses.{transfer_makes_none}
 use Rattle.step_laws.proofs.DataWeights.{ended_now}
 use Rattle.step_laws.proofs.Lists.{each_append, each_removed, found_is}
 use Rattle.step_laws.proofs.OwnRoom.{AreRoomy, IsRoomyWindow, right_place, access_lies}
-use Rattle.step_laws.proofs.OwnTests.{HasIssue, moves_it, transfer_with_issue, windows_allow, epochs_allow, transfer_passed, access_is}
+use Rattle.step_laws.proofs.OwnTests.{HasIssue, moves_it, transfer_with_issue, windows_allow, epochs_allow}
+use Rattle.step_laws.proofs.OwnTests.{transfer_passed, access_is}
 use Rattle.step_laws.proofs.Sound.{IsSoundRank, name_made}
 use Rattle.step_laws.specs.Inside.{bytes_at, LiesInMemory, IsPendingInside, ArePendingInside, begun_names, names_so_far}
 

@@ -1,5 +1,6 @@
 -- What every turn keeps holds at the end of a run.
-use Rattle.std.proofs.Common.{◌≡◌, ℕ, zero, suc, ◌+◌, ◌<◌, Bool, true, false, cond, not, List, [], ◌∷◌, length, Option, Some, None, refl, sym, ◌∙◌, ap, subst, arith, length-set, get_or, get_or-set_same}
+use Rattle.std.proofs.Common.{◌≡◌, ℕ, zero, suc, ◌+◌, ◌<◌, Bool, true, false, cond, not, List, [], ◌∷◌, length, Option}
+use Rattle.std.proofs.Common.{Some, None, refl, sym, ◌∙◌, ap, subst, arith, length-set, get_or, get_or-set_same}
 use Rattle.std.specs.Prelude.{◌&&◌, map, slice_set}
 use Rattle.std.specs.Option.{option_map_or}
 use Rattle.std.proofs.lemmas.Bool.{and_parts, not-true}
@@ -15,7 +16,8 @@ use Rattle.step_runs.specs.Agents.{Agent, new_agent, tries_entry}
 use Rattle.step_runs.specs.BoardSteps.{AtBoard, board_step}
 use Rattle.step_runs.specs.DataSteps.{OnMemory, data_step, deliver}
 use Rattle.step_runs.specs.Schedules.{Schedule, pick}
-use Rattle.step_runs.specs.StepRun.{World, agent_at, turn_at_board, turn_on_memory, turn, is_ready, picked_turn, run_from, first_world}
+use Rattle.step_runs.specs.StepRun.{World, agent_at, turn_at_board, turn_on_memory, turn, is_ready, picked_turn}
+use Rattle.step_runs.specs.StepRun.{run_from, first_world}
 use Rattle.step_laws.proofs.DataBegun.{data_begun}
 use Rattle.step_laws.proofs.EntryMoves.{HasBegun, EntryMoves, board_step_moves, moves_keep, begun_kept}
 use Rattle.step_laws.proofs.Lists.{each_set, length_numbers}

@@ -1,5 +1,6 @@
 -- That an access lies in the memory of its target: MPI 3.1, sections 11.2 and 11.3.
-use Rattle.std.specs.Prelude.{ℕ, ◌≡◌, ◌+◌, ◌%◌, ◌<◌, ◌≤◌, ◌==◌, Bool, true, false, List, [], ◌∷◌, ◌++◌, Option, Some, None, slice_get}
+use Rattle.std.specs.Prelude.{ℕ, ◌≡◌, ◌+◌, ◌%◌, ◌<◌, ◌≤◌, ◌==◌, Bool, true, false, List, [], ◌∷◌, ◌++◌, Option, Some}
+use Rattle.std.specs.Prelude.{None, slice_get}
 use Rattle.std.specs.List.{count_by, AllByRecursion}
 use Rattle.std.specs.Option.{option_map_or}
 use Rattle.rma_types.specs.declared.accesses.Access.{Access}
@@ -31,7 +32,8 @@ bytes_at memory rank = option_map_or (λ (part : MemoryPart). part.bytes) (slice
 
 -- each byte of the access lies in its target's memory, and its first element is aligned
 pub record LiesInMemory (memory : Layout) (access : Access) (dtype : Dtype) : Type 0 where
-  pub inside : (address : ℕ) → access.lo ≤ address → address < access.lo + access.len → address < bytes_at memory access.target
+  pub inside : (address : ℕ) → access.lo ≤ address → address < access.lo + access.len →
+      address < bytes_at memory access.target
   pub aligned : access.lo % size_of dtype ≡ 0
 
 -- ---- ranks
@@ -39,7 +41,8 @@ pub record LiesInMemory (memory : Layout) (access : Access) (dtype : Dtype) : Ty
 -- the transfer of a pending access of the rank lies in memory
 abbrev pub IsPendingInside : Script → ℕ → PendingAccess → Type 0
 IsPendingInside script rank one =
-    (t : Transfer) × (transfer_at (calls_of script rank) one.number ≡ Some t) × LiesInMemory (layout script) one.access t.dtype
+    (t : Transfer) × (transfer_at (calls_of script rank) one.number ≡ Some t)
+    × LiesInMemory (layout script) one.access t.dtype
 
 abbrev pub ArePendingInside : Script → ℕ → Agent → Type 0
 ArePendingInside script rank agent = AllByRecursion (IsPendingInside script rank) agent.pending
@@ -60,14 +63,17 @@ world_after script order delay seed turns =
 
 -- After any number of turns, what is pending lies in memory, and so does what a rank delivers in its next turn.
 abbrev pub AccessesLieInMemory : Type 0
-AccessesLieInMemory = (script : Script) (order : Order) (delay : Delay) (seed turns rank : ℕ) → IsWellFormed script → rank < script.ranks →
+AccessesLieInMemory = (script : Script) (order : Order) (delay : Delay) (seed turns rank : ℕ) → IsWellFormed script →
+    rank < script.ranks →
     let stage = stage_of script delay in
     let agent = agent_at stage (world_after script order delay seed turns) rank in
-    ArePendingInside script rank agent × (tries_entry stage agent ≡ false → ArePendingInside script rank (move_of stage agent).agent)
+    ArePendingInside script rank agent
+    × (tries_entry stage agent ≡ false → ArePendingInside script rank (move_of stage agent).agent)
 
 -- The board and each rank agree how many windows of a name the rank has begun to make, and so on their numbers.
 abbrev pub WindowNumbersAgree : Type 0
-WindowNumbersAgree = (script : Script) (order : Order) (delay : Delay) (seed turns rank win : ℕ) → IsWellFormed script → rank < script.ranks →
+WindowNumbersAgree = (script : Script) (order : Order) (delay : Delay) (seed turns rank win : ℕ) → IsWellFormed script →
+    rank < script.ranks →
     let stage = stage_of script delay in
     let world = world_after script order delay seed turns in
     creations world.rows rank win ≡ count_by (λ name. name == win) (names_so_far stage (agent_at stage world rank))

@@ -1,9 +1,11 @@
 -- A rank between two of its steps: this project's profile of a run's schedules and deliveries.
-use Rattle.std.specs.Prelude.{ℕ, ◌+◌, Bool, true, false, not, ◌&&◌, ◌==◌, if◌then◌else◌, List, [], ◌∷◌, ◌++◌, length, slice_get, Option, is_none}
+use Rattle.std.specs.Prelude.{ℕ, ◌+◌, Bool, true, false, not, ◌&&◌, ◌==◌, if◌then◌else◌, List, [], ◌∷◌, ◌++◌, length}
+use Rattle.std.specs.Prelude.{slice_get, Option, is_none}
 use Rattle.std.specs.Option.{option_map_or}
 use Rattle.rma_types.specs.declared.calls.Call.{Call}
 use Rattle.rma_types.specs.declared.schedules.Delay.{Delay}
-use Rattle.rma_types.specs.declared.schedules.Delay.TheVariants.{None as NoDelay, End as EndDelay, Seeded as SeededDelay}
+use Rattle.rma_types.specs.declared.schedules.Delay.TheVariants.{None as NoDelay, End as EndDelay}
+use Rattle.rma_types.specs.declared.schedules.Delay.TheVariants.{Seeded as SeededDelay}
 use Rattle.rma_types.specs.declared.scripts.Part.{Part}
 use Rattle.rma_record.specs.declared.items.Item.{Item}
 use Rattle.call_rules.specs.Actions.{transfer_of}
@@ -14,7 +16,8 @@ use Rattle.rank_rules.specs.Pending.{awaited}
 use Rattle.rank_rules.specs.declared.pending.PendingAccess.{PendingAccess}
 use Rattle.step_runs.specs.Generator.{seeded, delivery_stream}
 
--- A rank: its number; its log; what it knows; the number of the first call that does not have all its items; whether that
+-- A rank: its number; its log; what it knows; the number of the first call that does not have all its items; whether
+-- that
 -- call's first entry is put; whether a draw was made for it; the state of the generator of its deliveries; its pending
 -- accesses, in the order of their Issues; and whether it has ended.
 pub record Agent : Type 0 where
@@ -85,4 +88,5 @@ begins_with_entry stage agent call =
 -- the next step of the rank tries an entry: the first of a call, or the Leave of a collective
 abbrev pub tries_entry : Stage → Agent → Bool
 tries_entry stage agent = option_map_or
-    (λ call. if agent.entered then is_none (transfer_of call) else begins_with_entry stage agent call) (next_call stage agent) false
+    (λ call. if agent.entered then is_none (transfer_of call) else begins_with_entry stage agent call)
+    (next_call stage agent) false

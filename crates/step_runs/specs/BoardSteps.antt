@@ -11,7 +11,8 @@ use Rattle.rma_record.specs.declared.items.Item.TheVariants.{Entry, Tested, Refu
 use Rattle.board_rules.specs.Board.{Decision, Refuse, Allow, NotYet, decide}
 use Rattle.board_rules.specs.Entries.{Row}
 use Rattle.lawful_runs.specs.Stages.{Stage, shapes_in}
-use Rattle.rank_rules.specs.Courses.{Course, OneNull, OneIssue, LookUpAndIssue, OneFlush, OneRequest, ArriveAndLeave, EntryOrTested, OneEntry, course_of}
+use Rattle.rank_rules.specs.Courses.{Course, OneNull, OneIssue, LookUpAndIssue, OneFlush, OneRequest, ArriveAndLeave}
+use Rattle.rank_rules.specs.Courses.{EntryOrTested, OneEntry, course_of}
 use Rattle.step_runs.specs.Agents.{Agent, kept, finished, opened, next_call}
 
 -- the rank and the board's rows after a step, and whether the rank's next entry was not yet possible
@@ -32,7 +33,11 @@ waiting agent rows = record { agent = agent; rows = rows; waits = true }
 abbrev pub entered : Stage → Agent → List Row → Call → Step → (Agent → Agent) → AtBoard
 entered stage agent rows call step after =
     let now = rows ++ next_row agent call step ∷ [] in
-    record { agent = after (kept (shapes_in stage now) stage agent (Entry agent.at (length rows) step)); rows = now; waits = false }
+    record {
+      agent = after (kept (shapes_in stage now) stage agent (Entry agent.at (length rows) step));
+      rows = now;
+      waits = false;
+    }
 
 -- the board says no for good, after so many entries: the rank keeps the item and begins its next call
 abbrev pub turned_away : Stage → Agent → List Row → Item → AtBoard

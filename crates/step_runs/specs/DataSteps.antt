@@ -1,12 +1,15 @@
--- A step of a rank without the board: a draw, a refusal by the rank, an item of its own, or the delivery of an access. This
+-- A step of a rank without the board: a draw, a refusal by the rank, an item of its own, or the delivery of an access.
+-- This
 -- project's profile of MPI 3.1, section 11.7.
-use Rattle.std.specs.Prelude.{ℕ, ◌/◌, ◌%◌, Bool, true, ◌==◌, if◌then◌else◌, List, [], ◌∷◌, ◌++◌, length, slice_get, remove, Option, Some, None}
+use Rattle.std.specs.Prelude.{ℕ, ◌/◌, ◌%◌, Bool, true, ◌==◌, if◌then◌else◌, List, [], ◌∷◌, ◌++◌, length, slice_get}
+use Rattle.std.specs.Prelude.{remove, Option, Some, None}
 use Rattle.std.specs.Option.{option_map_or}
 use Rattle.rma_types.specs.declared.accesses.Access.{Access}
 use Rattle.rma_types.specs.declared.calls.Call.{Call}
 use Rattle.rma_types.specs.declared.classes.Class.{Class}
 use Rattle.rma_types.specs.declared.schedules.Delay.{Delay}
-use Rattle.rma_types.specs.declared.schedules.Delay.TheVariants.{None as NoDelay, End as EndDelay, Seeded as SeededDelay}
+use Rattle.rma_types.specs.declared.schedules.Delay.TheVariants.{None as NoDelay, End as EndDelay}
+use Rattle.rma_types.specs.declared.schedules.Delay.TheVariants.{Seeded as SeededDelay}
 use Rattle.rma_types.specs.declared.scripts.Part.{Part}
 use Rattle.rma_record.specs.declared.items.Item.{Item}
 use Rattle.rma_record.specs.declared.items.Item.TheVariants.{Issue, Null, Flush, Request, Refused, Ended}
@@ -17,7 +20,8 @@ use Rattle.call_rules.specs.Touches.{touch_each}
 use Rattle.lawful_runs.specs.Accesses.{transfer_at}
 use Rattle.lawful_runs.specs.Stages.{Stage, calls_at}
 use Rattle.lawful_runs.specs.TouchLaw.{is_local}
-use Rattle.rank_rules.specs.Courses.{Course, OneNull, OneIssue, LookUpAndIssue, OneFlush, OneRequest, ArriveAndLeave, EntryOrTested, OneEntry, course_of, access_of}
+use Rattle.rank_rules.specs.Courses.{Course, OneNull, OneIssue, LookUpAndIssue, OneFlush, OneRequest, ArriveAndLeave}
+use Rattle.rank_rules.specs.Courses.{EntryOrTested, OneEntry, course_of, access_of}
 use Rattle.rank_rules.specs.Knowledge.{own_class}
 use Rattle.rank_rules.specs.Pending.{way}
 use Rattle.rank_rules.specs.declared.pending.PendingAccess.{PendingAccess}
@@ -42,12 +46,14 @@ with_touches stage agent cells one t =
 abbrev pub with_delivery : Stage → Agent → List Cell → ℕ → PendingAccess → OnMemory
 with_delivery stage agent cells at one =
     let rest = record agent { pending = remove agent.pending at } in
-    option_map_or (with_touches stage rest cells one) (transfer_at (calls_at stage agent.rank) one.number) (record { agent = rest; cells = cells })
+    option_map_or (with_touches stage rest cells one) (transfer_at (calls_at stage agent.rank) one.number)
+    (record { agent = rest; cells = cells })
 
 -- the pending access at a place is delivered
 abbrev pub deliver : Stage → Agent → List Cell → ℕ → OnMemory
 deliver stage agent cells at =
-    option_map_or (with_delivery stage agent cells at) (slice_get agent.pending at) (record { agent = agent; cells = cells })
+    option_map_or (with_delivery stage agent cells at) (slice_get agent.pending at)
+    (record { agent = agent; cells = cells })
 
 -- ---- what a rank does before a delivery
 
@@ -80,7 +86,12 @@ is_at_once SeededDelay access = is_local access.kind
 -- the Issue of an access, which is pending from then on
 abbrev pub with_issue : Stage → Agent → Access → Transfer → Agent
 with_issue stage agent access t =
-    let one : PendingAccess = record { index = length agent.log; number = agent.at; access = access; fetches = t.fetches } in
+    let one : PendingAccess = record {
+      index = length agent.log;
+      number = agent.at;
+      access = access;
+      fetches = t.fetches;
+    } in
     let next = with_item stage agent (Issue agent.at access) in
     record next { pending = next.pending ++ made_pending one }
 
@@ -92,7 +103,8 @@ issue_of stage agent t access = record {
 }
 
 abbrev pub issue : Stage → Agent → Call → Move
-issue stage agent call = option_map_or (λ t. option_map_or (issue_of stage agent t) (access_of agent.known.windows call) (without_delivery agent))
+issue stage agent call = option_map_or (λ t. option_map_or (issue_of stage agent t) (access_of agent.known.windows call)
+    (without_delivery agent))
     (transfer_of call) (without_delivery agent)
 
 -- a draw for the call that begins: an odd one delivers the pending access that it names, an even one none

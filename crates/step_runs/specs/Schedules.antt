@@ -1,5 +1,6 @@
 -- The order in which the ranks take turns on one thread: this project's profile.
-use Rattle.std.specs.Prelude.{ℕ, ◌+◌, ◌-◌, ◌%◌, Bool, if◌then◌else◌, List, [], ◌∷◌, ◌++◌, length, take, drop, reverse, slice_get, Option, Some, None}
+use Rattle.std.specs.Prelude.{ℕ, ◌+◌, ◌-◌, ◌%◌, Bool, if◌then◌else◌, List, [], ◌∷◌, ◌++◌, length, take, drop, reverse}
+use Rattle.std.specs.Prelude.{slice_get, Option, Some, None}
 use Rattle.std.specs.List.{filter}
 use Rattle.std.specs.Option.{option_map_or}
 use Rattle.rma_types.specs.declared.schedules.Order.{Order}
@@ -7,7 +8,8 @@ use Rattle.rma_types.specs.declared.schedules.Order.TheVariants.{Robin, Reverse,
 use Rattle.call_rules.specs.Pieces.{numbers_from}
 use Rattle.step_runs.specs.Generator.{seeded, stirred, drawn_from, order_stream}
 
--- the ranks that were found waiting since the last entry, the rank of the last turn, and the state of the order's generator
+-- the ranks that were found waiting since the last entry, the rank of the last turn, and the state of the order's
+-- generator
 pub record Schedule : Type 0 where
   pub waiting : List ℕ
   pub last : ℕ
@@ -43,7 +45,8 @@ abbrev pub pick_among : Order → Schedule → List ℕ → Option (ℕ × Sched
 pick_among order schedule [] = None
 pick_among Seeded schedule (rank ∷ ranks) =
     let drawn = with_draw schedule in
-    option_map_or (λ one. Some (one, turn_of drawn one)) (slice_get (rank ∷ ranks) (drawn_from drawn.draws % length (rank ∷ ranks))) None
+    option_map_or (λ one. Some (one, turn_of drawn one))
+    (slice_get (rank ∷ ranks) (drawn_from drawn.draws % length (rank ∷ ranks))) None
 pick_among Robin schedule (rank ∷ ranks) = Some (rank, turn_of schedule rank)
 pick_among Reverse schedule (rank ∷ ranks) = Some (rank, turn_of schedule rank)
 pick_among Greedy schedule (rank ∷ ranks) = Some (rank, turn_of schedule rank)

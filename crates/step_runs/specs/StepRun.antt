@@ -1,5 +1,6 @@
 -- The run on one thread, turn by turn: this project's profile. It is one of the lawful runs.
-use Rattle.std.specs.Prelude.{ℕ, zero, suc, ◌+◌, ◌*◌, Bool, not, ◌&&◌, if◌then◌else◌, List, [], ◌∷◌, map, length, nat_lt, replicate, slice_index_or, slice_set}
+use Rattle.std.specs.Prelude.{ℕ, zero, suc, ◌+◌, ◌*◌, Bool, not, ◌&&◌, if◌then◌else◌, List, [], ◌∷◌, map, length}
+use Rattle.std.specs.Prelude.{nat_lt, replicate, slice_index_or, slice_set}
 use Rattle.std.specs.List.{fold, list_all}
 use Rattle.std.specs.Option.{option_map_or}
 use Rattle.rma_types.specs.declared.schedules.Delay.{Delay}
@@ -103,7 +104,8 @@ first_world stage order seed = record {
   schedule = first_schedule order stage.script.ranks seed;
 }
 
--- More turns than any run of at most 16 ranks has. Between two entries each rank is found waiting once at most; a call has
+-- More turns than any run of at most 16 ranks has. Between two entries each rank is found waiting once at most; a call
+-- has
 -- two entries and three other turns at most.
 abbrev pub most_turns : Script → ℕ
 most_turns script = 64 * (calls_of script + 1)

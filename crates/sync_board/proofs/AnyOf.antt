@@ -1,5 +1,6 @@
 -- What a test finds in a list, and what filters keep of it.
-use Rattle.std.proofs.Common.{◌≡◌, ℕ, zero, suc, ◌+◌, ◌-◌, ◌≤◌, Bool, true, false, ◌&&◌, ◌||◌, cond, List, [], ◌∷◌, ◌++◌, map, refl, ap, sym, ◌∙◌, arith}
+use Rattle.std.proofs.Common.{◌≡◌, ℕ, zero, suc, ◌+◌, ◌-◌, ◌≤◌, Bool, true, false, ◌&&◌, ◌||◌, cond, List, [], ◌∷◌}
+use Rattle.std.proofs.Common.{◌++◌, map, refl, ap, sym, ◌∙◌, arith}
 use Rattle.std.specs.List.{filter, list_any}
 use Rattle.std.proofs.lemmas.List.Folds.{list_any-append}
 use Rattle.call_rules.specs.Pieces.{numbers_from}
@@ -8,15 +9,18 @@ pub or_nothing : (b : Bool) → (b || false) ≡ b
 or_nothing true = refl
 or_nothing false = refl
 
-pub any_filter : {X : Type 0} (keep test : X → Bool) (xs : List X) → list_any test (filter keep xs) ≡ list_any (λ x. keep x && test x) xs
+pub any_filter : {X : Type 0} (keep test : X → Bool) (xs : List X) → list_any test (filter keep xs) ≡ list_any
+    (λ x. keep x && test x) xs
 any_filter keep test [] = refl
 any_filter keep test (x ∷ xs) =
-    elim (keep x) as (λ b. list_any test (cond b (x ∷ filter keep xs) (filter keep xs)) ≡ ((b && test x) || list_any (λ y. keep y && test y) xs)) [
+    elim (keep x) as (λ b. list_any test (cond b (x ∷ filter keep xs) (filter keep xs)) ≡
+    ((b && test x) || list_any (λ y. keep y && test y) xs)) [
       | true ↦ ap (λ t. test x || t) (any_filter keep test xs)
       | false ↦ any_filter keep test xs
     ]
 
-pub any_map : {X Y : Type 0} (f : X → Y) (test : Y → Bool) (xs : List X) → list_any test (map f xs) ≡ list_any (λ x. test (f x)) xs
+pub any_map : {X Y : Type 0} (f : X → Y) (test : Y → Bool) (xs : List X) → list_any test (map f xs) ≡ list_any
+    (λ x. test (f x)) xs
 any_map f test [] = refl
 any_map f test (x ∷ xs) = ap (λ t. test (f x) || t) (any_map f test xs)
 
@@ -25,13 +29,15 @@ any_alike p q same [] = refl
 any_alike p q same (x ∷ xs) = rw (same x, any_alike p q same xs) refl
 
 -- one more, at the end
-pub any_more : {X : Type 0} (test : X → Bool) (xs : List X) (x : X) → list_any test (xs ++ x ∷ []) ≡ (list_any test xs || test x)
+pub any_more : {X : Type 0} (test : X → Bool) (xs : List X) (x : X) → list_any test (xs ++ x ∷ []) ≡
+    (list_any test xs || test x)
 any_more test xs x = list_any-append test xs (x ∷ []) ∙ ap (λ b. list_any test xs || b) (or_nothing (test x))
 
 pub filter_both : {X : Type 0} (p r : X → Bool) (xs : List X) → filter p (filter r xs) ≡ filter (λ x. r x && p x) xs
 filter_both p r [] = refl
 filter_both p r (x ∷ xs) =
-    elim (r x) as (λ b. filter p (cond b (x ∷ filter r xs) (filter r xs)) ≡ cond (b && p x) (x ∷ filter (λ y. r y && p y) xs) (filter (λ y. r y && p y) xs)) [
+    elim (r x) as (λ b. filter p (cond b (x ∷ filter r xs) (filter r xs)) ≡ cond (b && p x)
+    (x ∷ filter (λ y. r y && p y) xs) (filter (λ y. r y && p y) xs)) [
       | true ↦ ap (λ ys. cond (p x) (x ∷ ys) ys) (filter_both p r xs)
       | false ↦ filter_both p r xs
     ]
@@ -41,7 +47,8 @@ filter_alike p q same [] = refl
 filter_alike p q same (x ∷ xs) = rw (same x, filter_alike p q same xs) refl
 
 -- a second filter that keeps all that the first does
-pub filter_keeps : {X : Type 0} (p r : X → Bool) → ((x : X) → p x ≡ true → r x ≡ true) → (xs : List X) → filter p (filter r xs) ≡ filter p xs
+pub filter_keeps : {X : Type 0} (p r : X → Bool) → ((x : X) → p x ≡ true → r x ≡ true) → (xs : List X) →
+    filter p (filter r xs) ≡ filter p xs
 filter_keeps p r so xs = filter_both p r xs ∙ filter_alike (λ x. r x && p x) p (λ x. both (r x) (p x) (so x)) xs
   where
     both : (a b : Bool) → (b ≡ true → a ≡ true) → (a && b) ≡ b
@@ -52,7 +59,8 @@ filter_keeps p r so xs = filter_both p r xs ∙ filter_alike (λ x. r x && p x) 
 -- two filters, in either order
 pub filter_swap : {X : Type 0} (p r : X → Bool) (xs : List X) → filter p (filter r xs) ≡ filter r (filter p xs)
 filter_swap p r xs =
-    filter_both p r xs ∙ (filter_alike (λ x. r x && p x) (λ x. p x && r x) (λ x. swap (r x) (p x)) xs ∙ sym (filter_both r p xs))
+    filter_both p r xs ∙ (filter_alike (λ x. r x && p x) (λ x. p x && r x) (λ x. swap (r x) (p x)) xs
+    ∙ sym (filter_both r p xs))
   where
     swap : (a b : Bool) → (a && b) ≡ (b && a)
     swap true true = refl
@@ -61,10 +69,12 @@ filter_swap p r xs =
     swap false false = refl
 
 -- a filter of what a function gives
-pub filter_map_swap : {X Y : Type 0} (f : X → Y) (p : Y → Bool) (xs : List X) → map f (filter (λ x. p (f x)) xs) ≡ filter p (map f xs)
+pub filter_map_swap : {X Y : Type 0} (f : X → Y) (p : Y → Bool) (xs : List X) →
+    map f (filter (λ x. p (f x)) xs) ≡ filter p (map f xs)
 filter_map_swap f p [] = refl
 filter_map_swap f p (x ∷ xs) =
-    elim (p (f x)) as (λ b. map f (cond b (x ∷ filter (λ y. p (f y)) xs) (filter (λ y. p (f y)) xs)) ≡ cond b (f x ∷ filter p (map f xs)) (filter p (map f xs))) [
+    elim (p (f x)) as (λ b. map f (cond b (x ∷ filter (λ y. p (f y)) xs) (filter (λ y. p (f y)) xs)) ≡ cond b
+    (f x ∷ filter p (map f xs)) (filter p (map f xs))) [
       | true ↦ ap (λ ys. f x ∷ ys) (filter_map_swap f p xs)
       | false ↦ filter_map_swap f p xs
     ]
@@ -76,7 +86,8 @@ numbers_more first (suc count) =
     let f : suc count + 1 ≡ suc (count + 1) = omega arith in
     rw (f, e) (ap (λ xs. first ∷ xs) (numbers_more (first + 1) count))
 
-pub numbers_up_to : (first at : ℕ) → first ≤ at → numbers_from first (at + 1 - first) ≡ numbers_from first (at - first) ++ at ∷ []
+pub numbers_up_to : (first at : ℕ) → first ≤ at → numbers_from first (at + 1 - first) ≡ numbers_from first
+    (at - first) ++ at ∷ []
 numbers_up_to first at low =
     let count : at + 1 - first ≡ (at - first) + 1 = omega arith in
     let last : first + (at - first) ≡ at = omega arith in

@@ -1,5 +1,6 @@
 -- A board with one entry more keeps what its entries have done and given.
-use Rattle.std.proofs.Common.{◌≡◌, ℕ, suc, ◌+◌, false, List, [], ◌∷◌, ◌++◌, length, map, refl, ap, sym, ◌∙◌, subst, arith, Option, Some, None, IfSome}
+use Rattle.std.proofs.Common.{◌≡◌, ℕ, suc, ◌+◌, false, List, [], ◌∷◌, ◌++◌, length, map, refl, ap, sym, ◌∙◌, subst}
+use Rattle.std.proofs.Common.{arith, Option, Some, None, IfSome}
 use Rattle.std.specs.Option.{option_map_or}
 use Rattle.std.proofs.lemmas.List.{map-append, length-append}
 use Rattle.rma_types.specs.declared.scripts.Layout.{Layout}
@@ -18,29 +19,37 @@ use Rattle.sync_board.specs.declared.lists.EntryList.{EntryList}
 use Rattle.sync_board.specs.declared.lists.Kept.{Kept}
 use Rattle.sync_board.specs.declared.state.State.{State}
 
-pub givens_more : {N : Type 0} (front : N → Front) (rows : List EntryRow) (kept : List (Kept N)) (row : EntryRow) (one : Kept N) → length rows ≡ length kept →
+pub givens_more : {N : Type 0} (front : N → Front) (rows : List EntryRow) (kept : List (Kept N)) (row : EntryRow)
+    (one : Kept N) → length rows ≡ length kept →
     givens front (rows ++ row ∷ []) (kept ++ one ∷ []) ≡ givens front rows kept ++ given_of front row one ∷ []
 givens_more front [] [] row one same = refl
 givens_more front [] (x ∷ kept) row one same = absurd (omega arith)
 givens_more front (y ∷ rows) [] row one same = absurd (omega arith)
-givens_more front (y ∷ rows) (x ∷ kept) row one same = ap (λ xs. given_of front y x ∷ xs) (givens_more front rows kept row one (omega arith))
+givens_more front (y ∷ rows) (x ∷ kept) row one same = ap (λ xs. given_of front y x ∷ xs)
+    (givens_more front rows kept row one (omega arith))
 
-pub givens_length : {N : Type 0} (front : N → Front) (rows : List EntryRow) (kept : List (Kept N)) → length rows ≡ length kept → length (givens front rows kept) ≡ length rows
+pub givens_length : {N : Type 0} (front : N → Front) (rows : List EntryRow) (kept : List (Kept N)) →
+    length rows ≡ length kept → length (givens front rows kept) ≡ length rows
 givens_length front [] kept same = refl
 givens_length front (y ∷ rows) [] same = absurd (omega arith)
 givens_length front (y ∷ rows) (x ∷ kept) same = ap suc (givens_length front rows kept (omega arith))
 
-pub givens_rows : {N : Type 0} (front : N → Front) (rows : List EntryRow) (kept : List (Kept N)) → length rows ≡ length kept → rows ≡ map entry_row (givens front rows kept)
+pub givens_rows : {N : Type 0} (front : N → Front) (rows : List EntryRow) (kept : List (Kept N)) →
+    length rows ≡ length kept → rows ≡ map entry_row (givens front rows kept)
 givens_rows front [] kept same = refl
 givens_rows front (y ∷ rows) [] same = absurd (omega arith)
 givens_rows front (y ∷ rows) (x ∷ kept) same = ap (λ ys. y ∷ ys) (givens_rows front rows kept (omega arith))
 
-pub same_entries : {N : Type 0} (front : N → Front) (list after : EntryList N) → after.rows.items ≡ list.rows.items → after.kept.items ≡ list.kept.items → entries_in front after ≡ entries_in front list
+pub same_entries : {N : Type 0} (front : N → Front) (list after : EntryList N) → after.rows.items ≡ list.rows.items →
+    after.kept.items ≡ list.kept.items → entries_in front after ≡ entries_in front list
 same_entries front list after rows kept = rw (rows, kept) refl
 
-pub unchanged : {N : Type 0} (front : N → Front) (origin : N → List ℕ) (ranks : ℕ) (layout : Layout) (list list' : EntryList N) (state state' : State) (gains gains' : Gains N) (root : N) →
-    IsKept front origin ranks layout list state gains root → list'.rows.items ≡ list.rows.items → list'.kept.items ≡ list.kept.items →
-    KeepsState layout ranks (rows_given (entries_in front list)) state' → Keeps front ranks (entries_in front list) gains' → IsSound origin (origin root) gains' →
+pub unchanged : {N : Type 0} (front : N → Front) (origin : N → List ℕ) (ranks : ℕ) (layout : Layout)
+    (list list' : EntryList N) (state state' : State) (gains gains' : Gains N) (root : N) →
+    IsKept front origin ranks layout list state gains root → list'.rows.items ≡ list.rows.items →
+    list'.kept.items ≡ list.kept.items →
+    KeepsState layout ranks (rows_given (entries_in front list)) state' →
+    Keeps front ranks (entries_in front list) gains' → IsSound origin (origin root) gains' →
     IsKept front origin ranks layout list' state' gains' root
 unchanged front origin ranks layout list list' state state' gains gains' root kept rows calls done given sound =
     let same = same_entries front list list' rows calls in
@@ -54,19 +63,25 @@ unchanged front origin ranks layout list list' state state' gains gains' root ke
       sound = sound;
     }
 
-pub entered_list : {N : Type 0} (front : N → Front) (list list' : EntryList N) (row : EntryRow) (one : Kept N) → IsList list →
-    list'.rows.items ≡ list.rows.items ++ row ∷ [] → list'.kept.items ≡ list.kept.items ++ one ∷ [] → entries_in front list' ≡ entries_in front list ++ given_of front row one ∷ []
-entered_list front list list' row one sizes rows kept = rw (rows, kept) (givens_more front list.rows.items list.kept.items row one sizes)
+pub entered_list : {N : Type 0} (front : N → Front) (list list' : EntryList N) (row : EntryRow) (one : Kept N) →
+    IsList list →
+    list'.rows.items ≡ list.rows.items ++ row ∷ [] → list'.kept.items ≡ list.kept.items ++ one ∷ [] →
+    entries_in front list' ≡ entries_in front list ++ given_of front row one ∷ []
+entered_list front list list' row one sizes rows kept = rw (rows, kept)
+    (givens_more front list.rows.items list.kept.items row one sizes)
 
-pub whole_of : {N : Type 0} (origin : N → List ℕ) (name : List ℕ) (gains : Gains N) → IsSound origin name gains → IsWhole origin gains
+pub whole_of : {N : Type 0} (origin : N → List ℕ) (name : List ℕ) (gains : Gains N) → IsSound origin name gains →
+    IsWhole origin gains
 whole_of origin name gains sound = subst (λ n. AreFrom origin n gains.tokens) (sym sound.0) sound.1
 
-pub gift_from : {N : Type 0} (origin : N → List ℕ) (name : List ℕ) (gains : Gains N) (gift : Option N) → IfSome gift (λ token. origin token ≡ name) → IsSound origin name gains →
+pub gift_from : {N : Type 0} (origin : N → List ℕ) (name : List ℕ) (gains : Gains N) (gift : Option N) →
+    IfSome gift (λ token. origin token ≡ name) → IsSound origin name gains →
     IfSome gift (λ token. IsSound origin (origin token) gains)
 gift_from origin name gains None is sound = tt
 gift_from origin name gains (Some token) is sound = subst (λ n. IsSound origin n gains) (sym is) sound
 
-pub names_so : (ranks : ℕ) (action : Action) → NamesRanks ranks action → option_map_or (names_wrong_rank ranks) (synchronisation_in action) false ≡ false
+pub names_so : (ranks : ℕ) (action : Action) → NamesRanks ranks action → option_map_or (names_wrong_rank ranks)
+    (synchronisation_in action) false ≡ false
 names_so ranks (Synchronises win s) names = names
 names_so ranks action names = refl
 
@@ -74,9 +89,12 @@ pub looks : (o : Option Transfer) (P : Transfer → Type 0) → ((t : Transfer) 
 looks None P each = tt
 looks (Some t) P each = each t refl
 
-pub rows_more : (entries : List Given) (one : Given) → rows_given (entries ++ one ∷ []) ≡ rows_given entries ++ one.row ∷ []
+pub rows_more : (entries : List Given) (one : Given) → rows_given (entries ++ one ∷ []) ≡ rows_given entries ++ one.row
+    ∷ []
 rows_more entries one = map-append (λ (one : Given). one.row) entries (one ∷ [])
 
-pub list_more : {N : Type 0} (list list' : EntryList N) (row : EntryRow) (one : Kept N) → IsList list → list'.rows.items ≡ list.rows.items ++ row ∷ [] → list'.kept.items ≡ list.kept.items ++ one ∷ [] → IsList list'
+pub list_more : {N : Type 0} (list list' : EntryList N) (row : EntryRow) (one : Kept N) → IsList list →
+    list'.rows.items ≡ list.rows.items ++ row ∷ [] → list'.kept.items ≡ list.kept.items ++ one ∷ [] → IsList list'
 list_more list list' row one sizes rows kept =
-    ap length rows ∙ (length-append list.rows.items (row ∷ []) ∙ (ap (λ n. n + 1) sizes ∙ sym (ap length kept ∙ length-append list.kept.items (one ∷ []))))
+    ap length rows ∙ (length-append list.rows.items (row ∷ [])
+    ∙ (ap (λ n. n + 1) sizes ∙ sym (ap length kept ∙ length-append list.kept.items (one ∷ []))))

@@ -1,7 +1,9 @@
 -- What tests find among locks, as one comes or goes.
-use Rattle.std.proofs.Common.{◌≡◌, ℕ, ◌+◌, ◌-◌, ◌<◌, ◌≤◌, Bool, true, false, not, ◌&&◌, ◌||◌, eqb, ltb, leb, List, [], ◌∷◌, ◌++◌, map, refl, ap, sym, ◌∙◌, arith, pos, Some, None, ⊎_elim}
+use Rattle.std.proofs.Common.{◌≡◌, ℕ, ◌+◌, ◌-◌, ◌<◌, ◌≤◌, Bool, true, false, not, ◌&&◌, ◌||◌, eqb, ltb, leb, List, []}
+use Rattle.std.proofs.Common.{◌∷◌, ◌++◌, map, refl, ap, sym, ◌∙◌, arith, pos, Some, None, ⊎_elim}
 use Rattle.std.specs.List.{filter, list_any}
-use Rattle.std.proofs.lemmas.Bool.{and_parts, cases_order, eq-eqb, eqb-true, le-ltb, leb-false, lt-ltb, ne_eqb, not-false, or_cases, or_left, or_parts, or_right}
+use Rattle.std.proofs.lemmas.Bool.{and_parts, cases_order, eq-eqb, eqb-true, le-ltb, leb-false, lt-ltb, ne_eqb}
+use Rattle.std.proofs.lemmas.Bool.{not-false, or_cases, or_left, or_parts, or_right}
 use Rattle.rma_types.specs.declared.calls.Lock.{Lock}
 use Rattle.rma_types.specs.declared.calls.Lock.TheVariants.{Shared, Exclusive}
 use Rattle.call_rules.specs.Pieces.{numbers_from}
@@ -14,7 +16,8 @@ use Rattle.sync_board.proofs.RoundSteps.{no_number, some_number}
 -- ---- what is asked for
 
 pub asked_more : (rank window : ℕ) (kind : Lock) (first target : ℕ) → first ≤ target →
-    asked_from rank window kind first (target + 1 - first) ≡ asked_from rank window kind first (target - first) ++ lock window target kind rank ∷ []
+    asked_from rank window kind first (target + 1 - first) ≡ asked_from rank window kind first (target - first) ++ lock
+    window target kind rank ∷ []
 asked_more rank window kind first target low =
     ap (locks_at rank window kind) (numbers_up_to first target low)
     ∙ map_last (λ target. lock window target kind rank) (numbers_from first (target - first)) target
@@ -25,27 +28,35 @@ asked_more rank window kind first target low =
 
 -- a test of what is asked for, target by target
 pub any_asked : (test : Held → Bool) (rank window : ℕ) (kind : Lock) (first count : ℕ) →
-    list_any test (asked_from rank window kind first count) ≡ list_any (λ target. test (lock window target kind rank)) (numbers_from first count)
-any_asked test rank window kind first count = any_map (λ target. lock window target kind rank) test (numbers_from first count)
+    list_any test (asked_from rank window kind first count) ≡ list_any (λ target. test (lock window target kind rank))
+    (numbers_from first count)
+any_asked test rank window kind first count = any_map (λ target. lock window target kind rank) test
+    (numbers_from first count)
 
 pub none_asked : (test : Held → Bool) (rank window : ℕ) (kind : Lock) (first count : ℕ) →
     ((target : ℕ) → first ≤ target → target < first + count → test (lock window target kind rank) ≡ false) →
     list_any test (asked_from rank window kind first count) ≡ false
 none_asked test rank window kind first count none =
-    any_asked test rank window kind first count ∙ no_number (λ target. test (lock window target kind rank)) first count none
+    any_asked test rank window kind first count ∙ no_number (λ target. test (lock window target kind rank)) first count
+    none
 
-pub one_asked : (test : Held → Bool) (rank window : ℕ) (kind : Lock) (first count target : ℕ) → first ≤ target → target < first + count →
+pub one_asked : (test : Held → Bool) (rank window : ℕ) (kind : Lock) (first count target : ℕ) → first ≤ target →
+    target < first + count →
     test (lock window target kind rank) ≡ true → list_any test (asked_from rank window kind first count) ≡ true
 one_asked test rank window kind first count target low high found =
-    any_asked test rank window kind first count ∙ some_number (λ target. test (lock window target kind rank)) first count target low high found
+    any_asked test rank window kind first count ∙ some_number (λ target. test (lock window target kind rank)) first
+    count target low high found
 
 -- each that is asked for is free, where all are
-pub free_at : (held : List Held) (rank window : ℕ) (kind : Lock) (first count target : ℕ) → first ≤ target → target < first + count →
-    clashes held (asked_from rank window kind first count) ≡ false → list_any (do_clash (lock window target kind rank)) held ≡ false
+pub free_at : (held : List Held) (rank window : ℕ) (kind : Lock) (first count target : ℕ) → first ≤ target →
+    target < first + count →
+    clashes held (asked_from rank window kind first count) ≡ false → list_any (do_clash (lock window target kind rank))
+    held ≡ false
 free_at held rank window kind first count target low high free =
     by_truth (list_any (do_clash (lock window target kind rank)) held) refl
   where
-    by_truth : (b : Bool) → list_any (do_clash (lock window target kind rank)) held ≡ b → list_any (do_clash (lock window target kind rank)) held ≡ false
+    by_truth : (b : Bool) → list_any (do_clash (lock window target kind rank)) held ≡ b →
+        list_any (do_clash (lock window target kind rank)) held ≡ false
     by_truth false e = e
     by_truth true e =
         let found : clashes held (asked_from rank window kind first count) ≡ true =
@@ -62,7 +73,8 @@ same_kind Shared Shared e = refl
 same_kind Shared Exclusive e = cc
 same_kind Exclusive b e = cc
 
-is_the_lock : (one : Held) (window target rank : ℕ) (kind : Lock) → eqb one.window window ≡ true → do_clash (lock window target kind rank) one ≡ false →
+is_the_lock : (one : Held) (window target rank : ℕ) (kind : Lock) → eqb one.window window ≡ true →
+    do_clash (lock window target kind rank) one ≡ false →
     is_held_by rank target one ≡ true → one ≡ lock window target kind rank
 is_the_lock one window target rank kind on free own =
     let parts = and_parts (eqb one.holder rank) (eqb one.target target) own in
@@ -80,11 +92,16 @@ among : (window target rank : ℕ) (kind : Lock) (held : List Held) → AllOn wi
     (test : Held → Bool) → test (lock window target kind rank) ≡ true → list_any test held ≡ true
 among window target rank kind [] on free own test passes = absurd (let wrong : false ≡ true = own in cc)
 among window target rank kind (one ∷ held) on free own test passes =
-    let here = or_parts (not (eqb one.window window)) (list_any (λ (one : Held). not (eqb one.window window)) held) on in
-    let apart = or_parts (do_clash (lock window target kind rank) one) (list_any (do_clash (lock window target kind rank)) held) free in
+    let here = or_parts (not (eqb one.window window)) (list_any (λ (one : Held). not (eqb one.window window)) held) on
+    in
+    let apart = or_parts (do_clash (lock window target kind rank) one)
+    (list_any (do_clash (lock window target kind rank)) held) free in
     ⊎_elim
-    (λ first. or_left (test one) (list_any test held) (ap test (is_the_lock one window target rank kind (not-false (eqb one.window window) here.0) apart.0 first) ∙ passes))
-    (λ later. or_right (test one) (list_any test held) (among window target rank kind held here.1 apart.1 later test passes))
+    (λ first. or_left (test one) (list_any test held)
+    (ap test (is_the_lock one window target rank kind (not-false (eqb one.window window) here.0) apart.0 first)
+    ∙ passes))
+    (λ later. or_right (test one) (list_any test held)
+    (among window target rank kind held here.1 apart.1 later test passes))
     (or_cases (is_held_by rank target one) (list_any (is_held_by rank target) held) own)
 
 -- the rank holds the lock already
@@ -93,7 +110,8 @@ pub already : (window target rank : ℕ) (kind : Lock) (held : List Held) → Al
     HasSameLocks held (held ++ lock window target kind rank ∷ [])
 already window target rank kind held on free own test =
     sym (any_more test held (lock window target kind rank)
-    ∙ no_more (list_any test held) (test (lock window target kind rank)) (among window target rank kind held on free own test))
+    ∙ no_more (list_any test held) (test (lock window target kind rank))
+    (among window target rank kind held on free own test))
   where
     no_more : (a b : Bool) → (b ≡ true → a ≡ true) → (a || b) ≡ a
     no_more true b so = refl
@@ -119,12 +137,14 @@ none_goes window target rank (one ∷ held) none test =
 
 -- the locks of a list without those of a rank at the targets below one
 abbrev pub left_below : ℕ → ℕ → ℕ → List Held → List Held
-left_below rank window target held = filter (λ (one : Held). not ((eqb one.holder rank && eqb one.window window) && ltb one.target target)) held
+left_below rank window target held = filter
+    (λ (one : Held). not ((eqb one.holder rank && eqb one.window window) && ltb one.target target)) held
 
 pub left_none : (rank window : ℕ) (held : List Held) → HasSameLocks held (left_below rank window 0 held)
 left_none rank window held test = sym (
     any_filter (λ (one : Held). not ((eqb one.holder rank && eqb one.window window) && ltb one.target 0)) test held
-    ∙ any_alike _ test (λ one. rw (le-ltb one.target 0 (omega arith)) (stays (eqb one.holder rank && eqb one.window window) (test one))) held)
+    ∙ any_alike _ test (λ one. rw (le-ltb one.target 0 (omega arith))
+    (stays (eqb one.holder rank && eqb one.window window) (test one))) held)
   where
     stays : (g z : Bool) → (not (g && false) && z) ≡ z
     stays true z = refl
@@ -135,7 +155,8 @@ up_to a b = ⊎_elim
     (λ same. rw (lt-ltb a (b + 1) (omega arith), eq-eqb a b same) (sym (always (ltb a b))))
     (λ apart. ⊎_elim
     (λ less. rw (lt-ltb a (b + 1) (omega arith), lt-ltb a b less) refl)
-    (λ more. rw (le-ltb a (b + 1) (omega arith), le-ltb a b (omega arith), ne_eqb a b (λ same. absurd (omega arith))) refl)
+    (λ more. rw (le-ltb a (b + 1) (omega arith), le-ltb a b (omega arith), ne_eqb a b (λ same. absurd (omega arith)))
+    refl)
     apart)
     (cases_order a b)
   where
@@ -143,15 +164,20 @@ up_to a b = ⊎_elim
     always true = refl
     always false = refl
 
-pub left_more : (rank window target : ℕ) (held before after : List Held) → HasSameLocks before (left_below rank window target held) →
+pub left_more : (rank window target : ℕ) (held before after : List Held) →
+    HasSameLocks before (left_below rank window target held) →
     HasSameLocks after (kept rank window target before) → HasSameLocks after (left_below rank window (target + 1) held)
 left_more rank window target held before after below more test =
-    let below_it : Held → Bool = λ (one : Held). not ((eqb one.holder rank && eqb one.window window) && ltb one.target target) in
-    let past_it : Held → Bool = λ (one : Held). not ((eqb one.holder rank && eqb one.window window) && ltb one.target (target + 1)) in
+    let below_it : Held → Bool = λ (one : Held). not
+    ((eqb one.holder rank && eqb one.window window) && ltb one.target target) in
+    let past_it : Held → Bool = λ (one : Held). not ((eqb one.holder rank && eqb one.window window) && ltb one.target
+    (target + 1)) in
     let at_it : Held → Bool = λ (one : Held). not (is_given_back rank window (Some (pos target)) one) in
-    more test ∙ (any_filter at_it test before ∙ (below (λ one. at_it one && test one) ∙ (any_filter below_it (λ one. at_it one && test one) held
+    more test ∙ (any_filter at_it test before
+    ∙ (below (λ one. at_it one && test one) ∙ (any_filter below_it (λ one. at_it one && test one) held
     ∙ (any_alike (λ one. below_it one && (at_it one && test one)) (λ one. past_it one && test one)
-    (λ one. both (eqb one.holder rank && eqb one.window window) (ltb one.target target) (eqb one.target target) (ltb one.target (target + 1)) (test one) (up_to one.target target)) held
+    (λ one. both (eqb one.holder rank && eqb one.window window) (ltb one.target target) (eqb one.target target)
+    (ltb one.target (target + 1)) (test one) (up_to one.target target)) held
     ∙ sym (any_filter past_it test held)))))
   where
     both : (g l e m z : Bool) → m ≡ (l || e) → (not (g && l) && (not (g && e) && z)) ≡ (not (g && m) && z)
@@ -159,7 +185,8 @@ left_more rank window target held before after below more test =
     both true false e m z is = rw is refl
     both false l e m z is = refl
 
-pub left_all : (rank window : ℕ) (held : List Held) → AtRanks held → left_below rank window 16 held ≡ left_by rank window None held
+pub left_all : (rank window : ℕ) (held : List Held) → AtRanks held →
+    left_below rank window 16 held ≡ left_by rank window None held
 left_all rank window [] ranks = refl
 left_all rank window (one ∷ held) ranks =
     let parts = or_parts (leb 16 one.target) (list_any (λ (one : Held). leb 16 one.target) held) ranks in

@@ -1,5 +1,6 @@
 -- A look-up that is allowed reaches the memory of its target alone.
-use Rattle.std.proofs.Common.{◌≡◌, ℕ, ◌+◌, ◌<◌, ◌≤◌, Bool, true, false, not, ◌&&◌, leb, ltb, List, [], ◌∷◌, refl, ap, sym, ◌∙◌, subst, arith, is_some, Option, Some, None, ⊎_elim}
+use Rattle.std.proofs.Common.{◌≡◌, ℕ, ◌+◌, ◌<◌, ◌≤◌, Bool, true, false, not, ◌&&◌, leb, ltb, List, [], ◌∷◌, refl, ap}
+use Rattle.std.proofs.Common.{sym, ◌∙◌, subst, arith, is_some, Option, Some, None, ⊎_elim}
 use Rattle.std.specs.Prelude.{slice_get}
 use Rattle.std.specs.List.{AllByRecursion, list_all, list_any}
 use Rattle.std.specs.Option.{MatchOption}
@@ -32,18 +33,21 @@ second : (a b : Bool) → (a && b) ≡ true → b ≡ true
 second true b e = e
 second false b e = absurd (true≢false (sym e))
 
-byte_below : (limit : ℕ) (ranges : List Range) (address : ℕ) → AllByRecursion (λ (range : Range). range.base + range.bytes ≤ limit) ranges →
+byte_below : (limit : ℕ) (ranges : List Range) (address : ℕ) →
+    AllByRecursion (λ (range : Range). range.base + range.bytes ≤ limit) ranges →
     list_any (has_byte address) ranges ≡ true → address < limit
 byte_below limit [] address all found = absurd (true≢false (sym found))
 byte_below limit (range ∷ ranges) address all found = ⊎_elim
     (λ here.
-    let less : address < range.base + range.bytes = ltb-true address (range.base + range.bytes) (second (leb range.base address) (ltb address (range.base + range.bytes)) here) in
+    let less : address < range.base + range.bytes = ltb-true address (range.base + range.bytes)
+    (second (leb range.base address) (ltb address (range.base + range.bytes)) here) in
     let within : range.base + range.bytes ≤ limit = all.0 in
     omega arith)
     (λ later. byte_below limit ranges address all.1 later)
     (or_cases (has_byte address range) (list_any (has_byte address) ranges) found)
 
-covered : (test : ℕ → Bool) (lo len address : ℕ) → list_all test (numbers_from lo len) ≡ true → lo ≤ address → address < lo + len → test address ≡ true
+covered : (test : ℕ → Bool) (lo len address : ℕ) → list_all test (numbers_from lo len) ≡ true → lo ≤ address →
+    address < lo + len → test address ≡ true
 covered test lo len address all low high = split (test address) refl
   where
     split : (b : Bool) → test address ≡ b → test address ≡ true
@@ -51,16 +55,19 @@ covered test lo len address all low high = split (test address) refl
     split false e = absurd (true≢false (sym all ∙ not_all_numbers test lo len address low high e))
 
 -- the ranges that are attached to any window lie in the memory of their ranks
-pub inside_at : (layout : Layout) (ranks : ℕ) (entries : List Act) (names : List NameRecord) → KeepsWindows layout ranks entries names → (round name : ℕ) → name < 32 →
+pub inside_at : (layout : Layout) (ranks : ℕ) (entries : List Act) (names : List NameRecord) →
+    KeepsWindows layout ranks entries names → (round name : ℕ) → name < 32 →
     AttachedInside layout (done_on entries (window_number round name))
 inside_at layout ranks entries names keeps round name below = named (slice_get names name) (keeps name)
   where
-    rounds : (o : Option WindowRecord) → MatchOption o (IsUntouched ranks (window_number round name) entries) (KeepsWindow layout ranks (window_number round name) entries) →
+    rounds : (o : Option WindowRecord) → MatchOption o (IsUntouched ranks (window_number round name) entries)
+        (KeepsWindow layout ranks (window_number round name) entries) →
         AttachedInside layout (done_on entries (window_number round name))
     rounds None none rank = rw (none.ranges rank) tt
     rounds (Some kept) keeps rank = keeps.inside rank
 
-    named : (o : Option NameRecord) → MatchOption o (name < 32 → IsNameUntouched ranks name entries) (λ (one : NameRecord). name < 32 → KeepsName layout ranks name entries one.rounds.items) →
+    named : (o : Option NameRecord) → MatchOption o (name < 32 → IsNameUntouched ranks name entries)
+        (λ (one : NameRecord). name < 32 → KeepsName layout ranks name entries one.rounds.items) →
         AttachedInside layout (done_on entries (window_number round name))
     named None none rank = rw ((none below round).ranges rank) tt
     named (Some one) keeps rank = rounds (slice_get one.rounds.items round) (keeps below round) rank
@@ -69,7 +76,8 @@ moves_by : (action : Action) (t : Transfer) → transfer_in action ≡ Some t �
 moves_by (Moves transfer) t e = cc
 moves_by action t e = cc
 
-step_by : (step : Step) (call : Call) (t : Transfer) → action_of call ≡ Moves t → is_step_of step call ≡ true → step ≡ One
+step_by : (step : Step) (call : Call) (t : Transfer) → action_of call ≡ Moves t → is_step_of step call ≡ true →
+    step ≡ One
 step_by One call t moves is = refl
 step_by Arrive call t moves is = absurd (true≢false (sym is ∙ ap (λ a. is_some (collective_in a)) moves))
 step_by Leave call t moves is = absurd (true≢false (sym is ∙ ap (λ a. is_some (collective_in a)) moves))
@@ -78,17 +86,27 @@ covered_so : (b : Bool) → decision_by (refuse_if (not b) RangeClass) true ≡ 
 covered_so true e = refl
 covered_so false e = cc
 
-pub looks_inside : (layout : Layout) (ranks : ℕ) (rows : List Row) (row : Row) (t : Transfer) (names : List NameRecord) (round name : ℕ) →
+pub looks_inside : (layout : Layout) (ranks : ℕ) (rows : List Row) (row : Row) (t : Transfer) (names : List NameRecord)
+    (round name : ℕ) →
     KeepsWindows layout ranks (acts rows) names → window_of rows row ≡ window_number round name → name < 32 →
-    transfer_of row.call ≡ Some t → is_step_of row.step row.call ≡ true → decide ranks rows row ≡ Allow → LooksInside layout row.rank t
+    transfer_of row.call ≡ Some t → is_step_of row.step row.call ≡ true → decide ranks rows row ≡ Allow →
+    LooksInside layout row.rank t
 looks_inside layout ranks rows row t names round name keeps at below is step allowed address low high =
     let moves : action_of row.call ≡ Moves t = moves_by (action_of row.call) t is in
     let q : Question = question ranks rows row in
-    let one : decision (question ranks rows row) One ≡ Allow = ap (decision (question ranks rows row)) (sym (step_by row.step row.call t moves step)) ∙ allowed in
-    let all : covers (ranges_attached (acts rows) (rank_reached row.rank t.target) (window_of rows row)) (natural t.disp) (bytes_of t) ≡ true =
-    covered_so (covers (ranges_attached (acts rows) (rank_reached row.rank t.target) (window_of rows row)) (natural t.disp) (bytes_of t)) (sym (one_by q (Moves t) moves) ∙ one) in
-    let inside : AllByRecursion (λ (range : Range). range.base + range.bytes ≤ bytes_at layout (rank_reached row.rank t.target)) (done_on (acts rows) (window_of rows row) (rank_reached row.rank t.target)).ranges =
-    subst (λ w. AttachedInside layout (done_on (acts rows) w)) (sym at) (inside_at layout ranks (acts rows) names keeps round name below) (rank_reached row.rank t.target) in
-    byte_below (bytes_at layout (rank_reached row.rank t.target)) (ranges_attached (acts rows) (rank_reached row.rank t.target) (window_of rows row)) address
+    let one : decision (question ranks rows row) One ≡ Allow = ap (decision (question ranks rows row))
+    (sym (step_by row.step row.call t moves step)) ∙ allowed in
+    let all : covers (ranges_attached (acts rows) (rank_reached row.rank t.target) (window_of rows row))
+    (natural t.disp) (bytes_of t) ≡ true =
+    covered_so (covers (ranges_attached (acts rows) (rank_reached row.rank t.target) (window_of rows row))
+    (natural t.disp) (bytes_of t)) (sym (one_by q (Moves t) moves) ∙ one) in
+    let inside : AllByRecursion (λ (range : Range). range.base + range.bytes ≤ bytes_at layout
+    (rank_reached row.rank t.target))
+    (done_on (acts rows) (window_of rows row) (rank_reached row.rank t.target)).ranges =
+    subst (λ w. AttachedInside layout (done_on (acts rows) w)) (sym at)
+    (inside_at layout ranks (acts rows) names keeps round name below) (rank_reached row.rank t.target) in
+    byte_below (bytes_at layout (rank_reached row.rank t.target))
+    (ranges_attached (acts rows) (rank_reached row.rank t.target) (window_of rows row)) address
     (rw (attached_is (acts rows) (rank_reached row.rank t.target) (window_of rows row)) inside)
-    (covered (λ a. list_any (has_byte a) (ranges_attached (acts rows) (rank_reached row.rank t.target) (window_of rows row))) (natural t.disp) (bytes_of t) address all low high)
+    (covered (λ a. list_any (has_byte a) (ranges_attached (acts rows) (rank_reached row.rank t.target)
+    (window_of rows row))) (natural t.disp) (bytes_of t) address all low high)

@@ -9,7 +9,8 @@ start_at : (q : Question) (group : List ℕ) → list_all (has_post_of (done_at 
 unfolding done
 start_at q group = refl
 
-pub is_start : (q : Question) (rank : ℕ) (group : List ℕ) → q.rank ≡ rank → list_all (has_post_of (done_at q) rank) group ≡ start_has_posts q group
+pub is_start : (q : Question) (rank : ℕ) (group : List ℕ) → q.rank ≡ rank →
+    list_all (has_post_of (done_at q) rank) group ≡ start_has_posts q group
 is_start q rank group e = ap (λ r. list_all (has_post_of (done_at q) r) group) (sym e) ∙ start_at q group
 
 last_at : (q : Question) → last_posted q ≡ get_or (reverse (done_at q q.rank).posts) 0 []
@@ -23,5 +24,6 @@ wait_at : (q : Question) → list_all (has_complete_of (done_at q) q.rank) (last
 unfolding done
 wait_at q = refl
 
-pub is_wait : (q : Question) (rank : ℕ) → q.rank ≡ rank → list_all (has_complete_of (done_at q) rank) (last_posted q) ≡ wait_has_completes q
+pub is_wait : (q : Question) (rank : ℕ) → q.rank ≡ rank → list_all (has_complete_of (done_at q) rank)
+    (last_posted q) ≡ wait_has_completes q
 is_wait q rank e = ap (λ r. list_all (has_complete_of (done_at q) r) (last_posted q)) (sym e) ∙ wait_at q

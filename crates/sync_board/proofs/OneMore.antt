@@ -1,5 +1,6 @@
 -- What one entry more of a rank on a window adds to what the rank has done there.
-use Rattle.std.proofs.Common.{◌≡◌, ◌+◌, Bool, true, false, ◌&&◌, cond, List, [], ◌∷◌, ◌++◌, map, refl, ap, ◌∙◌, append-nil}
+use Rattle.std.proofs.Common.{◌≡◌, ◌+◌, Bool, true, false, ◌&&◌, cond, List, [], ◌∷◌, ◌++◌, map, refl, ap, ◌∙◌}
+use Rattle.std.proofs.Common.{append-nil}
 use Rattle.std.specs.List.{count_by, filter, flat_map}
 use Rattle.std.specs.Option.{option_map_or}
 use Rattle.std.proofs.lemmas.Grind.{flat_map-append, fold-append}
@@ -10,7 +11,8 @@ use Rattle.rma_types.specs.declared.accesses.Step.{Step}
 use Rattle.rma_types.specs.declared.calls.Call.{Call}
 use Rattle.call_rules.specs.Actions.{Action, Synchronisation, synchronisation_in, synchronisation_of, action_of}
 use Rattle.board_rules.specs.AttachedRanges.{ranges_after}
-use Rattle.board_rules.specs.Entries.{Act, Collective, Creation, Freeing, Fence, is_arrive, is_collective, is_same_collective, collective_in}
+use Rattle.board_rules.specs.Entries.{Act, Collective, Creation, Freeing, Fence, is_arrive, is_collective}
+use Rattle.board_rules.specs.Entries.{is_same_collective, collective_in}
 use Rattle.board_rules.specs.Posts.{group_of_post, group_of_start, is_complete, is_wait}
 use Rattle.sync_board.specs.Sides.{synchronised, arrived, Done, done}
 
@@ -36,13 +38,15 @@ with_entry d step call action = record {
   ranges = ranges_after d.ranges step action;
 }
 
-pub synchronised_more : (entries : List Act) (act : Act) → synchronised (entries ++ act ∷ []) ≡ synchronised entries ++ synchronisation_by (action_of act.row.call)
+pub synchronised_more : (entries : List Act) (act : Act) → synchronised (entries ++ act ∷ []) ≡ synchronised entries ++
+    synchronisation_by (action_of act.row.call)
 synchronised_more entries act =
     flat_map-append (λ (act : Act). option_map_or (λ s. s ∷ []) (synchronisation_of act.row.call) []) entries (act ∷ [])
     ∙ ap (λ xs. synchronised entries ++ xs) (append-nil (synchronisation_by (action_of act.row.call)))
 
 pub arrived_more : (collective : Collective) (entries : List Act) (act : Act) →
-    arrived collective (entries ++ act ∷ []) ≡ arrived collective entries ++ arrival_by collective act.row.step act.row.call (action_of act.row.call)
+    arrived collective (entries ++ act ∷ []) ≡ arrived collective entries ++ arrival_by collective act.row.step
+    act.row.call (action_of act.row.call)
 arrived_more collective entries act =
     let test : Act → Bool = λ act. is_arrive act.row.step && is_collective collective act.row.call in
     ap (map (λ (act : Act). act.row.call)) (filter-append test entries (act ∷ []))
@@ -56,21 +60,27 @@ arrived_more collective entries act =
 pub count_more : {X : Type 0} (p : X → Bool) (xs ys : List X) → count_by p (xs ++ ys) ≡ count_by p xs + count_by p ys
 count_more p xs ys = sum_by-append (λ x. cond (p x) 1 0) xs ys
 
-pub done_more : (entries : List Act) (act : Act) → done (entries ++ act ∷ []) ≡ with_entry (done entries) act.row.step act.row.call (action_of act.row.call)
+pub done_more : (entries : List Act) (act : Act) → done (entries ++ act ∷ []) ≡ with_entry (done entries) act.row.step
+    act.row.call (action_of act.row.call)
 unfolding done
 done_more entries act =
     let syncs = synchronised_more entries act in
     let brought = synchronisation_by (action_of act.row.call) in
-    let posts : flat_map group_of_post (synchronised (entries ++ act ∷ [])) ≡ flat_map group_of_post (synchronised entries) ++ flat_map group_of_post brought =
+    let posts : flat_map group_of_post (synchronised (entries ++ act ∷ [])) ≡ flat_map group_of_post
+    (synchronised entries) ++ flat_map group_of_post brought =
     ap (flat_map group_of_post) syncs ∙ flat_map-append group_of_post (synchronised entries) brought in
-    let starts : flat_map group_of_start (synchronised (entries ++ act ∷ [])) ≡ flat_map group_of_start (synchronised entries) ++ flat_map group_of_start brought =
+    let starts : flat_map group_of_start (synchronised (entries ++ act ∷ [])) ≡ flat_map group_of_start
+    (synchronised entries) ++ flat_map group_of_start brought =
     ap (flat_map group_of_start) syncs ∙ flat_map-append group_of_start (synchronised entries) brought in
-    let completes : count_by is_complete (synchronised (entries ++ act ∷ [])) ≡ count_by is_complete (synchronised entries) + count_by is_complete brought =
+    let completes : count_by is_complete (synchronised (entries ++ act ∷ [])) ≡ count_by is_complete
+    (synchronised entries) + count_by is_complete brought =
     ap (count_by is_complete) syncs ∙ count_more is_complete (synchronised entries) brought in
-    let waits : count_by is_wait (synchronised (entries ++ act ∷ [])) ≡ count_by is_wait (synchronised entries) + count_by is_wait brought =
+    let waits : count_by is_wait (synchronised (entries ++ act ∷ [])) ≡ count_by is_wait (synchronised entries) +
+    count_by is_wait brought =
     ap (count_by is_wait) syncs ∙ count_more is_wait (synchronised entries) brought in
     let creations = arrived_more Creation entries act in
     let frees = arrived_more Freeing entries act in
     let fences = arrived_more Fence entries act in
-    let ranges = fold-append (λ ranges (act : Act). ranges_after ranges act.row.step (action_of act.row.call)) [] entries (act ∷ []) in
+    let ranges = fold-append (λ ranges (act : Act). ranges_after ranges act.row.step (action_of act.row.call)) []
+    entries (act ∷ []) in
     rw (posts, starts, completes, waits, creations, frees, fences, ranges) refl

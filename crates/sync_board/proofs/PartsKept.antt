@@ -1,5 +1,6 @@
 -- The parts that are kept, as ranks arrive at the creation of their window.
-use Rattle.std.proofs.Common.{◌≡◌, ◌≢◌, ℕ, zero, suc, ◌+◌, ◌<◌, ◌≤◌, Bool, true, false, ◌&&◌, eqb, List, [], ◌∷◌, ◌++◌, length, map, get_or, refl, ap, sym, subst, ◌∙◌, arith, Option, Some, None, IfSome, ⊎_elim}
+use Rattle.std.proofs.Common.{◌≡◌, ◌≢◌, ℕ, zero, suc, ◌+◌, ◌<◌, ◌≤◌, Bool, true, false, ◌&&◌, eqb, List, [], ◌∷◌, ◌++◌}
+use Rattle.std.proofs.Common.{length, map, get_or, refl, ap, sym, subst, ◌∙◌, arith, Option, Some, None, IfSome, ⊎_elim}
 use Rattle.std.specs.Option.{option_map, option_map_or, option_or}
 use Rattle.std.proofs.lemmas.Bool.{and_left, cases_eq, cases_lt, eq-eqb, ne_eqb}
 use Rattle.std.proofs.lemmas.List.{get_or_past, length-map, map-append}
@@ -21,20 +22,25 @@ use Rattle.sync_board.proofs.AnyOf.{numbers_more}
 -- ---- one entry more
 
 arrival_more : (entries : List Act) (window rank : ℕ) (act : Act) →
-    first_arrival (entries ++ act ∷ []) window rank ≡ option_or (first_arrival entries window rank) (first_arrival (act ∷ []) window rank)
-arrival_more entries window rank act = find-append (λ (act : Act). is_by_on rank window act && begins_window act.row) entries (act ∷ [])
+    first_arrival (entries ++ act ∷ []) window rank ≡ option_or (first_arrival entries window rank)
+    (first_arrival (act ∷ []) window rank)
+arrival_more entries window rank act = find-append (λ (act : Act). is_by_on rank window act && begins_window act.row)
+    entries (act ∷ [])
 
 or_none : {X : Type 0} (o : Option X) → option_or o None ≡ o
 or_none None = refl
 or_none (Some x) = refl
 
 -- an entry that is no arrival of the rank at the window's creation
-pub arrival_same : (entries : List Act) (window rank : ℕ) (act : Act) → (is_by_on rank window act && begins_window act.row) ≡ false →
+pub arrival_same : (entries : List Act) (window rank : ℕ) (act : Act) →
+    (is_by_on rank window act && begins_window act.row) ≡ false →
     first_arrival (entries ++ act ∷ []) window rank ≡ first_arrival entries window rank
-arrival_same entries window rank act other = arrival_more entries window rank act ∙ rw other (or_none (first_arrival entries window rank))
+arrival_same entries window rank act other = arrival_more entries window rank act
+    ∙ rw other (or_none (first_arrival entries window rank))
 
 -- the first arrival of a rank, and a later one
-arrival_added : (entries : List Act) (window rank : ℕ) (act : Act) → (is_by_on rank window act && begins_window act.row) ≡ true →
+arrival_added : (entries : List Act) (window rank : ℕ) (act : Act) → (is_by_on rank window act && begins_window act.row)
+    ≡ true →
     first_arrival (entries ++ act ∷ []) window rank ≡ option_or (first_arrival entries window rank) (Some act)
 arrival_added entries window rank act its = arrival_more entries window rank act ∙ rw its refl
 
@@ -45,7 +51,8 @@ pub parts_keep : (layout : Layout) (window : ℕ) (entries : List Act) (act : Ac
 parts_keep layout window entries act parts other keeps = record {
   brought = λ rank.
       keeps.brought rank ∙ ap (option_map (part_brought layout))
-      (sym (arrival_same entries window rank act (never (eqb act.row.rank rank) (eqb act.window window) (begins_window act.row) other)));
+      (sym (arrival_same entries window rank act
+      (never (eqb act.row.rank rank) (eqb act.window window) (begins_window act.row) other)));
   inside = keeps.inside;
 }
   where
@@ -54,7 +61,8 @@ parts_keep layout window entries act parts other keeps = record {
     never false b c e = refl
 
 -- no rank has arrived
-pub no_parts : (layout : Layout) (window : ℕ) (parts : List (Option Part)) → parts ≡ [] → KeepsParts layout window [] parts
+pub no_parts : (layout : Layout) (window : ℕ) (parts : List (Option Part)) → parts ≡ [] →
+    KeepsParts layout window [] parts
 no_parts layout window parts none =
     let empty : (rank : ℕ) → part_kept parts rank ≡ None = λ rank. ap (λ xs. part_kept xs rank) none ∙ nothing rank in
     record {
@@ -76,23 +84,29 @@ parts_same layout window entries before after same keeps = record {
 }
 
 -- the rank has arrived with a part, and what is kept of each other rank is the same
-pub parts_more : (layout : Layout) (window : ℕ) (entries : List Act) (act : Act) (creation : Creation) (rank : ℕ) (part : Part) (before after : List (Option Part)) →
+pub parts_more : (layout : Layout) (window : ℕ) (entries : List Act) (act : Act) (creation : Creation) (rank : ℕ)
+    (part : Part) (before after : List (Option Part)) →
     act.row.rank ≡ rank → act.window ≡ window → act.row.step ≡ Arrive → creation_of act.row.call ≡ Some creation →
     part ≡ part_made layout rank act.row.number creation → IsInside layout rank part →
     ((other : ℕ) → other ≢ rank → part_kept after other ≡ part_kept before other) →
     part_kept after rank ≡ option_or (part_kept before rank) (Some part) →
     KeepsParts layout window entries before → KeepsParts layout window (entries ++ act ∷ []) after
-parts_more layout window entries act creation rank part before after by here arrives is made within others its keeps = record {
-  brought = λ other. ⊎_elim
-      (λ same. let Brought : ℕ → Type 0 = λ r. part_kept after r ≡ option_map (part_brought layout) (first_arrival (entries ++ act ∷ []) window r) in subst Brought (sym same) of_rank)
-      (λ apart. others other apart ∙ (keeps.brought other ∙ ap (option_map (part_brought layout))
-      (sym (arrival_same entries window other act (and_left _ (begins_window act.row) (and_left (eqb act.row.rank other) _ (ne_eqb act.row.rank other (λ e. apart (sym e ∙ by)))))))))
-      (cases_eq other rank);
-  inside = λ other. ⊎_elim
-      (λ same. let Inside : ℕ → Type 0 = λ r. IfSome (part_kept after r) (IsInside layout r) in subst Inside (sym same) (rw its (if_or (part_kept before rank) (keeps.inside rank))))
-      (λ apart. rw (others other apart) (keeps.inside other))
-      (cases_eq other rank);
-}
+parts_more layout window entries act creation rank part before after by here arrives is made within others its keeps =
+    record {
+      brought = λ other. ⊎_elim
+          (λ same. let Brought : ℕ → Type 0 = λ r. part_kept after r ≡ option_map (part_brought layout)
+          (first_arrival (entries ++ act ∷ []) window r) in subst Brought (sym same) of_rank)
+          (λ apart. others other apart ∙ (keeps.brought other ∙ ap (option_map (part_brought layout))
+          (sym (arrival_same entries window other act
+          (and_left _ (begins_window act.row)
+          (and_left (eqb act.row.rank other) _ (ne_eqb act.row.rank other (λ e. apart (sym e ∙ by)))))))))
+          (cases_eq other rank);
+      inside = λ other. ⊎_elim
+          (λ same. let In : ℕ → Type 0 = λ r. IfSome (part_kept after r) (IsInside layout r) in subst In (sym same)
+          (rw its (if_or (part_kept before rank) (keeps.inside rank))))
+          (λ apart. rw (others other apart) (keeps.inside other))
+          (cases_eq other rank);
+    }
   where
     arrival : (is_by_on rank window act && begins_window act.row) ≡ true
     arrival = rw (eq-eqb act.row.rank rank by, eq-eqb act.window window here, arrives, is) refl
@@ -102,34 +116,41 @@ parts_more layout window entries act creation rank part before after by here arr
         ap (λ o. option_map_or (part_made layout act.row.rank act.row.number) o no_part) is
         ∙ (ap (λ r. part_made layout r act.row.number creation) by ∙ sym made)
 
-    map_or : (o : Option Act) → option_or (option_map (part_brought layout) o) (Some part) ≡ option_map (part_brought layout) (option_or o (Some act))
+    map_or : (o : Option Act) → option_or (option_map (part_brought layout) o) (Some part) ≡ option_map
+        (part_brought layout) (option_or o (Some act))
     map_or None = ap Some (sym brings)
     map_or (Some other) = refl
 
     of_rank : part_kept after rank ≡ option_map (part_brought layout) (first_arrival (entries ++ act ∷ []) window rank)
     of_rank =
         its ∙ (ap (λ o. option_or o (Some part)) (keeps.brought rank)
-        ∙ (map_or (first_arrival entries window rank) ∙ ap (option_map (part_brought layout)) (sym (arrival_added entries window rank act arrival))))
+        ∙ (map_or (first_arrival entries window rank) ∙ ap (option_map (part_brought layout))
+        (sym (arrival_added entries window rank act arrival))))
 
-    if_or : (o : Option Part) → IfSome o (IsInside layout rank) → IfSome (option_or o (Some part)) (IsInside layout rank)
+    if_or : (o : Option Part) → IfSome o (IsInside layout rank) → IfSome (option_or o (Some part))
+        (IsInside layout rank)
     if_or None given = within
     if_or (Some other) given = given
 
 -- ---- the shape
 
-pub parts_one_more : (parts : List (Option Part)) (rank : ℕ) → parts_or_none parts (rank + 1) ≡ parts_or_none parts rank ++ part_or_none parts rank ∷ []
+pub parts_one_more : (parts : List (Option Part)) (rank : ℕ) → parts_or_none parts (rank + 1) ≡ parts_or_none parts rank
+    ++ part_or_none parts rank ∷ []
 parts_one_more parts rank =
     let last : 0 + rank ≡ rank = omega arith in
     ap (map (part_or_none parts)) (rw last at (numbers_more 0 rank))
     ∙ map-append (part_or_none parts) (numbers_from 0 rank) (rank ∷ [])
 
-at_number : (f : ℕ → Part) (first count k : ℕ) (d : Part) → k < count → get_or (map f (numbers_from first count)) k d ≡ f (first + k)
+at_number : (f : ℕ → Part) (first count k : ℕ) (d : Part) → k < count →
+    get_or (map f (numbers_from first count)) k d ≡ f (first + k)
 at_number f first zero k d within = absurd (omega arith)
 at_number f first (suc count) zero d within = ap f (omega arith)
 at_number f first (suc count) (suc k) d within = at_number f (first + 1) count k d (omega arith) ∙ ap f (omega arith)
 
-at_rank : (parts : List (Option Part)) (ranks k : ℕ) → k < ranks → part_at (parts_or_none parts ranks) k ≡ part_or_none parts k
-at_rank parts ranks k within = at_number (part_or_none parts) 0 ranks k no_part within ∙ ap (part_or_none parts) (omega arith)
+at_rank : (parts : List (Option Part)) (ranks k : ℕ) → k < ranks → part_at (parts_or_none parts ranks) k ≡ part_or_none
+    parts k
+at_rank parts ranks k within = at_number (part_or_none parts) 0 ranks k no_part within ∙ ap (part_or_none parts)
+    (omega arith)
 
 numbers_length : (first count : ℕ) → length (numbers_from first count) ≡ count
 numbers_length first zero = refl
@@ -142,11 +163,13 @@ past_ranks : (parts : List (Option Part)) (ranks k : ℕ) → ranks ≤ k → pa
 past_ranks parts ranks k past = get_or_past (parts_or_none parts ranks) k no_part (omega (arith, how_many parts ranks))
 
 -- the parts that are kept are those of the definition
-parts_are : (layout : Layout) (window ranks : ℕ) (entries : List Act) (parts : List (Option Part)) → KeepsParts layout window entries parts →
+parts_are : (layout : Layout) (window ranks : ℕ) (entries : List Act) (parts : List (Option Part)) →
+    KeepsParts layout window entries parts →
     parts_or_none parts ranks ≡ parts_of layout ranks entries window
 parts_are layout window ranks entries parts keeps = alike (numbers_from 0 ranks)
   where
-    one : (o : Option Act) → option_map_or (λ part. part) (option_map (part_brought layout) o) no_part ≡ option_map_or (part_brought layout) o no_part
+    one : (o : Option Act) → option_map_or (λ part. part) (option_map (part_brought layout) o) no_part ≡ option_map_or
+        (part_brought layout) o no_part
     one None = refl
     one (Some act) = refl
 
@@ -157,15 +180,18 @@ parts_are layout window ranks entries parts keeps = alike (numbers_from 0 ranks)
         ap (λ o. option_map_or (λ part. part) o no_part) (keeps.brought k) ∙ one (first_arrival entries window k) in
         rw (first, alike ks) refl
 
-inside_or_none : (layout : Layout) (rank : ℕ) (o : Option Part) → IfSome o (IsInside layout rank) → IsInside layout rank (option_map_or (λ part. part) o no_part)
+inside_or_none : (layout : Layout) (rank : ℕ) (o : Option Part) → IfSome o (IsInside layout rank) →
+    IsInside layout rank (option_map_or (λ part. part) o no_part)
 inside_or_none layout rank None given = omega arith
 inside_or_none layout rank (Some part) given = given
 
-pub shape_made : (board : BoardState) (row : Row) (creation : Creation) (ranks : ℕ) (parts : List (Option Part)) (shape : Shape) →
+pub shape_made : (board : BoardState) (row : Row) (creation : Creation) (ranks : ℕ) (parts : List (Option Part))
+    (shape : Shape) →
     shape.parts ≡ parts_or_none parts ranks →
     (is_same_flavor shape.flavor Dynamic ≡ true → (rank : ℕ) → rank < ranks → part_or_none parts rank ≡ no_part) →
     board.ranks ≡ ranks → creation.flavor ≡ shape.flavor → IsLayoutOf board.ranks board.layout →
-    KeepsParts board.layout (window_of (rows_on board) row) (acts (rows_on board)) parts → IsShapeMade board row creation shape
+    KeepsParts board.layout (window_of (rows_on board) row) (acts (rows_on board)) parts →
+    IsShapeMade board row creation shape
 shape_made board row creation ranks parts shape are dynamic all flavor fits keeps = record {
   flavor = sym flavor;
   parts =

@@ -1,11 +1,13 @@
 -- What one entry more does to what is kept of a window.
-use Rattle.std.proofs.Common.{◌≡◌, ◌≢◌, ℕ, Bool, true, false, ◌&&◌, cond, eqb, List, [], ◌∷◌, ◌++◌, refl, ap, sym, ◌∙◌, append-nil}
+use Rattle.std.proofs.Common.{◌≡◌, ◌≢◌, ℕ, Bool, true, false, ◌&&◌, cond, eqb, List, [], ◌∷◌, ◌++◌, refl, ap, sym, ◌∙◌}
+use Rattle.std.proofs.Common.{append-nil}
 use Rattle.std.proofs.lemmas.Bool.{ne_eqb, eq-eqb, and_right}
 use Rattle.std.proofs.lemmas.List.Elements.{filter-append}
 use Rattle.rma_types.specs.declared.accesses.Step.{Step}
 use Rattle.rma_types.specs.declared.calls.Call.{Call}
 use Rattle.rma_types.specs.declared.calls.Call.TheVariants.{Put, Acc, GetAcc, Store}
-use Rattle.call_rules.specs.Actions.{Action, Creates, Frees, Attaches, Detaches, Synchronises, Meets, Moves, EndsRequest, action_of}
+use Rattle.call_rules.specs.Actions.{Action, Creates, Frees, Attaches, Detaches, Synchronises, Meets, Moves}
+use Rattle.call_rules.specs.Actions.{EndsRequest, action_of}
 use Rattle.board_rules.specs.Entries.{Act, is_by_on}
 use Rattle.board_rules.specs.Questions.{Question}
 use Rattle.kept_rows.specs.KeptCalls.{kept_call}
@@ -20,12 +22,14 @@ pub own_more : (entries : List Act) (act : Act) (rank window : ℕ) → act.row.
     own (entries ++ act ∷ []) rank window ≡ own entries rank window ++ act ∷ []
 own_more entries act rank window r w =
     let test : is_by_on rank window act ≡ true = rw (r, w, eq-eqb rank rank refl, eq-eqb window window refl) refl in
-    filter-append (is_by_on rank window) entries (act ∷ []) ∙ ap (λ b. own entries rank window ++ cond b (act ∷ []) []) test
+    filter-append (is_by_on rank window) entries (act ∷ []) ∙ ap (λ b. own entries rank window ++ cond b (act ∷ []) [])
+    test
 
 pub own_same : (entries : List Act) (act : Act) (rank window : ℕ) → is_by_on rank window act ≡ false →
     own (entries ++ act ∷ []) rank window ≡ own entries rank window
 own_same entries act rank window off =
-    filter-append (is_by_on rank window) entries (act ∷ []) ∙ (ap (λ b. own entries rank window ++ cond b (act ∷ []) []) off ∙ append-nil (own entries rank window))
+    filter-append (is_by_on rank window) entries (act ∷ [])
+    ∙ (ap (λ b. own entries rank window ++ cond b (act ∷ []) []) off ∙ append-nil (own entries rank window))
 
 pub other_rank : (entries : List Act) (act : Act) (window other : ℕ) → other ≢ act.row.rank →
     done_on (entries ++ act ∷ []) window other ≡ done_on entries window other
@@ -36,7 +40,8 @@ other_rank entries act window other apart =
 pub other_window : (entries : List Act) (act : Act) (window rank : ℕ) → act.window ≢ window →
     done_on (entries ++ act ∷ []) window rank ≡ done_on entries window rank
 other_window entries act window rank apart =
-    ap done (own_same entries act rank window (and_right (eqb act.row.rank rank) (eqb act.window window) (ne_eqb act.window window apart)))
+    ap done (own_same entries act rank window
+    (and_right (eqb act.row.rank rank) (eqb act.window window) (ne_eqb act.window window apart)))
 
 -- ---- the entry that a question becomes
 
@@ -58,7 +63,8 @@ whole (GetAcc req win target disp dtype op values) stays = cc
 whole (Store win disp dtype values) stays = cc
 whole call stays = refl
 
-pub kept_action : (call : Call) (action : Action) → action_of call ≡ action → is_move action ≡ false → action_of (kept_call call) ≡ action
+pub kept_action : (call : Call) (action : Action) → action_of call ≡ action → is_move action ≡ false →
+    action_of (kept_call call) ≡ action
 kept_action call action e stays = whole call (ap is_move e ∙ stays) ∙ e
 
 pub same_for : (q : Question) (number : ℕ) (step : Step) (rank : ℕ) → q.rank ≡ rank →
@@ -71,9 +77,12 @@ pub own_entered : (q : Question) (number : ℕ) (step : Step) (rank : ℕ) → q
 own_entered q number step rank asker = own_more q.entries (entered q number step) rank q.window asker refl
 
 -- what the asking rank has done, with its entry
-pub done_entered : (q : Question) (number : ℕ) (step : Step) (rank : ℕ) (action : Action) → q.rank ≡ rank → action_of q.call ≡ action → is_move action ≡ false →
-    done_on (entries_after q number step) q.window rank ≡ with_entry (done_on q.entries q.window rank) step (kept_call q.call) action
+pub done_entered : (q : Question) (number : ℕ) (step : Step) (rank : ℕ) (action : Action) → q.rank ≡ rank →
+    action_of q.call ≡ action → is_move action ≡ false →
+    done_on (entries_after q number step) q.window rank ≡ with_entry (done_on q.entries q.window rank) step
+    (kept_call q.call) action
 done_entered q number step rank action asker is stays =
     ap done (own_entered q number step rank asker)
     ∙ (done_more (own q.entries rank q.window) (entered q number step)
-    ∙ ap (λ a. with_entry (done_on q.entries q.window rank) step (kept_call q.call) a) (kept_action q.call action is stays))
+    ∙ ap (λ a. with_entry (done_on q.entries q.window rank) step (kept_call q.call) a)
+    (kept_action q.call action is stays))

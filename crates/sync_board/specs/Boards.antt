@@ -1,5 +1,7 @@
--- What a board is, and what it answers the next entry: MPI 3.1, sections 11.2, 11.5 and 11.7, in this project's profile.
-use Rattle.std.specs.Prelude.{ℕ, ◌≡◌, ◌+◌, ◌<◌, ◌≤◌, Bool, true, false, if◌then◌else◌, is_some, List, [], ◌∷◌, ◌++◌, length, slice_get, Option, Some, None, IfSome}
+-- What a board is, and what it answers the next entry: MPI 3.1, sections 11.2, 11.5 and 11.7, in this project's
+-- profile.
+use Rattle.std.specs.Prelude.{ℕ, ◌≡◌, ◌+◌, ◌<◌, ◌≤◌, Bool, true, false, if◌then◌else◌, is_some, List, [], ◌∷◌, ◌++◌}
+use Rattle.std.specs.Prelude.{length, slice_get, Option, Some, None, IfSome}
 use Rattle.std.specs.Option.{option_map, option_map_or}
 use Rattle.rma_types.specs.declared.accesses.Step.{Step}
 use Rattle.rma_types.specs.declared.accesses.Step.TheVariants.{Arrive, Leave, One}
@@ -7,7 +9,8 @@ use Rattle.rma_types.specs.declared.calls.Call.{Call}
 use Rattle.rma_types.specs.declared.scripts.Layout.{Layout}
 use Rattle.rma_types.specs.declared.scripts.MemoryPart.{MemoryPart}
 use Rattle.rma_types.specs.declared.scripts.Part.{Part}
-use Rattle.call_rules.specs.Actions.{Action, Creates, Frees, Attaches, Detaches, Synchronises, Meets, Moves, EndsRequest, Creation, Transfer, action_of, creation_of, transfer_of}
+use Rattle.call_rules.specs.Actions.{Action, Creates, Frees, Attaches, Detaches, Synchronises, Meets, Moves}
+use Rattle.call_rules.specs.Actions.{EndsRequest, Creation, Transfer, action_of, creation_of, transfer_of}
 use Rattle.call_rules.specs.Ranks.{natural}
 use Rattle.call_rules.specs.Transfers.{rank_reached, bytes_of}
 use Rattle.call_rules.specs.WellFormed.{IsWrittenCall}
@@ -24,7 +27,8 @@ use Rattle.sync_board.specs.declared.answers.Decided.{Decided}
 use Rattle.sync_board.specs.declared.answers.Decided.TheVariants.{Entered, NotYet as NotYetEntered, Refused}
 use Rattle.sync_board.specs.declared.answers.EntryRow.{EntryRow}
 
--- A board: the number of ranks, the layout of their memory, the name of the memory from which tokens come, and the entries in
+-- A board: the number of ranks, the layout of their memory, the name of the memory from which tokens come, and the
+-- entries in
 -- the order of their places, with their calls as they are kept.
 pub record BoardState : Type 0 where
   pub ranks : ℕ
@@ -74,7 +78,8 @@ is_step_of Arrive call = is_some (collective_of call)
 is_step_of Leave call = is_some (collective_of call)
 is_step_of One call = if is_some (collective_of call) then false else true
 
--- What is asked of a next entry: a rank of the run; a call that a line can say, and that passed the rank's own tests of ranks
+-- What is asked of a next entry: a rank of the run; a call that a line can say, and that passed the rank's own tests of
+-- ranks
 -- and ranges; and a step of that call.
 pub record MayAsk (ranks : ℕ) (layout : Layout) (row : Row) : Type 0 where
   pub rank : row.rank < ranks
@@ -100,7 +105,8 @@ abbrev pub ArePartsInside : Layout → ℕ → List Part → Type 0
 ArePartsInside layout ranks parts =
     (rank : ℕ) → rank < ranks → (part_at parts rank).base + (part_at parts rank).bytes ≤ bytes_at layout rank
 
--- the shape of the window that a creation makes, at its Leave: of the flavor of the call, and of the parts that the ranks'
+-- the shape of the window that a creation makes, at its Leave: of the flavor of the call, and of the parts that the
+-- ranks'
 -- arrivals brought, each inside its rank's memory
 pub record IsShapeMade (board : BoardState) (row : Row) (creation : Creation) (shape : Shape) : Type 0 where
   pub flavor : shape.flavor ≡ creation.flavor
@@ -137,13 +143,15 @@ pub record IsEntered {N : Type 0} (front : N → Front) (origin : N → List ℕ
   pub look_up : IfSome (transfer_of row.call) (LooksInside before.layout row.rank)
 
 -- the answer to a next entry, and the board after it; a gift that is not kept comes back
-abbrev pub IsAnswer : {N : Type 0} → (N → Front) → (N → List ℕ) → BoardState → Row → Option N → Decided N → BoardState → Type 0
+abbrev pub IsAnswer : {N : Type 0} → (N → Front) → (N → List ℕ) → BoardState → Row → Option N → Decided N → BoardState →
+    Type 0
 IsAnswer front origin before row gift (Entered place gained made) after =
     IsEntered front origin before row (option_map front gift) place gained made after
 IsAnswer front origin before row gift (NotYetEntered back) after =
     (decide before.ranks (rows_on before) row ≡ NotYet) × (back ≡ gift) × (after ≡ before)
 IsAnswer front origin before row gift (Refused class seen back) after =
-    (decide before.ranks (rows_on before) row ≡ Refuse class) × (seen ≡ length before.entries) × (back ≡ gift) × (after ≡ before)
+    (decide before.ranks (rows_on before) row ≡ Refuse class) × (seen ≡ length before.entries) × (back ≡ gift)
+    × (after ≡ before)
 
 abbrev pub is_allow : Decision → Bool
 is_allow (Refuse class) = false

@@ -24,7 +24,8 @@ AreInOrder bases = (rank : ℕ) → IsInOrder (slice_index_or bases rank [])
 
 -- the base for the call of a number, and 0 where there is none
 abbrev pub base_for : List CallBase → ℕ → ℕ
-base_for bases number = option_map_or (λ (one : CallBase). one.base) (find (λ (one : CallBase). one.call == number) bases) 0
+base_for bases number = option_map_or (λ (one : CallBase). one.base)
+    (find (λ (one : CallBase). one.call == number) bases) 0
 
 -- ---- the parts
 

@@ -15,7 +15,8 @@ IsNameUntouched ranks name entries = (round : ℕ) → IsUntouched ranks (window
 -- the records are those of the windows of the name, by round
 abbrev pub KeepsName : Layout → ℕ → ℕ → List Act → List WindowRecord → Type 0
 KeepsName layout ranks name entries rounds = (round : ℕ) →
-    IsAt rounds round (IsUntouched ranks (window_number round name) entries) (KeepsWindow layout ranks (window_number round name) entries)
+    IsAt rounds round (IsUntouched ranks (window_number round name) entries)
+    (KeepsWindow layout ranks (window_number round name) entries)
 
 -- the records are those of the windows of all 32 names
 abbrev pub KeepsWindows : Layout → ℕ → List Act → List NameRecord → Type 0

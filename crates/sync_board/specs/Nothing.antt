@@ -2,7 +2,9 @@
 use Rattle.std.specs.Prelude.{Bool, true, false}
 use Rattle.rma_types.specs.declared.accesses.Step.{Step}
 use Rattle.rma_types.specs.declared.accesses.Step.TheVariants.{Arrive, Leave, One}
-use Rattle.call_rules.specs.Actions.{Action, Creates, Frees, Attaches, Detaches, Synchronises, Meets, Moves, EndsRequest, Synchronisation, Fences, Posts, Starts, Completes, Waits, Locks, Unlocks, Flushes, Syncs}
+use Rattle.call_rules.specs.Actions.{Action, Creates, Frees, Attaches, Detaches, Synchronises, Meets, Moves}
+use Rattle.call_rules.specs.Actions.{EndsRequest, Synchronisation, Fences, Posts, Starts, Completes, Waits, Locks}
+use Rattle.call_rules.specs.Actions.{Unlocks, Flushes, Syncs}
 
 abbrev pub is_fence : Synchronisation → Bool
 is_fence (Fences asserts) = true
@@ -27,7 +29,8 @@ is_flush (Unlocks target) = false
 is_flush (Flushes target local) = true
 is_flush Syncs = true
 
--- the Arrive of a barrier; the Leave of a creation, a fence or a barrier; a look-up, a flush, a sync, and the end of a request
+-- the Arrive of a barrier; the Leave of a creation, a fence or a barrier; a look-up, a flush, a sync, and the end of a
+-- request
 abbrev pub brings_nothing : Step → Action → Bool
 brings_nothing Arrive (Creates creation) = false
 brings_nothing Arrive (Frees win) = false

@@ -7,9 +7,11 @@ use Rattle.rma_types.specs.declared.calls.Flavor.{Flavor}
 use Rattle.call_rules.specs.Actions.{Creation, creation_of, synchronisation_of}
 use Rattle.board_rules.specs.Rounds.{asserts_of_fence}
 use Rattle.sync_board.specs.Sides.{Done}
-use Rattle.board_rules.specs.Entries.{Collective, Creation as CreationCollective, Freeing as FreeingCollective, Fence as FenceCollective}
+use Rattle.board_rules.specs.Entries.{Collective, Creation as CreationCollective, Freeing as FreeingCollective}
+use Rattle.board_rules.specs.Entries.{Fence as FenceCollective}
 use Rattle.sync_board.specs.declared.rounds.Kind.{Kind}
-use Rattle.sync_board.specs.declared.rounds.Kind.TheVariants.{Creation as CreationKind, Freeing as FreeingKind, Fence as FenceKind}
+use Rattle.sync_board.specs.declared.rounds.Kind.TheVariants.{Creation as CreationKind, Freeing as FreeingKind}
+use Rattle.sync_board.specs.declared.rounds.Kind.TheVariants.{Fence as FenceKind}
 use Rattle.sync_board.specs.declared.rounds.Rounds.{Rounds}
 
 -- the assertions of a fence

@@ -1,6 +1,8 @@
--- What one rank has done on one window, by its entries there: MPI 3.1, sections 11.2 and 11.5. The board keeps it in counts
+-- What one rank has done on one window, by its entries there: MPI 3.1, sections 11.2 and 11.5. The board keeps it in
+-- counts
 -- and tables, a side for each rank and window.
-use Rattle.std.specs.Prelude.{◌≡◌, ℕ, ◌+◌, ◌<◌, Bool, true, false, ◌&&◌, ◌==◌, nat_lt, if◌then◌else◌, List, [], ◌∷◌, ◌++◌, length, map, take, reverse, slice_index, slice_index_or}
+use Rattle.std.specs.Prelude.{◌≡◌, ℕ, ◌+◌, ◌<◌, Bool, true, false, ◌&&◌, ◌==◌, nat_lt, if◌then◌else◌, List, [], ◌∷◌}
+use Rattle.std.specs.Prelude.{◌++◌, length, map, take, reverse, slice_index, slice_index_or}
 use Rattle.std.specs.List.{count_by, filter, flat_map, fold}
 use Rattle.std.specs.Option.{option_map_or}
 use Rattle.rma_types.specs.declared.calls.Call.{Call}
@@ -19,14 +21,17 @@ own entries rank window = filter (is_by_on rank window) entries
 
 -- the synchronisations among a rank's entries on a window
 abbrev pub synchronised : List Act → List Synchronisation
-synchronised entries = flat_map (λ (act : Act). option_map_or (λ s. s ∷ []) (synchronisation_of act.row.call) []) entries
+synchronised entries = flat_map (λ (act : Act). option_map_or (λ s. s ∷ []) (synchronisation_of act.row.call) [])
+    entries
 
 -- the calls with which it has arrived at a collective
 abbrev pub arrived : Collective → List Act → List Call
 arrived collective entries =
-    map (λ (act : Act). act.row.call) (filter (λ (act : Act). is_arrive act.row.step && is_collective collective act.row.call) entries)
+    map (λ (act : Act). act.row.call)
+    (filter (λ (act : Act). is_arrive act.row.step && is_collective collective act.row.call) entries)
 
--- What a rank has done on a window: the groups of its posts and of its starts, how many completes and waits, its arrivals at
+-- What a rank has done on a window: the groups of its posts and of its starts, how many completes and waits, its
+-- arrivals at
 -- the window's creation, frees and fences, and the ranges that it has attached.
 pub record Done : Type 0 where
   pub posts : List (List ℕ)
@@ -85,9 +90,11 @@ CountsGroups counts groups = (rank : ℕ) → rank < 16 → slice_index counts r
 -- for each of 16 ranks one more where the group has it
 abbrev pub IsRaised : List ℕ → List Bool → List ℕ → Type 0
 IsRaised counts named raised =
-    (rank : ℕ) → rank < 16 → slice_index raised rank ≡ slice_index counts rank + (if slice_index_or named rank false then 1 else 0)
+    (rank : ℕ) → rank < 16 → slice_index raised rank ≡ slice_index counts rank +
+    (if slice_index_or named rank false then 1 else 0)
 
--- The counts and tables of a side are those of what its rank has done. A start is completed by the complete of its number.
+-- The counts and tables of a side are those of what its rank has done. A start is completed by the complete of its
+-- number.
 pub record Keeps (d : Done) (side : Side) : Type 0 where
   pub posts : side.posts ≡ length d.posts
   pub waits : side.waits ≡ d.waits

@@ -17,7 +17,8 @@ pub enum Decided<N: Drop> {
     Entered {
         /// Its place in the list, from 0.
         place: u32,
-        /// What the gifts of the entries carry from which an edge leads to this one; none where none of them had a gift.
+        /// What the gifts of the entries carry from which an edge leads to this one; none where none of them had a
+        /// gift.
         gained: Option<N>,
         /// The window that is made, at the Leave of a creation.
         made: Option<Shape>,

@@ -7,7 +7,8 @@ ghost use Rattle.call_rules.specs.Transfers.{rank_reached};
 use crate::truths::natural;
 use rma_types::{Call, Class, Step};
 
-/// A next entry: its rank among so many, the number of its call in the rank's list, its call and step, and the name, the
+/// A next entry: its rank among so many, the number of its call in the rank's list, its call and step, and the name,
+/// the
 /// round and the number of the window that it is on. An entry on no window counts as on that of number 0.
 #[derive(Clone, Copy, Debug)]
 pub(crate) struct Asked<'c> {

@@ -1,10 +1,12 @@
 //! What a next entry is answered, by what is kept of its window (MPI 3.1, section 11.5).
-ghost use Rattle.std.specs.Prelude.{◌≡◌, ◌≢◌, ℕ, ◌+◌, ◌^◌, ◌<◌, ◌≤◌, Bool, true, false, Some, None, List, ℤ, pos, length};
+ghost use Rattle.std.specs.Prelude.{◌≡◌, ◌≢◌, ℕ, ◌+◌, ◌^◌, ◌<◌, ◌≤◌, Bool, true, false, Some, None, List, ℤ, pos};
+ghost use Rattle.std.specs.Prelude.{length};
 ghost use Rattle.rma_types.specs.declared.accesses.Step.TheVariants.{Arrive, Leave, One};
 ghost use Rattle.rma_types.specs.declared.classes.Class.TheVariants.{Range as RangeClass};
 ghost use Rattle.rma_types.specs.declared.calls.Lock.TheVariants.{Shared as SharedLock};
 ghost use Rattle.rma_types.specs.declared.scripts.Layout.{Layout};
-ghost use Rattle.call_rules.specs.Actions.{Creates, Creation, Fences, Locks, Moves, Posts, Starts, Synchronises, Transfer, Waits, action_of};
+ghost use Rattle.call_rules.specs.Actions.{Creates, Creation, Fences, Locks, Moves, Posts, Starts, Synchronises};
+ghost use Rattle.call_rules.specs.Actions.{Transfer, Waits, action_of};
 ghost use Rattle.call_rules.specs.Ranks.{natural as natural_of};
 ghost use Rattle.call_rules.specs.Transfers.{rank_reached};
 ghost use Rattle.board_rules.specs.AttachedRanges.{reaches_unattached};

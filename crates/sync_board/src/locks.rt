@@ -1,5 +1,6 @@
 //! The locks of one window (MPI 3.1, section 11.5.3).
-ghost use Rattle.std.specs.Prelude.{◌≡◌, ℕ, ◌+◌, ◌-◌, ◌<◌, ◌≤◌, not, true, false, List, [], ◌∷◌, ◌++◌, Option, Some, None, ℤ};
+ghost use Rattle.std.specs.Prelude.{◌≡◌, ℕ, ◌+◌, ◌-◌, ◌<◌, ◌≤◌, not, true, false, List, [], ◌∷◌, ◌++◌, Option, Some};
+ghost use Rattle.std.specs.Prelude.{None, ℤ};
 ghost use Rattle.std.specs.List.{list_any};
 ghost use Rattle.rma_types.specs.declared.calls.Lock.TheVariants.{Shared as SharedLock};
 ghost use Rattle.call_rules.specs.Ranks.{natural};
@@ -7,7 +8,8 @@ ghost use Rattle.board_rules.specs.Entries.{Act};
 ghost use Rattle.board_rules.specs.Locks.{Held, are_free, do_clash, is_locked as is_locked_at, locks_asked};
 ghost use Rattle.board_rules.specs.Questions.{Question};
 ghost use Rattle.lock_table.specs.HeldLocks.{HasSameLocks, kept, lock};
-ghost use Rattle.sync_board.specs.KeptLocks.{AllOn, AtRanks, KeepsLocks, asked_from, clashes, left_by, lock_in, unlock_in};
+ghost use Rattle.sync_board.specs.KeptLocks.{AllOn, AtRanks, KeepsLocks, asked_from, clashes, left_by, lock_in};
+ghost use Rattle.sync_board.specs.KeptLocks.{unlock_in};
 
 use lock_table::LockTable;
 use rma_types::Lock;

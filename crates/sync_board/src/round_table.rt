@@ -4,8 +4,10 @@ ghost use Rattle.std.specs.List.{list_any};
 ghost use Rattle.rma_types.specs.declared.calls.Call.{Call};
 ghost use Rattle.board_rules.specs.Entries.{collective_of};
 ghost use Rattle.board_rules.specs.Questions.{Question};
-ghost use Rattle.board_rules.specs.Rounds.{all_arrived, has_other_asserts, has_other_flavor, is_differing_creation, is_differing_fence};
-ghost use Rattle.sync_board.specs.Rounds.{arrival_in, arrivals_by, asserts_in, collective_by, flavor_in, with_creation, with_fence, with_free};
+ghost use Rattle.board_rules.specs.Rounds.{all_arrived, has_other_asserts, has_other_flavor, is_differing_creation};
+ghost use Rattle.board_rules.specs.Rounds.{is_differing_fence};
+ghost use Rattle.sync_board.specs.Rounds.{arrival_in, arrivals_by, asserts_in, collective_by, flavor_in, with_creation};
+ghost use Rattle.sync_board.specs.Rounds.{with_fence, with_free};
 ghost use Rattle.sync_board.specs.Sides.{Done, done_at};
 ghost use Rattle.sync_board.specs.Tables.{HasNoRounds, IsSameFor, KeepsRounds};
 

@@ -5,9 +5,11 @@ ghost use Rattle.rma_types.specs.declared.calls.Call.{Call};
 ghost use Rattle.rank_rules.specs.Windows.{is_same_flavor};
 ghost use Rattle.board_rules.specs.Entries.{collective_of};
 ghost use Rattle.board_rules.specs.Questions.{Question};
-ghost use Rattle.board_rules.specs.Rounds.{all_arrived, do_asserts_differ, has_other_asserts, has_other_flavor, is_differing_creation, is_differing_fence};
+ghost use Rattle.board_rules.specs.Rounds.{all_arrived, do_asserts_differ, has_other_asserts, has_other_flavor};
+ghost use Rattle.board_rules.specs.Rounds.{is_differing_creation, is_differing_fence};
 ghost use Rattle.sync_board.specs.Sides.{Done, done_at};
-ghost use Rattle.sync_board.specs.Rounds.{HasRounds, arrival_in, arrivals_by, asserts_in, flavor_in, with_creation, with_fence, with_free};
+ghost use Rattle.sync_board.specs.Rounds.{HasRounds, arrival_in, arrivals_by, asserts_in, flavor_in, with_creation};
+ghost use Rattle.sync_board.specs.Rounds.{with_fence, with_free};
 ghost use Rattle.sync_board.specs.Tables.{HasNoRounds};
 
 use crate::grown::Idle;

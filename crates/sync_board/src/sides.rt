@@ -1,6 +1,7 @@
 //! What one rank has done on one window, in counts and tables (MPI 3.1, section 11.5.2).
 ghost use Rattle.std.specs.Prelude.{◌≡◌, ℕ, ◌+◌, nat_lt, List, [], ◌∷◌, ◌++◌, length, take, IfSome, OnOk, OnErr};
-ghost use Rattle.sync_board.specs.Sides.{CountsGroups, Done, IsGroup, IsRaised, Keeps, with_post, with_start, with_complete, with_wait};
+ghost use Rattle.sync_board.specs.Sides.{CountsGroups, Done, IsGroup, IsRaised, Keeps, with_post, with_start};
+ghost use Rattle.sync_board.specs.Sides.{with_complete, with_wait};
 ghost use Rattle.sync_board.specs.Tables.{HasNoSide};
 
 use crate::grown::Idle;

@@ -1,11 +1,13 @@
 //! All that the board keeps of its entries but the entries themselves (MPI 3.1, sections 11.2 and 11.5).
-ghost use Rattle.std.specs.Prelude.{◌≡◌, ℕ, ◌-◌, ◌<◌, ◌^◌, ◌&&◌, true, false, if◌then◌else◌, Some, List, [], ◌∷◌, ◌++◌, slice_index, OnOk, OnErr};
+ghost use Rattle.std.specs.Prelude.{◌≡◌, ℕ, ◌-◌, ◌<◌, ◌^◌, ◌&&◌, true, false, if◌then◌else◌, Some, List, [], ◌∷◌, ◌++◌};
+ghost use Rattle.std.specs.Prelude.{slice_index, OnOk, OnErr};
 ghost use Rattle.rma_types.specs.declared.scripts.Layout.{Layout};
 ghost use Rattle.rma_types.specs.declared.accesses.Step.TheVariants.{Arrive, Leave};
 ghost use Rattle.rma_types.specs.declared.calls.Call.TheVariants.{Barrier as BarrierCall};
 ghost use Rattle.call_rules.specs.WellFormed.{IsWrittenCall};
 ghost use Rattle.board_rules.specs.Board.{Allow, decide};
-ghost use Rattle.board_rules.specs.Entries.{Barrier as BarrierCollective, Row, acts, collective_of, creations, is_arrive, is_collective};
+ghost use Rattle.board_rules.specs.Entries.{Barrier as BarrierCollective, Row, acts, collective_of, creations};
+ghost use Rattle.board_rules.specs.Entries.{is_arrive, is_collective};
 ghost use Rattle.board_rules.specs.Questions.{Question};
 ghost use Rattle.board_rules.specs.Rounds.{all_arrived};
 ghost use Rattle.kept_rows.specs.KeptCalls.{kept_row};

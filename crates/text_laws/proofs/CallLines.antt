@@ -1,16 +1,39 @@
 -- The line of a call is read as the call.
-use Rattle.std.proofs.Common.{◌≡◌, ℕ, Bool, true, cond, List, ◌∷◌, Option, Some, None, Ok, Err, Result, ℤ, refl, ap, ◌∙◌}
+use Rattle.std.proofs.Common.{◌≡◌, ℕ, Bool, true, cond, List, ◌∷◌, Option, Some, None, Ok, Err, Result, ℤ, refl, ap}
+use Rattle.std.proofs.Common.{◌∙◌}
 use Rattle.std.specs.Prelude.{IfSome}
 use Rattle.std.specs.List.{AllByRecursion, flat_map}
 use Rattle.rma_types.specs.declared.calls.Call.{Call as MpiCall}
-use Rattle.rma_types.specs.declared.calls.Call.TheVariants.{Allocate, Create, Dynamic, Free, Attach, Detach, Fence, Post, Start, Complete, WaitWin, TestWin, LockOne, Unlock, LockAll, UnlockAll, Flush, FlushAll, FlushLocal, FlushLocalAll, Sync, Barrier, Put, Get, Acc, GetAcc, Fop, Cas, Load, Store, WaitReq, TestReq}
+use Rattle.rma_types.specs.declared.calls.Call.TheVariants.{Allocate, Create, Dynamic, Free, Attach, Detach, Fence}
+use Rattle.rma_types.specs.declared.calls.Call.TheVariants.{Post, Start, Complete, WaitWin, TestWin, LockOne, Unlock}
+use Rattle.rma_types.specs.declared.calls.Call.TheVariants.{LockAll, UnlockAll, Flush, FlushAll, FlushLocal}
+use Rattle.rma_types.specs.declared.calls.Call.TheVariants.{FlushLocalAll, Sync, Barrier, Put, Get, Acc, GetAcc, Fop}
+use Rattle.rma_types.specs.declared.calls.Call.TheVariants.{Cas, Load, Store, WaitReq, TestReq}
 use Rattle.call_rules.specs.Actions.{target_of}
 use Rattle.call_rules.specs.WellFormed.{IsNumber, IsWrittenTarget, IsWrittenCall}
 use Rattle.script_language.specs.declared.drafts.Draft.{Draft}
 use Rattle.script_language.specs.declared.faults.FaultKind.{FaultKind}
 use Rattle.script_language.specs.declared.faults.FaultKind.TheVariants.{Word, Shape}
 use Rattle.script_language.specs.declared.fields.Fields.{Fields}
-use Rattle.script_language.specs.declared.forms.CallForm.TheVariants.{Allocate as AllocateForm, Create as CreateForm, Dynamic as DynamicForm, Free as FreeForm, Attach as AttachForm, Detach as DetachForm, Fence as FenceForm, Post as PostForm, Start as StartForm, Complete as CompleteForm, WaitWin as WaitWinForm, TestWin as TestWinForm, LockOne as LockOneForm, Unlock as UnlockForm, LockAll as LockAllForm, UnlockAll as UnlockAllForm, Flush as FlushForm, FlushAll as FlushAllForm, FlushLocal as FlushLocalForm, FlushLocalAll as FlushLocalAllForm, Sync as SyncForm, Barrier as BarrierForm, Put as PutForm, RequestPut, Get as GetForm, RequestGet, Acc as AccForm, RequestAcc, GetAcc as GetAccForm, RequestGetAcc, Fop as FopForm, Cas as CasForm, Load as LoadForm, Store as StoreForm, WaitReq as WaitReqForm, TestReq as TestReqForm}
+use Rattle.script_language.specs.declared.forms.CallForm.TheVariants.{Allocate as AllocateForm, Create as CreateForm}
+use Rattle.script_language.specs.declared.forms.CallForm.TheVariants.{Dynamic as DynamicForm, Free as FreeForm}
+use Rattle.script_language.specs.declared.forms.CallForm.TheVariants.{Attach as AttachForm, Detach as DetachForm}
+use Rattle.script_language.specs.declared.forms.CallForm.TheVariants.{Fence as FenceForm, Post as PostForm}
+use Rattle.script_language.specs.declared.forms.CallForm.TheVariants.{Start as StartForm, Complete as CompleteForm}
+use Rattle.script_language.specs.declared.forms.CallForm.TheVariants.{WaitWin as WaitWinForm, TestWin as TestWinForm}
+use Rattle.script_language.specs.declared.forms.CallForm.TheVariants.{LockOne as LockOneForm, Unlock as UnlockForm}
+use Rattle.script_language.specs.declared.forms.CallForm.TheVariants.{LockAll as LockAllForm}
+use Rattle.script_language.specs.declared.forms.CallForm.TheVariants.{UnlockAll as UnlockAllForm, Flush as FlushForm}
+use Rattle.script_language.specs.declared.forms.CallForm.TheVariants.{FlushAll as FlushAllForm}
+use Rattle.script_language.specs.declared.forms.CallForm.TheVariants.{FlushLocal as FlushLocalForm}
+use Rattle.script_language.specs.declared.forms.CallForm.TheVariants.{FlushLocalAll as FlushLocalAllForm}
+use Rattle.script_language.specs.declared.forms.CallForm.TheVariants.{Sync as SyncForm, Barrier as BarrierForm}
+use Rattle.script_language.specs.declared.forms.CallForm.TheVariants.{Put as PutForm, RequestPut, Get as GetForm}
+use Rattle.script_language.specs.declared.forms.CallForm.TheVariants.{RequestGet, Acc as AccForm, RequestAcc}
+use Rattle.script_language.specs.declared.forms.CallForm.TheVariants.{GetAcc as GetAccForm, RequestGetAcc}
+use Rattle.script_language.specs.declared.forms.CallForm.TheVariants.{Fop as FopForm, Cas as CasForm, Load as LoadForm}
+use Rattle.script_language.specs.declared.forms.CallForm.TheVariants.{Store as StoreForm, WaitReq as WaitReqForm}
+use Rattle.script_language.specs.declared.forms.CallForm.TheVariants.{TestReq as TestReqForm}
 use Rattle.script_language.specs.declared.forms.Form.{Form}
 use Rattle.script_language.specs.declared.forms.Form.TheVariants.{Ranks, Space, Rank, Repeat, End, Call}
 use Rattle.script_language.specs.Answers.{◌>>=◌, found_or}
@@ -22,7 +45,8 @@ use Rattle.script_language.specs.Spelling.{spelled}
 use Rattle.script_language.specs.Tokens.{tokens_read}
 use Rattle.script_language.specs.Words.{form_named}
 use Rattle.text_laws.proofs.Lines.{IsPlain}
-use Rattle.text_laws.proofs.Places.{filled, AreSaid, places_said, places_plain}
+use Rattle.text_laws.proofs.Places.{places_said, places_plain}
+use Rattle.text_laws.proofs.Tokens.{filled, AreSaid}
 
 target_said : (target : Option ℤ) → IsWrittenTarget (target_of target) → IfSome target IsNumber
 target_said None h = tt
@@ -52,23 +76,58 @@ call_said (FlushLocal win target) h = (h.0, (h.1, tt))
 call_said (FlushLocalAll win) h = (h.0, tt)
 call_said (Sync win) h = (h.0, tt)
 call_said Barrier h = tt
-call_said (Put None win target disp dtype values) h = (h.name, (target_said target h.rank, (h.place, (tt, ((refl, refl, refl, h.amount, h.patterns), tt)))))
-call_said (Put (Some req) win target disp dtype values) h = (h.named_request, (h.name, (target_said target h.rank, (h.place, (tt, ((refl, refl, refl, h.amount, h.patterns), tt))))))
-call_said (Get None win target disp dtype count) h = (h.name, (target_said target h.rank, (h.place, (tt, (h.elements, tt)))))
-call_said (Get (Some req) win target disp dtype count) h = (h.named_request, (h.name, (target_said target h.rank, (h.place, (tt, (h.elements, tt))))))
-call_said (Acc None win target disp dtype op values) h = (h.name, (target_said target h.rank, (h.place, (tt, (tt, ((refl, refl, refl, h.amount, h.patterns), tt))))))
-call_said (Acc (Some req) win target disp dtype op values) h = (h.named_request, (h.name, (target_said target h.rank, (h.place, (tt, (tt, ((refl, refl, refl, h.amount, h.patterns), tt)))))))
-call_said (GetAcc None win target disp dtype op values) h = (h.name, (target_said target h.rank, (h.place, (tt, (tt, ((refl, refl, refl, h.amount, h.patterns), tt))))))
-call_said (GetAcc (Some req) win target disp dtype op values) h = (h.named_request, (h.name, (target_said target h.rank, (h.place, (tt, (tt, ((refl, refl, refl, h.amount, h.patterns), tt)))))))
-call_said (Fop win target disp dtype op value) h = (h.name, (target_said target h.rank, (h.place, (tt, (tt, ((refl, h.patterns.0), tt))))))
-call_said (Cas win target disp dtype compare new) h = (h.name, (target_said target h.rank, (h.place, (tt, ((refl, h.compared), ((refl, h.patterns.0), tt))))))
+call_said (Put None win target disp dtype values) h =
+    (h.name, (target_said target h.rank, (h.place, (tt, ((refl, refl, refl, h.amount, h.patterns), tt)))))
+call_said (Put (Some req) win target disp dtype values) h = (
+  h.named_request,
+  (
+    h.name,
+    (
+      target_said target h.rank,
+      (h.place, (tt, ((refl, refl, refl, h.amount, h.patterns), tt))),
+    ),
+  ),
+)
+call_said (Get None win target disp dtype count) h =
+    (h.name, (target_said target h.rank, (h.place, (tt, (h.elements, tt)))))
+call_said (Get (Some req) win target disp dtype count) h =
+    (h.named_request, (h.name, (target_said target h.rank, (h.place, (tt, (h.elements, tt))))))
+call_said (Acc None win target disp dtype op values) h =
+    (h.name, (target_said target h.rank, (h.place, (tt, (tt, ((refl, refl, refl, h.amount, h.patterns), tt))))))
+call_said (Acc (Some req) win target disp dtype op values) h = (
+  h.named_request,
+  (
+    h.name,
+    (
+      target_said target h.rank,
+      (h.place, (tt, (tt, ((refl, refl, refl, h.amount, h.patterns), tt)))),
+    ),
+  ),
+)
+call_said (GetAcc None win target disp dtype op values) h =
+    (h.name, (target_said target h.rank, (h.place, (tt, (tt, ((refl, refl, refl, h.amount, h.patterns), tt))))))
+call_said (GetAcc (Some req) win target disp dtype op values) h = (
+  h.named_request,
+  (
+    h.name,
+    (
+      target_said target h.rank,
+      (h.place, (tt, (tt, ((refl, refl, refl, h.amount, h.patterns), tt)))),
+    ),
+  ),
+)
+call_said (Fop win target disp dtype op value) h =
+    (h.name, (target_said target h.rank, (h.place, (tt, (tt, ((refl, h.patterns.0), tt))))))
+call_said (Cas win target disp dtype compare new) h =
+    (h.name, (target_said target h.rank, (h.place, (tt, ((refl, h.compared), ((refl, h.patterns.0), tt))))))
 call_said (Load win disp dtype count) h = (h.name, (h.place, (tt, (h.elements, tt))))
 call_said (Store win disp dtype values) h = (h.name, (h.place, (tt, ((refl, refl, refl, h.amount, h.patterns), tt))))
 call_said (WaitReq req) h = (h, tt)
 call_said (TestReq req) h = (h, tt)
 
 -- what is read is the call
-call_back : (call : MpiCall) → call_of (form_of call) (filled no_fields (fields_of call) (call_places (form_of call))) ≡ call
+call_back : (call : MpiCall) → call_of (form_of call) (filled no_fields (fields_of call) (call_places (form_of call))) ≡
+    call
 call_back (Allocate win bytes unit) = refl
 call_back (Create win base bytes unit) = refl
 call_back (Dynamic win) = refl
@@ -193,7 +252,10 @@ word_plain (Call WaitReqForm) = record { some = refl; bytes = refl }
 word_plain (Call TestReqForm) = record { some = refl; bytes = refl }
 
 -- a line where it may stand, whose tokens can be read
-pub line_said : (draft : Draft) (form : Form) (fields told : Fields) → may_stand draft form ≡ true → tokens_read draft no_fields (places_of form) (flat_map (spelled fields) (places_of form)) ≡ Ok told → line_read draft (word_of_form form ∷ flat_map (spelled fields) (places_of form)) ≡ limited (with_line draft form told)
+pub line_said : (draft : Draft) (form : Form) (fields told : Fields) → may_stand draft form ≡ true →
+    tokens_read draft no_fields (places_of form) (flat_map (spelled fields) (places_of form)) ≡ Ok told →
+    line_read draft (word_of_form form ∷ flat_map (spelled fields) (places_of form)) ≡ limited
+    (with_line draft form told)
 line_said draft form fields told stands reads =
     let tokens = flat_map (spelled fields) (places_of form) in
     ap (λ (o : Option Form). (found_or Word o >>= placed draft) >>= rest_read draft tokens) (word_back form)
@@ -205,10 +267,17 @@ abbrev pub call_tokens : MpiCall → List (List ℕ)
 call_tokens call = word_of_form (Call (form_of call)) ∷ flat_map (spelled (fields_of call)) (call_places (form_of call))
 
 -- the line of a call, in a block
-pub call_line_said : (draft : Draft) (call : MpiCall) → IsWrittenCall call → is_in_block draft ≡ true → line_read draft (call_tokens call) ≡ limited (with_call draft call)
+pub call_line_said : (draft : Draft) (call : MpiCall) → IsWrittenCall call → is_in_block draft ≡ true →
+    line_read draft (call_tokens call) ≡ limited (with_call draft call)
 call_line_said draft call written begun =
-    line_said draft (Call (form_of call)) (fields_of call) (filled no_fields (fields_of call) (call_places (form_of call))) begun (places_said draft no_fields (fields_of call) (call_places (form_of call)) (call_said call written))
+    line_said draft (Call (form_of call)) (fields_of call)
+    (filled no_fields (fields_of call) (call_places (form_of call))) begun
+    (places_said draft no_fields (fields_of call) (call_places (form_of call)) (call_said call written))
     ∙ ap (λ (said : MpiCall). limited (with_call draft said)) (call_back call)
 
 pub call_tokens_plain : (call : MpiCall) → IsWrittenCall call → AllByRecursion IsPlain (call_tokens call)
-call_tokens_plain call written = (word_plain (Call (form_of call)), places_plain no_fields (fields_of call) (call_places (form_of call)) (call_said call written))
+call_tokens_plain call written = (
+  word_plain (Call (form_of call)),
+  places_plain no_fields (fields_of call)
+      (call_places (form_of call)) (call_said call written),
+)

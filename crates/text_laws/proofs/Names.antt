@@ -1,5 +1,6 @@
 -- Names and bit patterns that are printed are read as they were.
-use Rattle.std.proofs.Common.{◌≡◌, ℕ, zero, suc, ◌+◌, ◌-◌, ◌*◌, ◌%◌, ◌<◌, ◌≤◌, true, false, cond, ltb, eqb, List, [], ◌∷◌, Some, Ok, Result, ℤ, pos, negsuc, refl, ap, ◌∙◌, arith, ◌⊎◌, inl, inr}
+use Rattle.std.proofs.Common.{◌≡◌, ℕ, zero, suc, ◌+◌, ◌-◌, ◌*◌, ◌%◌, ◌<◌, ◌≤◌, true, false, cond, ltb, eqb, List, []}
+use Rattle.std.proofs.Common.{◌∷◌, Some, Ok, Result, ℤ, pos, negsuc, refl, ap, ◌∙◌, arith, ◌⊎◌, inl, inr}
 use Rattle.std.specs.Prelude.{find, int_le}
 use Rattle.std.specs.List.{range_with_len}
 use Rattle.std.specs.Str.{bytes_eq}
@@ -36,14 +37,19 @@ equal_bytes (x ∷ xs) (y ∷ ys) h =
     cc
 
 -- the first name that is spelled as this one is this one
-name_found : (spelling : ℕ → List ℕ) (from many n : ℕ) → ((m : ℕ) → m < from + many → spelling m ≡ spelling n → m ≡ n) → from ≤ n → n < from + many → find (λ x. bytes_eq (spelling x) (spelling n)) (range_with_len from many) ≡ Some n
+name_found : (spelling : ℕ → List ℕ) (from many n : ℕ) → ((m : ℕ) → m < from + many → spelling m ≡ spelling n → m ≡ n) →
+    from ≤ n → n < from + many → find (λ x. bytes_eq (spelling x) (spelling n)) (range_with_len from many) ≡ Some n
 name_found spelling from zero n apart low high = absurd (omega arith)
 name_found spelling from (suc many) n apart low high =
     elim (cases_lt from n) [
       | inl before ↦
-          (elim (bytes_eq (spelling from) (spelling n)) as (λ b. bytes_eq (spelling from) (spelling n) ≡ b → cond b (Some from) (find (λ x. bytes_eq (spelling x) (spelling n)) (range_with_len (from + 1) many)) ≡ Some n) [
-            | true ↦ λ e. absurd (let same : from ≡ n = apart from (omega arith) (equal_bytes (spelling from) (spelling n) e) in omega arith)
-            | false ↦ λ e. name_found spelling (from + 1) many n (λ m below. apart m (omega arith)) (omega arith) (omega arith)
+          (elim (bytes_eq (spelling from) (spelling n)) as (λ b. bytes_eq (spelling from) (spelling n) ≡ b →
+          cond b (Some from) (find (λ x. bytes_eq (spelling x) (spelling n)) (range_with_len (from + 1) many)) ≡
+          Some n) [
+            | true ↦ λ e. absurd (let same : from ≡ n = apart from (omega arith)
+                (equal_bytes (spelling from) (spelling n) e) in omega arith)
+            | false ↦ λ e. name_found spelling (from + 1) many n (λ m below. apart m (omega arith)) (omega arith)
+                (omega arith)
           ] refl)
       | inr past ↦ let same : from ≡ n = omega arith in rw (same, same_bytes (spelling n)) refl
     ]
@@ -55,10 +61,12 @@ request_apart : (m n : ℕ) → m < 64 → n < 64 → request_text m ≡ request
 request_apart m n few h same = decimal_injective m n (omega arith) (omega arith) cc
 
 pub window_back : (win : ℕ) → win < 32 → window_named (window_text win) ≡ Some win
-window_back win h = name_found window_text 0 32 win (λ m below. window_apart m win (omega arith) h) (omega arith) (omega arith)
+window_back win h = name_found window_text 0 32 win (λ m below. window_apart m win (omega arith) h) (omega arith)
+    (omega arith)
 
 pub request_back : (req : ℕ) → req < 64 → request_named (request_text req) ≡ Some req
-request_back req h = name_found request_text 0 64 req (λ m below. request_apart m req (omega arith) h) (omega arith) (omega arith)
+request_back req h = name_found request_text 0 64 req (λ m below. request_apart m req (omega arith) h) (omega arith)
+    (omega arith)
 
 pub window_plain : (win : ℕ) → win < 32 → IsPlain (window_text win)
 window_plain win h = record { some = refl; bytes = (number_plain win (omega arith)).bytes }
@@ -78,14 +86,17 @@ record IsElement (dtype : Dtype) (pattern : ℕ) : Type 0 where
 small_rest : (n k : ℕ) → n < k → n % k ≡ n
 small_rest n k h = grind (arith, common_steps)
 
-signed_case : (half pattern : ℕ) → ((pattern < half) × (signed_number half pattern ≡ pos pattern)) ⊎ ((half ≤ pattern) × (signed_number half pattern ≡ negsuc (2 * half - 1 - pattern)))
+signed_case : (half pattern : ℕ) → ((pattern < half) × (signed_number half pattern ≡ pos pattern))
+    ⊎ ((half ≤ pattern) × (signed_number half pattern ≡ negsuc (2 * half - 1 - pattern)))
 signed_case half pattern =
     elim (cases_lt pattern half) [
       | inl below ↦ let test : ltb pattern half ≡ true = grind (arith, common_steps) in inl (below, rw test refl)
       | inr past ↦ let test : ltb pattern half ≡ false = grind (arith, common_steps) in inr (past, rw test refl)
     ]
 
-signed_element : (dtype : Dtype) (half pattern : ℕ) → (k : ℕ) → half ≡ suc k → half ≤ 2147483648 → patterns_of dtype ≡ 2 * half → number_of dtype pattern ≡ signed_number half pattern → least_of dtype ≡ negsuc k → greatest_of dtype ≡ pos k → pattern < 2 * half → IsElement dtype pattern
+signed_element : (dtype : Dtype) (half pattern : ℕ) → (k : ℕ) → half ≡ suc k → half ≤ 2147483648 →
+    patterns_of dtype ≡ 2 * half → number_of dtype pattern ≡ signed_number half pattern → least_of dtype ≡ negsuc k →
+    greatest_of dtype ≡ pos k → pattern < 2 * half → IsElement dtype pattern
 signed_element dtype half pattern k is few many says low high within =
     elim (signed_case half pattern) [
       | inl small ↦
@@ -107,7 +118,9 @@ signed_element dtype half pattern k is few many says low high within =
           }
     ]
 
-unsigned_element : (dtype : Dtype) (most pattern : ℕ) → most < 4294967296 → patterns_of dtype ≡ suc most → number_of dtype pattern ≡ pos pattern → least_of dtype ≡ pos 0 → greatest_of dtype ≡ pos most → pattern < suc most → IsElement dtype pattern
+unsigned_element : (dtype : Dtype) (most pattern : ℕ) → most < 4294967296 → patterns_of dtype ≡ suc most →
+    number_of dtype pattern ≡ pos pattern → least_of dtype ≡ pos 0 → greatest_of dtype ≡ pos most → pattern < suc most →
+    IsElement dtype pattern
 unsigned_element dtype most pattern few many z low high within =
     record {
       short = rw z (omega arith);
@@ -128,9 +141,12 @@ element Byte pattern h = unsigned_element Byte 255 pattern (omega arith) refl re
 pub pattern_plain : (dtype : Dtype) (pattern : ℕ) → pattern < patterns_of dtype → IsPlain (pattern_text dtype pattern)
 pattern_plain dtype pattern h = integer_plain (number_of dtype pattern) (element dtype pattern h).short
 
-pub pattern_back : (fields : Fields) (dtype : Dtype) (pattern : ℕ) → fields.dtype ≡ dtype → pattern < patterns_of dtype → pattern_read fields (pattern_text dtype pattern) ≡ Ok pattern
+pub pattern_back : (fields : Fields) (dtype : Dtype) (pattern : ℕ) → fields.dtype ≡ dtype →
+    pattern < patterns_of dtype → pattern_read fields (pattern_text dtype pattern) ≡ Ok pattern
 pattern_back fields dtype pattern is h =
     let one = element dtype pattern h in
-    ap (λ (d : Dtype). integer_within (least_of d) (greatest_of d) (pattern_text dtype pattern) >>= λ (z : ℤ). Ok (pattern_of d z)) is
-    ∙ ap (λ (r : Result ℤ _). r >>= λ (z : ℤ). Ok (pattern_of dtype z)) (within_back (least_of dtype) (greatest_of dtype) (number_of dtype pattern) one.short one.least one.most)
+    ap (λ (d : Dtype). integer_within (least_of d) (greatest_of d) (pattern_text dtype pattern) >>= λ (z : ℤ). Ok
+    (pattern_of d z)) is
+    ∙ ap (λ (r : Result ℤ _). r >>= λ (z : ℤ). Ok (pattern_of dtype z))
+    (within_back (least_of dtype) (greatest_of dtype) (number_of dtype pattern) one.short one.least one.most)
     ∙ ap (λ (n : ℕ). Ok n) one.back

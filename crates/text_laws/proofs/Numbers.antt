@@ -1,5 +1,6 @@
 -- Numbers that are printed are read as they were.
-use Rattle.std.proofs.Common.{◌≡◌, ℕ, suc, ◌+◌, ◌%◌, ◌^◌, ◌<◌, ◌≤◌, Bool, true, false, cond, eqb, List, [], ◌∷◌, length, Ok, Result, ℤ, pos, negsuc, refl, ap, ◌∙◌, arith}
+use Rattle.std.proofs.Common.{◌≡◌, ℕ, suc, ◌+◌, ◌%◌, ◌^◌, ◌<◌, ◌≤◌, Bool, true, false, cond, eqb, List, [], ◌∷◌, length}
+use Rattle.std.proofs.Common.{Ok, Result, ℤ, pos, negsuc, refl, ap, ◌∙◌, arith}
 use Rattle.std.specs.Prelude.{int_le}
 use Rattle.std.specs.Char.{is_ascii_digit}
 use Rattle.std.specs.Fmt.{decimal}
@@ -24,7 +25,8 @@ AreDigits ds = AllByRecursion (λ b. (48 ≤ b) × (b ≤ 57)) ds
 decimal_digits : (n : ℕ) → n < 2 ^ 64 → AreDigits (decimal n)
 decimal_digits n h =
     decimal_by_steps (λ k ds. AreDigits ds) (λ k low. ((omega arith, omega arith), tt))
-    (λ k ds high front. all_append (λ b. (48 ≤ b) × (b ≤ 57)) ds ((48 + k % 10) ∷ []) front ((omega arith, omega arith), tt)) n h
+    (λ k ds high front. all_append (λ b. (48 ≤ b) × (b ≤ 57)) ds ((48 + k % 10) ∷ []) front
+    ((omega arith, omega arith), tt)) n h
 
 digits_test : (ds : List ℕ) → AreDigits ds → list_all is_ascii_digit ds ≡ true
 digits_test [] all = refl
@@ -42,13 +44,19 @@ some_bytes [] some = absurd (omega arith)
 some_bytes (b ∷ bs) some = refl
 
 pub number_plain : (n : ℕ) → n < 2 ^ 64 → IsPlain (number n)
-number_plain n h = record { some = some_bytes (decimal n) (decimal_nonempty n h); bytes = digits_plain (decimal n) (decimal_digits n h) }
+number_plain n h = record {
+  some = some_bytes (decimal n) (decimal_nonempty n h);
+  bytes = digits_plain (decimal n)
+      (decimal_digits n h);
+}
 
 natural_back : (n : ℕ) → n < 2 ^ 64 → natural_of (decimal n) ≡ Ok n
 natural_back n h =
     let some : 1 ≤ length (decimal n) = (let s = decimal_nonempty n h in omega arith) in
     let few : length (decimal n) ≤ 20 = length-decimal-le 20 n (omega arith) (omega arith) h in
-    let test : is_digits (decimal n) ≡ true = rw (le-leb 1 (length (decimal n)) some, le-leb (length (decimal n)) 20 few) (digits_test (decimal n) (decimal_digits n h)) in
+    let test : is_digits (decimal n) ≡ true = rw
+    (le-leb 1 (length (decimal n)) some, le-leb (length (decimal n)) 20 few)
+    (digits_test (decimal n) (decimal_digits n h)) in
     let value : digits_value 10 (decimal n) ≡ n = (decimal_is_IsNumeral n h).1 in
     ap (λ (b : Bool). cond b (Ok (digits_value 10 (decimal n))) (natural_of [])) test ∙ ap (λ (m : ℕ). Ok m) value
 
@@ -79,7 +87,8 @@ pub integer_begins : (z : ℤ) → IsShort z → begins_number (integer z) ≡ t
 integer_begins (pos n) h = begins_digits (decimal n) (decimal_nonempty n (omega arith)) (decimal_digits n (omega arith))
 integer_begins (negsuc n) h = refl
 
-pub within_back : (low high z : ℤ) → IsShort z → int_le low z ≡ true → int_le z high ≡ true → integer_within low high (integer z) ≡ Ok z
+pub within_back : (low high z : ℤ) → IsShort z → int_le low z ≡ true → int_le z high ≡ true →
+    integer_within low high (integer z) ≡ Ok z
 within_back low high z short least most = rw (integer_back z short, least, most) refl
 
 pub short_up_to : (high : ℕ) (z : ℤ) → high < 2 ^ 63 → IsUpTo high z → IsShort z
@@ -95,8 +104,11 @@ most_holds high (pos n) h = le-leb n high h
 most_holds high (negsuc n) h = refl
 
 pub up_to_back : (high : ℕ) (z : ℤ) → high < 2 ^ 63 → IsUpTo high z → integer_up_to high (integer z) ≡ Ok z
-up_to_back high z few h = within_back lowest (pos high) z (short_up_to high z few h) (least_holds high z h) (most_holds high z h)
+up_to_back high z few h = within_back lowest (pos high) z (short_up_to high z few h) (least_holds high z h)
+    (most_holds high z h)
 
-pub natural_within_back : (least most n : ℕ) → most < 2 ^ 63 → least ≤ n → n ≤ most → natural_within least most (number n) ≡ Ok n
+pub natural_within_back : (least most n : ℕ) → most < 2 ^ 63 → least ≤ n → n ≤ most → natural_within least most
+    (number n) ≡ Ok n
 natural_within_back least most n few low high =
-    ap (λ (r : Result ℤ _). r >>= λ (z : ℤ). Ok (natural z)) (within_back (pos least) (pos most) (pos n) (omega arith) (le-leb least n low) (le-leb n most high))
+    ap (λ (r : Result ℤ _). r >>= λ (z : ℤ). Ok (natural z))
+    (within_back (pos least) (pos most) (pos n) (omega arith) (le-leb least n low) (le-leb n most high))

@@ -1,5 +1,6 @@
 -- The totals of a part of a script are within the limits that the script keeps.
-use Rattle.std.proofs.Common.{◌≡◌, ℕ, ◌+◌, ◌≤◌, Bool, true, cond, List, [], ◌∷◌, ◌++◌, length, map, Option, None, Ok, Err, refl, ap, sym, ◌∙◌, arith, append_assoc, length-append}
+use Rattle.std.proofs.Common.{◌≡◌, ℕ, ◌+◌, ◌≤◌, Bool, true, cond, List, [], ◌∷◌, ◌++◌, length, map, Option, None, Ok}
+use Rattle.std.proofs.Common.{Err, refl, ap, sym, ◌∙◌, arith, append_assoc, length-append}
 use Rattle.std.specs.Prelude.{sum_by, unwrap_or}
 use Rattle.std.specs.List.{zip}
 use Rattle.std.proofs.lemmas.Bool.{le-leb}
@@ -44,7 +45,8 @@ front_length calls whole front = rw (← front.1, length-append calls front.0) (
 
 front_bytes : (calls whole : List Call) → IsFront calls whole → sum_by call_bytes calls ≤ sum_by call_bytes whole
 front_bytes calls whole front =
-    let both : sum_by call_bytes (calls ++ front.0) ≡ sum_by call_bytes calls + sum_by call_bytes front.0 = sum_by-append call_bytes calls front.0 in
+    let both : sum_by call_bytes (calls ++ front.0) ≡ sum_by call_bytes calls + sum_by call_bytes front.0 =
+    sum_by-append call_bytes calls front.0 in
     let same : sum_by call_bytes (calls ++ front.0) ≡ sum_by call_bytes whole = ap (sum_by call_bytes) front.1 in
     omega arith
 
@@ -66,10 +68,13 @@ counts_below (x ∷ xs) (y ∷ ys) fronts =
 abbrev bytes_of : List ℕ → List (List Call) → ℕ
 bytes_of spaces lists = sum_by (λ rank. memory_bytes rank.0 rank.1) (zip spaces lists)
 
-bytes_first : (space : ℕ) (spaces : List ℕ) (calls : List Call) (lists : List (List Call)) → bytes_of (space ∷ spaces) (calls ∷ lists) ≡ memory_bytes space calls + bytes_of spaces lists
-bytes_first space spaces calls lists = sum_by-cons {X = ℕ × List Call} (λ rank. memory_bytes rank.0 rank.1) (space, calls) (zip spaces lists)
+bytes_first : (space : ℕ) (spaces : List ℕ) (calls : List Call) (lists : List (List Call)) → bytes_of (space ∷ spaces)
+    (calls ∷ lists) ≡ memory_bytes space calls + bytes_of spaces lists
+bytes_first space spaces calls lists = sum_by-cons {X = ℕ × List Call} (λ rank. memory_bytes rank.0 rank.1)
+    (space, calls) (zip spaces lists)
 
-bytes_below : (spaces most : List ℕ) (xs ys : List (List Call)) → AreBelow spaces most → AreFronts xs ys → bytes_of spaces xs ≤ bytes_of most ys
+bytes_below : (spaces most : List ℕ) (xs ys : List (List Call)) → AreBelow spaces most → AreFronts xs ys →
+    bytes_of spaces xs ≤ bytes_of most ys
 bytes_below [] [] xs ys below fronts = omega arith
 bytes_below [] (m ∷ most) xs ys below fronts = absurd below
 bytes_below (s ∷ spaces) [] xs ys below fronts = absurd below
@@ -85,13 +90,15 @@ bytes_below (s ∷ spaces) (m ∷ most) (x ∷ xs) (y ∷ ys) below fronts =
     omega arith
 
 -- what the lines say so far is a part of the script, so its totals are within their limits
-pub part_limited : (draft : Draft) (script : Script) → IsWithinLimits script → AreBelow (script_of draft).spaces script.spaces → AreFronts draft.calls script.calls → limited draft ≡ Ok draft
+pub part_limited : (draft : Draft) (script : Script) → IsWithinLimits script →
+    AreBelow (script_of draft).spaces script.spaces → AreFronts draft.calls script.calls → limited draft ≡ Ok draft
 part_limited draft script limits below fronts =
     let some = counts_below draft.calls script.calls fronts in
     let bytes = bytes_below (script_of draft).spaces script.spaces draft.calls script.calls below fronts in
     let few : calls_of (script_of draft) ≤ 65536 = (let most = limits.calls in omega arith) in
     let small : memory_of (script_of draft) ≤ 65536 = (let most = limits.memory in omega arith) in
-    let test : is_within_limits (script_of draft) ≡ true = rw (le-leb (calls_of (script_of draft)) 65536 few, le-leb (memory_of (script_of draft)) 65536 small) refl in
+    let test : is_within_limits (script_of draft) ≡ true = rw
+    (le-leb (calls_of (script_of draft)) 65536 few, le-leb (memory_of (script_of draft)) 65536 small) refl in
     ap (λ (b : Bool). cond b (Ok draft) (Err Limit)) test
 
 -- ---- parts of lists
@@ -100,12 +107,14 @@ part_limited draft script limits below fronts =
 abbrev pub space_of : Option ℕ → ℕ
 space_of space = unwrap_or space 0
 
-fewer_spaces : (rest : List (Option ℕ)) (most : List ℕ) → AreBelow (map space_of rest) most → AreBelow (map space_of (blanks None rest)) most
+fewer_spaces : (rest : List (Option ℕ)) (most : List ℕ) → AreBelow (map space_of rest) most →
+    AreBelow (map space_of (blanks None rest)) most
 fewer_spaces [] most below = below
 fewer_spaces (x ∷ rest) [] below = absurd below
 fewer_spaces (x ∷ rest) (m ∷ most) below = (omega arith, fewer_spaces rest most below.1)
 
-pub fewer_spaces_behind : (done rest : List (Option ℕ)) (most : List ℕ) → AreBelow (map space_of (done ++ rest)) most → AreBelow (map space_of (done ++ blanks None rest)) most
+pub fewer_spaces_behind : (done rest : List (Option ℕ)) (most : List ℕ) → AreBelow (map space_of (done ++ rest)) most →
+    AreBelow (map space_of (done ++ blanks None rest)) most
 fewer_spaces_behind [] rest most below = fewer_spaces rest most below
 fewer_spaces_behind (x ∷ done) rest [] below = absurd below
 fewer_spaces_behind (x ∷ done) rest (m ∷ most) below = (below.0, fewer_spaces_behind done rest most below.1)
@@ -120,9 +129,11 @@ fronts_self [] = tt
 fronts_self (x ∷ lists) = (([], append-nil x), fronts_self lists)
 
 -- a part of the calls of a rank, and none of those of the ranks behind it
-pub fewer_calls : (done : List (List Call)) (now more : List Call) (rest whole : List (List Call)) → AreFronts (done ++ (now ++ more) ∷ rest) whole → AreFronts (done ++ now ∷ blanks [] rest) whole
+pub fewer_calls : (done : List (List Call)) (now more : List Call) (rest whole : List (List Call)) →
+    AreFronts (done ++ (now ++ more) ∷ rest) whole → AreFronts (done ++ now ∷ blanks [] rest) whole
 fewer_calls [] now more rest [] fronts = absurd fronts
-fewer_calls [] now more rest (y ∷ whole) fronts = ((more ++ fronts.0.0, sym (append_assoc now more fronts.0.0) ∙ fronts.0.1), no_calls rest whole fronts.1)
+fewer_calls [] now more rest (y ∷ whole) fronts =
+    ((more ++ fronts.0.0, sym (append_assoc now more fronts.0.0) ∙ fronts.0.1), no_calls rest whole fronts.1)
 fewer_calls (x ∷ done) now more rest [] fronts = absurd fronts
 fewer_calls (x ∷ done) now more rest (y ∷ whole) fronts = (fronts.0, fewer_calls done now more rest whole fronts.1)
 

@@ -1,5 +1,6 @@
 -- Words and targets that are printed are read as they were.
-use Rattle.std.proofs.Common.{◌≡◌, ℕ, Bool, true, false, cond, eqb, List, [], ◌∷◌, Option, Some, None, Ok, Result, ℤ, refl, ap, sym, ◌∙◌, subst, arith}
+use Rattle.std.proofs.Common.{◌≡◌, ℕ, Bool, true, false, cond, eqb, List, [], ◌∷◌, Option, Some, None, Ok, Result, ℤ}
+use Rattle.std.proofs.Common.{refl, ap, sym, ◌∙◌, subst, arith}
 use Rattle.std.specs.Prelude.{codes, IfSome}
 use Rattle.std.specs.Str.{bytes_eq}
 use Rattle.std.proofs.lemmas.Bool.{eqb-true}
@@ -8,7 +9,8 @@ use Rattle.rma_types.specs.declared.calls.Lock.TheVariants.{Shared, Exclusive}
 use Rattle.rma_types.specs.declared.dtypes.Dtype.{Dtype}
 use Rattle.rma_types.specs.declared.dtypes.Dtype.TheVariants.{Int8, Int16, Int32, Uint8, Uint16, Uint32, Byte}
 use Rattle.rma_types.specs.declared.ops.Op.{Op as Operator}
-use Rattle.rma_types.specs.declared.ops.Op.TheVariants.{Replace, NoOp, Max, Min, Sum, Prod, Land, Band, Lor, Bor, Lxor, Bxor}
+use Rattle.rma_types.specs.declared.ops.Op.TheVariants.{Replace, NoOp, Max, Min, Sum, Prod, Land, Band, Lor, Bor, Lxor}
+use Rattle.rma_types.specs.declared.ops.Op.TheVariants.{Bxor}
 use Rattle.call_rules.specs.Text.{integer}
 use Rattle.call_rules.specs.WellFormed.{IsNumber}
 use Rattle.script_language.specs.declared.places.Assertion.{Assertion}
@@ -17,7 +19,8 @@ use Rattle.script_language.specs.Answers.{◌>>=◌}
 use Rattle.script_language.specs.Integers.{plain_integer}
 use Rattle.script_language.specs.Spelling.{target_text}
 use Rattle.script_language.specs.Tokens.{target_read, begins_number}
-use Rattle.script_language.specs.Words.{dtype_text, op_text, lock_text, assertion_text, dtype_named, op_named, lock_named}
+use Rattle.script_language.specs.Words.{dtype_text, op_text, lock_text, assertion_text, dtype_named, op_named}
+use Rattle.script_language.specs.Words.{lock_named}
 use Rattle.text_laws.proofs.Lines.{both_true, IsPlain}
 use Rattle.text_laws.proofs.Numbers.{integer_plain, integer_begins, short_up_to, up_to_back}
 
@@ -105,5 +108,6 @@ no_null (b ∷ bs) h =
 pub target_back : (target : Option ℤ) → IfSome target IsNumber → target_read (target_text target) ≡ Ok target
 target_back None h = refl
 target_back (Some rank) h =
-    ap (λ (b : Bool). cond b (Ok None) (plain_integer (integer rank) >>= λ (r : ℤ). Ok (Some r))) (no_null (integer rank) (integer_begins rank (short_up_to 2147483647 rank (omega arith) h)))
+    ap (λ (b : Bool). cond b (Ok None) (plain_integer (integer rank) >>= λ (r : ℤ). Ok (Some r)))
+    (no_null (integer rank) (integer_begins rank (short_up_to 2147483647 rank (omega arith) h)))
     ∙ ap (λ (r : Result ℤ _). r >>= λ (z : ℤ). Ok (Some z)) (up_to_back 2147483647 rank (omega arith) h)

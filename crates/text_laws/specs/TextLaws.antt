@@ -7,4 +7,5 @@ use Rattle.script_language.specs.Reading.{Reads}
 
 -- the canonical text of a script that a text can say is read again as the script, unless it is too long
 abbrev pub CanonicalTextsAreReadAgain : Type 0
-CanonicalTextsAreReadAgain = (script : Script) → IsWellFormed script → length (canon script) ≤ 1048576 → Reads (canon script) script
+CanonicalTextsAreReadAgain = (script : Script) → IsWellFormed script → length (canon script) ≤ 1048576 →
+    Reads (canon script) script

@@ -1,5 +1,6 @@
 -- Each entry of a lawful run may be asked of a board.
-use Rattle.std.proofs.Common.{◌≡◌, ℕ, ◌+◌, ◌≤◌, Bool, true, false, cond, List, [], ◌∷◌, Option, Some, None, refl, sym, ◌∙◌, ap, arith}
+use Rattle.std.proofs.Common.{◌≡◌, ℕ, ◌+◌, ◌≤◌, Bool, true, false, cond, List, [], ◌∷◌, Option, Some, None, refl, sym}
+use Rattle.std.proofs.Common.{◌∙◌, ap, arith}
 use Rattle.std.specs.Prelude.{◌||◌, nat_lt, slice_get, slice_index_or, ℤ, pos, negsuc, int_lt, ◌+ℤ◌}
 use Rattle.std.specs.List.{AllByRecursion}
 use Rattle.std.specs.Option.{option_map_or}
@@ -10,13 +11,15 @@ use Rattle.rma_types.specs.declared.classes.Class.{Class}
 use Rattle.rma_types.specs.declared.scripts.Part.{Part}
 use Rattle.rma_types.specs.Classes.{class_number}
 use Rattle.rma_record.specs.declared.items.Item.{Item}
-use Rattle.call_rules.specs.Actions.{Action, Creates, Frees, Attaches, Detaches, Synchronises, Meets, Moves, EndsRequest, Creation, action_of}
+use Rattle.call_rules.specs.Actions.{Action, Creates, Frees, Attaches, Detaches, Synchronises, Meets, Moves}
+use Rattle.call_rules.specs.Actions.{EndsRequest, Creation, action_of}
 use Rattle.call_rules.specs.Ranks.{natural}
 use Rattle.call_rules.specs.WellFormed.{IsUpTo}
 use Rattle.rank_rules.specs.Classes.{Test, first_class, least_class}
 use Rattle.rank_rules.specs.Epochs.{Epochs}
 use Rattle.rank_rules.specs.EpochTests.{epoch_class, epoch_tests}
-use Rattle.rank_rules.specs.Knowledge.{Knowledge, own_class, known_after, learn, known_after_number, known_after_call, accepted_by}
+use Rattle.rank_rules.specs.Knowledge.{Knowledge, own_class, known_after, learn, known_after_number, known_after_call}
+use Rattle.rank_rules.specs.Knowledge.{accepted_by}
 use Rattle.rank_rules.specs.Requests.{request_class}
 use Rattle.rank_rules.specs.Windows.{RankWindows, windows_after}
 use Rattle.rank_rules.specs.WindowTests.{is_outside, is_in_use, has_wrong_base, window_tests, window_class}

@@ -1,5 +1,6 @@
 -- What is known of each entry that is put at its place.
-use Rattle.std.proofs.Common.{◌≡◌, ℕ, zero, suc, ◌+◌, ◌<◌, ◌≤◌, List, [], ◌∷◌, length, Some, refl, ap, sym, subst, ◌∙◌, arith}
+use Rattle.std.proofs.Common.{◌≡◌, ℕ, zero, suc, ◌+◌, ◌<◌, ◌≤◌, List, [], ◌∷◌, length, Some, refl, ap, sym, subst, ◌∙◌}
+use Rattle.std.proofs.Common.{arith}
 use Rattle.std.specs.Prelude.{cond, map, replicate, slice_get, slice_index_or}
 use Rattle.std.specs.List.{count_by, zip}
 use Rattle.std.proofs.lemmas.List.{length-map}
@@ -15,7 +16,8 @@ use Rattle.lawful_runs.specs.LawfulRun.{IsLawful}
 use Rattle.board_rules.specs.Edges.{Event, events_of}
 use Rattle.kept_rows.specs.Gifts.{Given}
 use Rattle.lawful_runs.specs.Items.{is_entry}
-use Rattle.lawful_runs.specs.Logs.{Named, calls_of, entries_of, is_some_entry, named_from, named_in, named_logs, rows_of}
+use Rattle.lawful_runs.specs.Logs.{Named, calls_of, entries_of, is_some_entry, named_from, named_in, named_logs}
+use Rattle.lawful_runs.specs.Logs.{rows_of}
 use Rattle.order_rules.specs.Before.{IsOrder, named_event}
 use Rattle.order_laws.proofs.Events.{get_in}
 use Rattle.order_laws.proofs.Members.{in_contains}

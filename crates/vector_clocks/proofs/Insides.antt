@@ -1,7 +1,11 @@
 -- The range that a call brings to a window lies in a wide layout, where the rank did not refuse the call.
 use Rattle.std.proofs.Common.{◌≡◌, ℕ, ◌<◌, ◌≤◌, None, refl, arith}
 use Rattle.rma_types.specs.declared.calls.Call.{Call}
-use Rattle.rma_types.specs.declared.calls.Call.TheVariants.{Allocate, Create, Dynamic, Free, Attach, Detach, Fence, Post, Start, Complete, WaitWin, TestWin, LockOne, Unlock, LockAll, UnlockAll, Flush, FlushAll, FlushLocal, FlushLocalAll, Sync, Barrier, Put, Get, Acc, GetAcc, Fop, Cas, Load, Store, WaitReq, TestReq}
+use Rattle.rma_types.specs.declared.calls.Call.TheVariants.{Allocate, Create, Dynamic, Free, Attach, Detach, Fence}
+use Rattle.rma_types.specs.declared.calls.Call.TheVariants.{Post, Start, Complete, WaitWin, TestWin, LockOne, Unlock}
+use Rattle.rma_types.specs.declared.calls.Call.TheVariants.{LockAll, UnlockAll, Flush, FlushAll, FlushLocal}
+use Rattle.rma_types.specs.declared.calls.Call.TheVariants.{FlushLocalAll, Sync, Barrier, Put, Get, Acc, GetAcc, Fop}
+use Rattle.rma_types.specs.declared.calls.Call.TheVariants.{Cas, Load, Store, WaitReq, TestReq}
 use Rattle.rma_types.specs.declared.calls.Flavor.TheVariants.{Create as CreateFlavor}
 use Rattle.rma_types.specs.declared.scripts.Layout.{Layout}
 use Rattle.call_rules.specs.Actions.{action_of}

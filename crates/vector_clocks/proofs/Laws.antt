@@ -1,5 +1,6 @@
 -- The clocks of all entries keep their laws, and the test by rank is that of the stamps.
-use Rattle.std.proofs.Common.{◌≡◌, ℕ, ◌+◌, ◌<◌, ◌≤◌, inl, inr, true, List, [], ◌∷◌, ◌++◌, refl, ap, sym, subst, ◌∙◌, arith}
+use Rattle.std.proofs.Common.{◌≡◌, ℕ, ◌+◌, ◌<◌, ◌≤◌, inl, inr, true, List, [], ◌∷◌, ◌++◌, refl, ap, sym, subst, ◌∙◌}
+use Rattle.std.proofs.Common.{arith}
 use Rattle.std.specs.Prelude.{◌↔◌, IsTrue, map, ◌&&◌, ◌||◌, ◌==◌, nat_le, nat_lt}
 use Rattle.std.specs.List.{list_any}
 use Rattle.std.proofs.lemmas.Bool.{cases_Bool, and_parts, or_cases, eqb-true}
@@ -11,11 +12,13 @@ use Rattle.rma_record.specs.declared.runs.Run.{Run}
 use Rattle.board_rules.specs.Edges.{Event}
 use Rattle.lawful_runs.specs.LawfulRun.{IsLawful}
 use Rattle.lawful_runs.specs.Logs.{rows_of}
-use Rattle.clock_rules.specs.Clocks.{Stamp, count_in, stands_before, precedes, is_counted, is_counted_by, IsCountedFrom, KeepClockLaws}
+use Rattle.clock_rules.specs.Clocks.{Stamp, count_in, stands_before, precedes, is_counted, is_counted_by, IsCountedFrom}
+use Rattle.clock_rules.specs.Clocks.{KeepClockLaws}
 use Rattle.order_rules.specs.Before.{Before, NamedEvent, IsOrder, events_in, is_edge_between}
 use Rattle.order_laws.proofs.Decide.{precedes_ascends, clocks_decide}
 use Rattle.order_laws.proofs.Events.{AllFrom, from_in, IsEventAt, events_placed}
-use Rattle.order_laws.proofs.Members.{In, here, there, append_in, in_append_left, in_map, map_in, contains_in, in_contains}
+use Rattle.order_laws.proofs.Members.{In, here, there, append_in, in_append_left, in_map, map_in, contains_in}
+use Rattle.order_laws.proofs.Members.{in_contains}
 use Rattle.vector_clocks.specs.Marks.{marks_of, is_marked, before_in}
 use Rattle.vector_clocks.specs.Replays.{Told, id_told, stamps_told, marks_told, AreNext}
 use Rattle.vector_clocks.specs.declared.marks.Mark.{Mark}

@@ -1,5 +1,6 @@
 -- One entry more keeps the laws of clocks.
-use Rattle.std.proofs.Common.{◌≡◌, ℕ, ◌<◌, ◌≤◌, ◌⊎◌, inl, inr, true, false, List, [], ◌∷◌, ◌++◌, Option, Some, None, length, refl, ap, sym, subst, ◌∙◌, arith, append_assoc}
+use Rattle.std.proofs.Common.{◌≡◌, ℕ, ◌<◌, ◌≤◌, ◌⊎◌, inl, inr, true, false, List, [], ◌∷◌, ◌++◌, Option, Some, None}
+use Rattle.std.proofs.Common.{length, refl, ap, sym, subst, ◌∙◌, arith, append_assoc}
 use Rattle.std.specs.Prelude.{Contains, map, slice_index, ◌==◌, nat_lt}
 use Rattle.std.specs.Option.{option_map}
 use Rattle.std.proofs.lemmas.Bool.{or_left, or_right, and_from, cases_lt, eq-eqb, lt-ltb}
@@ -14,7 +15,8 @@ use Rattle.order_laws.proofs.Members.{In, here, there, contains_in, in_contains,
 use Rattle.vector_clocks.specs.Numbers.{raised, counts_of}
 use Rattle.vector_clocks.specs.Replays.{Told, id_told, stamps_told, given_told, IsNext, AreNext}
 use Rattle.vector_clocks.proofs.Chains.{no_chain}
-use Rattle.vector_clocks.proofs.Gains.{gifts_from, joined_gifts, gained_is, in_gifts, gifts_in, gained_above, gained_from, nothing_gained}
+use Rattle.vector_clocks.proofs.Gains.{gifts_from, joined_gifts, gained_is, in_gifts, gifts_in, gained_above}
+use Rattle.vector_clocks.proofs.Gains.{gained_from, nothing_gained}
 use Rattle.vector_clocks.proofs.Greater.{greater_at, raised_above, raised_own, raised_from}
 
 -- ---- each is the next after those before it

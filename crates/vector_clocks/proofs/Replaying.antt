@@ -1,5 +1,6 @@
 -- One entry more is replayed, and all of them.
-use Rattle.std.proofs.Common.{◌≡◌, ℕ, suc, ◌+◌, ◌<◌, ◌≤◌, List, [], ◌∷◌, ◌++◌, length, Option, Some, refl, ap, sym, subst, ◌∙◌, arith}
+use Rattle.std.proofs.Common.{◌≡◌, ℕ, suc, ◌+◌, ◌<◌, ◌≤◌, List, [], ◌∷◌, ◌++◌, length, Option, Some, refl, ap, sym}
+use Rattle.std.proofs.Common.{subst, ◌∙◌, arith}
 use Rattle.std.specs.Prelude.{map, take, slice_get, slice_set}
 use Rattle.std.specs.Option.{option_map}
 use Rattle.std.proofs.lemmas.List.{map-append, take_all}
@@ -28,7 +29,8 @@ use Rattle.vector_clocks.proofs.Laws.{order_of_marks}
 use Rattle.vector_clocks.proofs.Lists.{take_at}
 use Rattle.vector_clocks.proofs.Nexts.{told_next, next_snoc, one_next, IsLast}
 use Rattle.vector_clocks.proofs.Sorted.{last_is, sorted_marks}
-use Rattle.vector_clocks.proofs.Steps.{RowAt, row_at, event_at_row, zipped_at, events_snoc, taken_long, place_taken, stands_earlier, marks_more}
+use Rattle.vector_clocks.proofs.Steps.{RowAt, row_at, event_at_row, zipped_at, events_snoc, taken_long, place_taken}
+use Rattle.vector_clocks.proofs.Steps.{stands_earlier, marks_more}
 
 row_of_placed : Placed → Call → Row
 row_of_placed one call = record { rank = one.id.rank; number = one.call; call = call; step = one.step }

@@ -4,7 +4,8 @@ use Rattle.std.specs.List.{count_by, sum_by}
 use Rattle.rma_types.specs.declared.accesses.Step.TheVariants.{Arrive}
 use Rattle.rma_types.specs.declared.accesses.Id.{Id}
 use Rattle.rma_record.specs.declared.items.Item.{Item}
-use Rattle.rma_record.specs.declared.items.Item.TheVariants.{Issue, Null, Touch, Flush, Request, Entry, Tested, Refused, Ended}
+use Rattle.rma_record.specs.declared.items.Item.TheVariants.{Issue, Null, Touch, Flush, Request, Entry, Tested, Refused}
+use Rattle.rma_record.specs.declared.items.Item.TheVariants.{Ended}
 use Rattle.lawful_runs.specs.Items.{is_entry}
 use Rattle.lawful_runs.specs.Logs.{Named}
 use Rattle.vector_clocks.specs.declared.places.Placed.{Placed}

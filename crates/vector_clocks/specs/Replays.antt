@@ -1,6 +1,7 @@
 -- The entries of a run as they are replayed, each with its clock and with what its rank gave: this project's record
 -- of a run.
-use Rattle.std.specs.Prelude.{ℕ, ◌≡◌, ◌<◌, ◌≤◌, ◌==◌, false, IsTrue, Contains, List, [], ◌∷◌, ◌++◌, map, take, length, if◌then◌else◌, slice_set, Option, Some}
+use Rattle.std.specs.Prelude.{ℕ, ◌≡◌, ◌<◌, ◌≤◌, ◌==◌, false, IsTrue, Contains, List, [], ◌∷◌, ◌++◌, map, take, length}
+use Rattle.std.specs.Prelude.{if◌then◌else◌, slice_set, Option, Some}
 use Rattle.std.specs.Option.{option_map}
 use Rattle.rma_types.specs.declared.calls.Call.{Call}
 use Rattle.rma_types.specs.declared.accesses.Id.{Id}

@@ -1,5 +1,6 @@
 -- Ranges that are all attached to one window, as a list of ranges.
-use Rattle.std.proofs.Common.{◌≡◌, ℕ, ◌==◌, Bool, true, false, not, ◌&&◌, List, [], ◌∷◌, ◌++◌, map, filter, refl, ◌∙◌, ap, cond}
+use Rattle.std.proofs.Common.{◌≡◌, ℕ, ◌==◌, Bool, true, false, not, ◌&&◌, List, [], ◌∷◌, ◌++◌, map, filter, refl, ◌∙◌}
+use Rattle.std.proofs.Common.{ap, cond}
 use Rattle.std.specs.List.{AllByRecursion}
 use Rattle.rank_rules.specs.Ranges.{Range}
 use Rattle.rank_rules.specs.Windows.{OwnRange, is_attached_from}

@@ -8,7 +8,8 @@ abbrev pub invariant-loop-element : goal.invariant-loop-element
 invariant-loop-element g l = record {
   begin : l.from ≤ l.element;
   touches : TouchesKept (g.M.Memory.face l.initial.mem) (g.M.Memory.face l.mem) (g.M.Memory.knows l.mem)
-      (g.L.Keep.kept l.initial.log) (g.L.Keep.kept l.log) l.issue (planned_touches l.layout l.access l.call l.from (l.element - l.from));
+      (g.L.Keep.kept l.initial.log) (g.L.Keep.kept l.log) l.issue
+      (planned_touches l.layout l.access l.call l.from (l.element - l.from));
   moves : (g.M.Memory.face l.mem).moves ≡ (g.M.Memory.face l.initial.mem).moves;
   known : Keeps (g.M.Memory.knows l.initial.mem) (g.M.Memory.knows l.mem);
   spare : g.L.Keep.spare l.log + (l.element - l.from) ≡ g.L.Keep.spare l.initial.log;

@@ -2,7 +2,8 @@
 use Rattle.std.specs.Prelude.{refl}
 use Rattle.step_runs.specs.StepRun.{step_run}
 use Rattle.order_rules.specs.Findings.{findings}
-use Rattle.order_rows.specs.Exchanges.{FindsNoneAtOnce, FindsNoneAtTheFence, FindsNoneAtDrawnMoments, IsDoneAtEachLeave, ReadsTheNeighbours}
+use Rattle.order_rows.specs.Exchanges.{FindsNoneAtOnce, FindsNoneAtTheFence, FindsNoneAtDrawnMoments, IsDoneAtEachLeave}
+use Rattle.order_rows.specs.Exchanges.{ReadsTheNeighbours}
 use Rattle.order_rows.proofs.exchanges.order_of_an_exchange.Goals as goal
 
 at_once : FindsNoneAtOnce
@@ -26,4 +27,10 @@ unfolding step_run findings
 ordered_read = refl
 
 pub returns : goal.returns
-returns c = record { at_once = at_once; at_the_fence = at_the_fence; at_drawn_moments = at_drawn_moments; done = done; ordered_read = ordered_read }
+returns c = record {
+  at_once = at_once;
+  at_the_fence = at_the_fence;
+  at_drawn_moments = at_drawn_moments;
+  done = done;
+  ordered_read = ordered_read;
+}

@@ -2,7 +2,8 @@
 use Rattle.std.specs.Prelude.{refl}
 use Rattle.step_runs.specs.StepRun.{step_run}
 use Rattle.order_rules.specs.Findings.{findings}
-use Rattle.order_rows.specs.Locks.{FindsNoneOfSums, FindsOtherOperations, FindsOtherDatatypes, FindsNoneOfAReadBesideASum}
+use Rattle.order_rows.specs.Locks.{FindsNoneOfSums, FindsOtherOperations, FindsOtherDatatypes}
+use Rattle.order_rows.specs.Locks.{FindsNoneOfAReadBesideASum}
 use Rattle.order_rows.proofs.locks.findings_of_accumulates.Goals as goal
 
 sums : FindsNoneOfSums

@@ -22,4 +22,10 @@ unfolding step_run findings
 store_where_unified = refl
 
 pub returns : goal.returns
-returns c = record { load_without_sync = load_without_sync; load_after_sync = load_after_sync; store_beside_a_put = store_beside_a_put; store_where_unified = store_where_unified }
+returns c = record {
+  load_without_sync = load_without_sync;
+  load_after_sync = load_after_sync;
+  store_beside_a_put =
+      store_beside_a_put;
+  store_where_unified = store_where_unified;
+}

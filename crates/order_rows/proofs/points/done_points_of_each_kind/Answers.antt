@@ -1,7 +1,8 @@
 -- Each run and its order are computed.
 use Rattle.std.specs.Prelude.{refl}
 use Rattle.step_runs.specs.StepRun.{step_run}
-use Rattle.order_rows.specs.Points.{IsDoneInLaterEpochs, IsDoneAtWaitAndComplete, IsDoneAtWait, IsDoneAtLocalFlush, IsNotDoneAtLocalFlush, IsDoneAtItsRequest}
+use Rattle.order_rows.specs.Points.{IsDoneInLaterEpochs, IsDoneAtWaitAndComplete, IsDoneAtWait, IsDoneAtLocalFlush}
+use Rattle.order_rows.specs.Points.{IsNotDoneAtLocalFlush, IsDoneAtItsRequest}
 use Rattle.order_rows.proofs.points.done_points_of_each_kind.Goals as goal
 
 later_epochs : IsDoneInLaterEpochs
@@ -29,4 +30,13 @@ unfolding step_run
 request = refl
 
 pub returns : goal.returns
-returns c = record { later_epochs = later_epochs; complete_of_a_get = complete_of_a_get; complete_of_a_put = complete_of_a_put; local_flush_of_a_get = local_flush_of_a_get; local_flush_of_a_put = local_flush_of_a_put; request = request }
+returns c = record {
+  later_epochs = later_epochs;
+  complete_of_a_get = complete_of_a_get;
+  complete_of_a_put =
+      complete_of_a_put;
+  local_flush_of_a_get = local_flush_of_a_get;
+  local_flush_of_a_put = local_flush_of_a_put;
+  request
+      = request;
+}

@@ -12,8 +12,10 @@ returns g c =
     let after = g.K.Sink.written c.answer.new.sink in
     let outcome = c.answer.result in
     let case = ending.case_of options lb la before after outcome c.answer.ensures.ends in
-    let read_fault = λ (e : outcome.status ≡ 4). ending.rises (g.S.Source.faults c.args.source.now) (g.S.Source.faults c.answer.new.source) c.requires.source_count (c.answer.ensures.read_failed e) in
-    let write_fault = λ (e : outcome.status ≡ 5). ending.rises (g.K.Sink.faults c.args.sink.now) (g.K.Sink.faults c.answer.new.sink) c.requires.sink_count (c.answer.ensures.write_failed e) in
+    let read_fault = λ (e : outcome.status ≡ 4). ending.rises (g.S.Source.faults c.args.source.now)
+    (g.S.Source.faults c.answer.new.source) c.requires.source_count (c.answer.ensures.read_failed e) in
+    let write_fault = λ (e : outcome.status ≡ 5). ending.rises (g.K.Sink.faults c.args.sink.now)
+    (g.K.Sink.faults c.answer.new.sink) c.requires.sink_count (c.answer.ensures.write_failed e) in
     record {
       reported = ending.reported options lb la before after outcome case;
       handed = ending.handed options lb la before after outcome case;
@@ -27,8 +29,10 @@ returns g c =
       write_fault = write_fault;
       no_write_fault = c.answer.ensures.no_write_fault;
       no_late_read = c.answer.ensures.no_late_read;
-      complete = λ text script is told same_source same_sink. ending.complete options lb la before after outcome case text script is told
+      complete = λ text script is told same_source same_sink. ending.complete options lb la before after outcome case
+          text script is told
           (λ e. let rise = read_fault e in omega arith) (λ e. let rise = write_fault e in omega arith);
-      refuses = λ text none told same_source same_sink. ending.refuses options lb la before after outcome case text none told
+      refuses = λ text none told same_source same_sink. ending.refuses options lb la before after outcome case text none
+          told
           (λ e. let rise = read_fault e in omega arith) (λ e. let rise = write_fault e in omega arith);
     }

@@ -12,7 +12,9 @@ first_fact (Err e) P Q h = tt
 pub returns : goal.returns
 returns c =
     let all = into_iter_items c.args.all in
-    let collected = fact_from_collect (λ xs words. (words.items ≡ xs) × (vec_len words ≡ length xs)) c.collect.result c.collect.ensures.ran
+    let collected = fact_from_collect (λ xs words. (words.items ≡ xs) × (vec_len words ≡ length xs)) c.collect.result
+    c.collect.ensures.ran
     (YieldsList-from_skip 1 (YieldsList-from_vec all (ap into_iter_items c.skip.ensures.source)
     (ap into_iter_len c.skip.ensures.source ∙ c.args.all.rest.ok.0)) c.skip.ensures.count) in
-    first_fact c.collect.result (λ words. words.items ≡ drop 1 all) (λ words. vec_len words ≡ length (drop 1 all)) collected
+    first_fact c.collect.result (λ words. words.items ≡ drop 1 all) (λ words. vec_len words ≡ length (drop 1 all))
+    collected

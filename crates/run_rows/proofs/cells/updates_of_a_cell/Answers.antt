@@ -1,5 +1,6 @@
 -- The update that is found at a place is the one that the list has there.
-use Rattle.std.proofs.Common.{◌≡◌, ℕ, zero, suc, ◌+◌, ◌<◌, Bool, true, false, cond, List, [], ◌∷◌, ◌++◌, Some, None, length, get_or, refl, sym, ap, ◌∙◌, inl, inr, arith, add-one}
+use Rattle.std.proofs.Common.{◌≡◌, ℕ, zero, suc, ◌+◌, ◌<◌, Bool, true, false, cond, List, [], ◌∷◌, ◌++◌, Some, None}
+use Rattle.std.proofs.Common.{length, get_or, refl, sym, ap, ◌∙◌, inl, inr, arith, add-one}
 use Rattle.std.specs.List.{count_by, find, filter}
 use Rattle.std.specs.Option.{option_map_or}
 use Rattle.std.proofs.lemmas.Bool.{cases_Bool, cond-true, cond-false, eq-eqb, ne_eqb}
@@ -33,7 +34,8 @@ finds_none p (x ∷ xs) none = elim (cases_Bool (p x)) [
 ]
 
 -- an element that passes is found where no other passes
-not_none : {X : Type 0} (p : X → Bool) (xs : List X) (x : X) (k : ℕ) → p x ≡ true → k < length xs → get_or xs k x ≡ x → count_by p xs ≡ 0 → ⊥
+not_none : {X : Type 0} (p : X → Bool) (xs : List X) (x : X) (k : ℕ) → p x ≡ true → k < length xs → get_or xs k x ≡ x →
+    count_by p xs ≡ 0 → ⊥
 not_none p [] x k passes inside is none = absurd (omega (arith, inside))
 not_none p (y ∷ ys) x zero passes inside is none =
     let counted = count_yes p y ys (ap p is ∙ passes) in absurd (omega (arith, counted, none))
@@ -42,7 +44,8 @@ not_none p (y ∷ ys) x (suc k) passes inside is none = elim (cases_Bool (p y)) 
   | inr fails ↦ not_none p ys x k passes (omega (arith, inside)) is (sym (count_no p y ys fails) ∙ none)
 ]
 
-finds_once : {X : Type 0} (p : X → Bool) (xs : List X) (x : X) (k : ℕ) → p x ≡ true → k < length xs → get_or xs k x ≡ x → count_by p xs ≡ 1 → find p xs ≡ Some x
+finds_once : {X : Type 0} (p : X → Bool) (xs : List X) (x : X) (k : ℕ) → p x ≡ true → k < length xs →
+    get_or xs k x ≡ x → count_by p xs ≡ 1 → find p xs ≡ Some x
 finds_once p [] x k passes inside is once = absurd (omega (arith, inside))
 finds_once p (y ∷ ys) x zero passes inside is once =
     cond-true (p y) (Some y) (find p ys) (ap p is ∙ passes) ∙ ap (λ z. Some z) is
@@ -57,7 +60,8 @@ finds_once p (y ∷ ys) x (suc k) passes inside is once = elim (cases_Bool (p y)
 ]
 
 -- an element that does not pass makes no difference to what is found
-finds_past : {X : Type 0} (p : X → Bool) (front back : List X) (x : X) → p x ≡ false → find p (front ++ x ∷ back) ≡ find p (front ++ back)
+finds_past : {X : Type 0} (p : X → Bool) (front back : List X) (x : X) → p x ≡ false →
+    find p (front ++ x ∷ back) ≡ find p (front ++ back)
 finds_past p [] back x fails = cond-false (p x) (Some x) (find p back) fails
 finds_past p (y ∷ front) back x fails = ap (λ rest. cond (p y) (Some y) rest) (finds_past p front back x fails)
 
@@ -66,7 +70,8 @@ one_at_a_time updates update has once =
     let place = update.place in
     let found = finds_once (has_place place) updates update has.0 (eq-eqb place place refl) has.1 has.2 once in
     ap (λ n. state updates n) (add-one place)
-    ∙ ap (λ one. option_map_or (λ (u : Touching). changed (state updates place) u.change) one (state updates place)) found
+    ∙ ap (λ one. option_map_or (λ (u : Touching). changed (state updates place) u.change) one (state updates place))
+    found
 
 without_an_update : StaysWithoutAnUpdate
 without_an_update updates place none =
@@ -79,7 +84,8 @@ before front back update zero below = refl
 before front back update (suc place) below =
     let all = front ++ update ∷ back in
     let rest = front ++ back in
-    let found = finds_past (has_place place) front back update (ne_eqb update.place place (λ same. absurd (omega (arith, same, below)))) in
+    let found = finds_past (has_place place) front back update
+    (ne_eqb update.place place (λ same. absurd (omega (arith, same, below)))) in
     ap (λ one. option_map_or (λ (u : Touching). changed (state all place) u.change) one (state all place)) found
     ∙ ap (λ (bits : ℕ). option_map_or (λ (u : Touching). changed bits u.change) (find (has_place place) rest) bits)
     (before front back update place (omega (arith, below)))

@@ -3,7 +3,8 @@ use Rattle.std.specs.Fmt.{digits}
 use Rattle.std.specs.Prelude.{refl}
 use Rattle.run_texts.specs.Report.{report}
 use Rattle.step_runs.specs.StepRun.{step_run}
-use Rattle.run_rows.specs.Deliveries.{CompletesByUnlocksAndFlushes, CompletesRequestedGets, LeavesTheRequestedPut, CompletesByComplete, LeavesThePutToAnother}
+use Rattle.run_rows.specs.Deliveries.{CompletesByUnlocksAndFlushes, CompletesRequestedGets, LeavesTheRequestedPut}
+use Rattle.run_rows.specs.Deliveries.{CompletesByComplete, LeavesThePutToAnother}
 use Rattle.run_rows.proofs.deliveries.touches_of_completed_accesses.Goals as goal
 
 locks_and_flush : CompletesByUnlocksAndFlushes
@@ -27,4 +28,10 @@ unfolding step_run report digits
 flush_of_another = (refl, refl, refl)
 
 pub returns : goal.returns
-returns c = record { locks_and_flush = locks_and_flush; requested_gets = requested_gets; requested_put = requested_put; started_put = started_put; flush_of_another = flush_of_another }
+returns c = record {
+  locks_and_flush = locks_and_flush;
+  requested_gets = requested_gets;
+  requested_put = requested_put;
+  started_put = started_put;
+  flush_of_another = flush_of_another;
+}

@@ -3,7 +3,9 @@ use Rattle.std.specs.Fmt.{digits}
 use Rattle.std.specs.Prelude.{refl}
 use Rattle.run_texts.specs.Report.{report}
 use Rattle.step_runs.specs.StepRun.{step_run}
-use Rattle.run_rows.specs.Deliveries.{GivesWayToTheFirstSum, GivesWayThroughAnother, CompletesByFlushes, DrawsByTheGenerator, DrawsForEachRank, DeliversAtAnOddDraw, WaitsAtAnEvenDraw, DeliversTheFirst, DeliversTheSecond}
+use Rattle.run_rows.specs.Deliveries.{GivesWayToTheFirstSum, GivesWayThroughAnother, CompletesByFlushes}
+use Rattle.run_rows.specs.Deliveries.{DrawsByTheGenerator, DrawsForEachRank, DeliversAtAnOddDraw, WaitsAtAnEvenDraw}
+use Rattle.run_rows.specs.Deliveries.{DeliversTheFirst, DeliversTheSecond}
 use Rattle.run_rows.proofs.deliveries.touches_that_are_due.Goals as goal
 
 gives_way : GivesWayToTheFirstSum
@@ -43,4 +45,15 @@ unfolding step_run report digits
 second_drawn = (refl, refl, refl)
 
 pub returns : goal.returns
-returns c = record { gives_way = gives_way; gives_way_twice = gives_way_twice; flushes = flushes; draws = draws; draws_of_ranks = draws_of_ranks; odd_draw = odd_draw; even_draw = even_draw; first_drawn = first_drawn; second_drawn = second_drawn }
+returns c = record {
+  gives_way = gives_way;
+  gives_way_twice = gives_way_twice;
+  flushes = flushes;
+  draws = draws;
+  draws_of_ranks = draws_of_ranks;
+  odd_draw = odd_draw;
+  even_draw = even_draw;
+  first_drawn = first_drawn;
+  second_drawn
+      = second_drawn;
+}

@@ -3,7 +3,8 @@ use Rattle.std.specs.Fmt.{digits}
 use Rattle.std.specs.Prelude.{refl}
 use Rattle.run_texts.specs.Report.{report}
 use Rattle.step_runs.specs.StepRun.{step_run}
-use Rattle.run_rows.specs.Elements.{WrapsAndKeepsNeighbours, WrapsInBothCells, OperatesOnItsRange, SwapsWhatIsEqual, HasPlaceOne, RefusesOperations}
+use Rattle.run_rows.specs.Elements.{WrapsAndKeepsNeighbours, WrapsInBothCells, OperatesOnItsRange, SwapsWhatIsEqual}
+use Rattle.run_rows.specs.Elements.{HasPlaceOne, RefusesOperations}
 use Rattle.run_rows.proofs.elements.operations_on_elements.Goals as goal
 
 sum_of_a_byte : WrapsAndKeepsNeighbours
@@ -31,4 +32,12 @@ unfolding step_run report digits
 wrong_operations = (refl, refl, refl)
 
 pub returns : goal.returns
-returns c = record { sum_of_a_byte = sum_of_a_byte; sums_in_a_lock = sums_in_a_lock; operations = operations; two_swaps = two_swaps; second_place = second_place; wrong_operations = wrong_operations }
+returns c = record {
+  sum_of_a_byte = sum_of_a_byte;
+  sums_in_a_lock = sums_in_a_lock;
+  operations = operations;
+  two_swaps
+      = two_swaps;
+  second_place = second_place;
+  wrong_operations = wrong_operations;
+}

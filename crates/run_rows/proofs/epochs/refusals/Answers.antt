@@ -3,7 +3,9 @@ use Rattle.std.specs.Fmt.{digits}
 use Rattle.std.specs.Prelude.{refl}
 use Rattle.run_texts.specs.Report.{report}
 use Rattle.step_runs.specs.StepRun.{step_run}
-use Rattle.run_rows.specs.Epochs.{RefusesBeforeAFence, RefusesOutsideEpochs, EndsFencesByNosucceed, RefusesAnotherAssertion, RefusesByEachTest, RefusesAssertionsAndRanks, FollowsTheEpochs}
+use Rattle.run_rows.specs.Epochs.{RefusesBeforeAFence, RefusesOutsideEpochs, EndsFencesByNosucceed}
+use Rattle.run_rows.specs.Epochs.{RefusesAnotherAssertion, RefusesByEachTest, RefusesAssertionsAndRanks}
+use Rattle.run_rows.specs.Epochs.{FollowsTheEpochs}
 use Rattle.run_rows.proofs.epochs.refusals.Goals as goal
 
 before_a_fence : RefusesBeforeAFence
@@ -35,4 +37,13 @@ unfolding step_run report digits
 each_epoch = (refl, refl, refl)
 
 pub returns : goal.returns
-returns c = record { before_a_fence = before_a_fence; outside_epochs = outside_epochs; no_succeeding = no_succeeding; two_assertions = two_assertions; each_test = each_test; assertions_and_ranks = assertions_and_ranks; each_epoch = each_epoch }
+returns c = record {
+  before_a_fence = before_a_fence;
+  outside_epochs = outside_epochs;
+  no_succeeding = no_succeeding;
+  two_assertions = two_assertions;
+  each_test = each_test;
+  assertions_and_ranks = assertions_and_ranks;
+  each_epoch =
+      each_epoch;
+}

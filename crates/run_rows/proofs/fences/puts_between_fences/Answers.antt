@@ -3,7 +3,8 @@ use Rattle.std.specs.Fmt.{digits}
 use Rattle.std.specs.Prelude.{refl}
 use Rattle.run_texts.specs.Report.{report}
 use Rattle.step_runs.specs.StepRun.{step_run}
-use Rattle.run_rows.specs.Fences.{IsReadAfterTheFence, IsRefusedAtTheEndOfThePart, CountsInUnitsOfTheTarget, ReachesSpaceAndMemory, HasALineForEach32Bytes, EndsWithoutCalls}
+use Rattle.run_rows.specs.Fences.{IsReadAfterTheFence, IsRefusedAtTheEndOfThePart, CountsInUnitsOfTheTarget}
+use Rattle.run_rows.specs.Fences.{ReachesSpaceAndMemory, HasALineForEach32Bytes, EndsWithoutCalls}
 use Rattle.run_rows.proofs.fences.puts_between_fences.Goals as goal
 
 one_put : IsReadAfterTheFence
@@ -31,4 +32,12 @@ unfolding step_run report digits
 no_calls = (refl, refl, refl)
 
 pub returns : goal.returns
-returns c = record { one_put = one_put; past_the_end = past_the_end; two_units = two_units; space_and_memory = space_and_memory; far_stores = far_stores; no_calls = no_calls }
+returns c = record {
+  one_put = one_put;
+  past_the_end = past_the_end;
+  two_units = two_units;
+  space_and_memory =
+      space_and_memory;
+  far_stores = far_stores;
+  no_calls = no_calls;
+}

@@ -23,4 +23,9 @@ unfolding step_run report digits
 local_flush_of_a_get = (refl, refl, refl)
 
 pub returns : goal.returns
-returns c = record { no_flush = no_flush; flush_between = flush_between; local_flush_of_a_put = local_flush_of_a_put; local_flush_of_a_get = local_flush_of_a_get }
+returns c = record {
+  no_flush = no_flush;
+  flush_between = flush_between;
+  local_flush_of_a_put = local_flush_of_a_put;
+  local_flush_of_a_get = local_flush_of_a_get;
+}

@@ -19,4 +19,9 @@ unfolding step_run report digits
 store_beside_a_put = (refl, refl, refl)
 
 pub returns : goal.returns
-returns c = record { load_without_sync = load_without_sync; load_after_sync = load_after_sync; store_beside_a_put = store_beside_a_put }
+returns c = record {
+  load_without_sync = load_without_sync;
+  load_after_sync = load_after_sync;
+  store_beside_a_put =
+      store_beside_a_put;
+}

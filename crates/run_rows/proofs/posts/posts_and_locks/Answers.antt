@@ -3,7 +3,8 @@ use Rattle.std.specs.Fmt.{digits}
 use Rattle.std.specs.Prelude.{refl}
 use Rattle.run_texts.specs.Report.{report}
 use Rattle.step_runs.specs.StepRun.{step_run}
-use Rattle.run_rows.specs.Posts.{ReportsTheGetBeforeTheWait, RefusesALockOfAPostedRank, LooksAfterThePost, RefusesAPostOfALockedRank}
+use Rattle.run_rows.specs.Posts.{ReportsTheGetBeforeTheWait, RefusesALockOfAPostedRank, LooksAfterThePost}
+use Rattle.run_rows.specs.Posts.{RefusesAPostOfALockedRank}
 use Rattle.run_rows.proofs.posts.posts_and_locks.Goals as goal
 
 wait_of_the_target : ReportsTheGetBeforeTheWait
@@ -23,4 +24,9 @@ unfolding step_run report digits
 post_of_a_locked_rank = (refl, refl, refl)
 
 pub returns : goal.returns
-returns c = record { wait_of_the_target = wait_of_the_target; lock_of_a_posted_rank = lock_of_a_posted_rank; look_of_the_refusal = look_of_the_refusal; post_of_a_locked_rank = post_of_a_locked_rank }
+returns c = record {
+  wait_of_the_target = wait_of_the_target;
+  lock_of_a_posted_rank = lock_of_a_posted_rank;
+  look_of_the_refusal = look_of_the_refusal;
+  post_of_a_locked_rank = post_of_a_locked_rank;
+}

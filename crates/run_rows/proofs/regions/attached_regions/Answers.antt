@@ -19,4 +19,9 @@ unfolding step_run report digits
 regions_of_a_space = (refl, refl, refl)
 
 pub returns : goal.returns
-returns c = record { between_barriers = between_barriers; between_fences = between_fences; regions_of_a_space = regions_of_a_space }
+returns c = record {
+  between_barriers = between_barriers;
+  between_fences = between_fences;
+  regions_of_a_space =
+      regions_of_a_space;
+}

@@ -3,7 +3,8 @@ use Rattle.std.specs.Fmt.{digits}
 use Rattle.std.specs.Prelude.{refl}
 use Rattle.run_texts.specs.Report.{report}
 use Rattle.step_runs.specs.StepRun.{step_run}
-use Rattle.run_rows.specs.Standing.{RefusesTheSecondFlavor, WaitsForTheFlavor, RefusesTheRankDrawnSecond, WaitsAsTheRankDrawnFirst}
+use Rattle.run_rows.specs.Standing.{RefusesTheSecondFlavor, WaitsForTheFlavor, RefusesTheRankDrawnSecond}
+use Rattle.run_rows.specs.Standing.{WaitsAsTheRankDrawnFirst}
 use Rattle.run_rows.proofs.standing.flavors_of_one_window.Goals as goal
 
 robin : RefusesTheSecondFlavor

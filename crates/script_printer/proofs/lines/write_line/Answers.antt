@@ -8,5 +8,6 @@ use Rattle.script_printer.proofs.lines.write_line.Goals as goal
 
 pub returns : goal.returns
 returns c =
-    line_written (string_bytes c.args.text.now) c.args.word.now (flat_map (spelled (fields_said c.args.said.now)) c.args.places.now) _ _ _
+    line_written (string_bytes c.args.text.now) c.args.word.now
+    (flat_map (spelled (fields_said c.args.said.now)) c.args.places.now) _ _ _
     c.in_ok-push_str.ensures.bytes c.in_ok-write_places.ensures c.in_ok-push_str-2.ensures.bytes

@@ -7,4 +7,6 @@ use Rattle.script_printer.specs.Printing.{behind_spaces, fields_said}
 use Rattle.script_printer.proofs.lines.write_places.Given as goal
 
 abbrev pub invariant-loop-index : goal.invariant-loop-index
-invariant-loop-index l = string_bytes l.text ++ behind_spaces (flat_map (spelled (fields_said l.said)) (drop l.index l.places)) ≡ string_bytes l.initial.text ++ behind_spaces (flat_map (spelled (fields_said l.said)) l.places)
+invariant-loop-index l = string_bytes l.text ++ behind_spaces
+    (flat_map (spelled (fields_said l.said)) (drop l.index l.places)) ≡ string_bytes l.initial.text ++ behind_spaces
+    (flat_map (spelled (fields_said l.said)) l.places)

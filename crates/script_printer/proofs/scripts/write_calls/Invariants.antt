@@ -6,4 +6,5 @@ use Rattle.script_language.specs.Canon.{call_line}
 use Rattle.script_printer.proofs.scripts.write_calls.Given as goal
 
 abbrev pub invariant-loop-index : goal.invariant-loop-index
-invariant-loop-index l = string_bytes l.text ++ flat_map call_line (drop l.index l.calls) ≡ string_bytes l.initial.text ++ flat_map call_line l.calls
+invariant-loop-index l = string_bytes l.text ++ flat_map call_line (drop l.index l.calls) ≡ string_bytes l.initial.text
+    ++ flat_map call_line l.calls

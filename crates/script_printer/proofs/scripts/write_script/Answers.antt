@@ -14,6 +14,9 @@ returns c =
     let first = string_bytes c.write_line.new.text in
     let second = string_bytes c.write_spaces.new.text in
     let third = string_bytes c.write_ranks.new.text in
-    let spaces = subst (λ (xs : List ℕ). second ≡ first ++ space_lines 0 xs) c.as_slice.ensures c.in_ok-write_spaces.ensures in
-    let ranks = subst (λ (lists : List (List Call)). OnOk c.write_ranks.result (third ≡ second ++ rank_lines 0 lists)) c.as_slice-2.ensures c.write_ranks.ensures in
-    parts_written c.write_ranks.result (string_bytes c.args.text.now) _ (space_lines 0 script.spaces) (rank_lines 0 script.calls) first second third c.in_ok-write_line.ensures spaces ranks
+    let spaces = subst (λ (xs : List ℕ). second ≡ first ++ space_lines 0 xs) c.as_slice.ensures
+    c.in_ok-write_spaces.ensures in
+    let ranks = subst (λ (lists : List (List Call)). OnOk c.write_ranks.result (third ≡ second ++ rank_lines 0 lists))
+    c.as_slice-2.ensures c.write_ranks.ensures in
+    parts_written c.write_ranks.result (string_bytes c.args.text.now) _ (space_lines 0 script.spaces)
+    (rank_lines 0 script.calls) first second third c.in_ok-write_line.ensures spaces ranks

@@ -8,4 +8,6 @@ use Rattle.script_printer.specs.Printing.{behind_spaces}
 use Rattle.script_printer.proofs.tokens.write_assertions.Given as goal
 
 abbrev pub invariant-loop-index : goal.invariant-loop-index
-invariant-loop-index l = string_bytes l.text ++ behind_spaces (map assertion_text (filter (is_given l.asserts) (drop l.index l.all))) ≡ string_bytes l.initial.text ++ behind_spaces (map assertion_text (filter (is_given l.asserts) all_assertions))
+invariant-loop-index l = string_bytes l.text ++ behind_spaces
+    (map assertion_text (filter (is_given l.asserts) (drop l.index l.all))) ≡ string_bytes l.initial.text ++
+    behind_spaces (map assertion_text (filter (is_given l.asserts) all_assertions))

@@ -9,4 +9,5 @@ loop-preserved c =
     let list = c.args.list.now in
     let calls = c.args.calls.now in
     let more = repeated_more c.loop.counter calls in
-    c.in_ok-push_all.ensures ∙ (ap (λ (xs : List Call). xs ++ calls) c.loop.invariant ∙ (append_assoc list (repeated c.loop.counter calls) calls ∙ ap (λ (xs : List Call). list ++ xs) (sym more)))
+    c.in_ok-push_all.ensures ∙ (ap (λ (xs : List Call). xs ++ calls) c.loop.invariant
+    ∙ (append_assoc list (repeated c.loop.counter calls) calls ∙ ap (λ (xs : List Call). list ++ xs) (sym more)))

@@ -8,4 +8,5 @@ returns-then-number-lt10 c = rw (decimal_digit c.args.number (omega arith)) c.is
 
 pub returns-else-number-lt10 : goal.returns-else-number-lt10
 returns-else-number-lt10 c =
-    rw (decimal_step c.args.number (omega arith) (omega arith), decimal_digit (c.args.number / 10) (omega arith)) c.is_token-else-number-lt10.ensures
+    rw (decimal_step c.args.number (omega arith) (omega arith), decimal_digit (c.args.number / 10) (omega arith))
+    c.is_token-else-number-lt10.ensures

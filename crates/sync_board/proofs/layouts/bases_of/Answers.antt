@@ -4,4 +4,5 @@ use Rattle.std.proofs.lemmas.Option.{unwrap_or-slice_get}
 use Rattle.sync_board.proofs.layouts.bases_of.Goals as goal
 
 pub returns-in-None : goal.returns-in-None
-returns-in-None c = ap (λ o. unwrap_or o []) c.in-None.ensures.value ∙ unwrap_or-slice_get c.args.layout.now.bases c.args.rank []
+returns-in-None c = ap (λ o. unwrap_or o []) c.in-None.ensures.value
+    ∙ unwrap_or-slice_get c.args.layout.now.bases c.args.rank []

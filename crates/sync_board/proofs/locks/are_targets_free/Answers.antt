@@ -16,12 +16,15 @@ loop-target-preserved c = λ rank k low below. ⊎_elim
 
 pub returns-then-not-may_grant : goal.returns-then-not-may_grant
 returns-then-not-may_grant c = λ rank order.
-    let found : list_any (do_clash (lock c.args.table.now.window c.loop-target.target c.args.kind rank)) c.args.table.now.held ≡ true =
+    let found : list_any (do_clash (lock c.args.table.now.window c.loop-target.target c.args.kind rank))
+    c.args.table.now.held ≡ true =
     not-false _ (sym (c.may_grant.ensures rank) ∙ c.if-not-may_grant.true) in
-    sym (ap not (one_asked (λ one. list_any (do_clash one) c.args.table.now.held) rank c.args.table.now.window c.args.kind c.args.first (c.args.end - c.args.first) c.loop-target.target
+    sym (ap not (one_asked (λ one. list_any (do_clash one) c.args.table.now.held) rank c.args.table.now.window
+    c.args.kind c.args.first (c.args.end - c.args.first) c.loop-target.target
     (omega arith) (omega arith) found))
 
 pub returns : goal.returns
 returns c = λ rank order.
-    sym (ap not (none_asked (λ one. list_any (do_clash one) c.args.table.now.held) rank c.args.table.now.window c.args.kind c.args.first (c.args.end - c.args.first)
+    sym (ap not (none_asked (λ one. list_any (do_clash one) c.args.table.now.held) rank c.args.table.now.window
+    c.args.kind c.args.first (c.args.end - c.args.first)
     (λ k low below. c.loop-target.invariant rank k low (omega arith))))

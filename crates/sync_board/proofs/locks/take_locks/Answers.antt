@@ -10,11 +10,13 @@ pub loop-target-preserved : goal.loop-target-preserved
 loop-target-preserved c =
     let Takes : ℕ → Type 0 = λ w. AllOn w c.loop-target.table.held →
     list_any (do_clash (lock w c.loop-target.target c.args.kind c.args.rank)) c.loop-target.table.held ≡ false →
-    HasSameLocks c.take_lock.new.table.held (c.loop-target.table.held ++ lock w c.loop-target.target c.args.kind c.args.rank ∷ []) in
+    HasSameLocks c.take_lock.new.table.held
+    (c.loop-target.table.held ++ lock w c.loop-target.target c.args.kind c.args.rank ∷ []) in
     record {
       window = c.take_lock.ensures.window ∙ c.loop-target.invariant.window;
       held = λ order on free.
           taken_more c.args.table.now.window c.args.rank c.args.kind c.args.first c.loop-target.target c.args.end
           c.args.table.now.held c.loop-target.table.held c.take_lock.new.table.held (omega arith) (omega arith) on free
-          (c.loop-target.invariant.held order on free) (subst Takes c.loop-target.invariant.window c.take_lock.ensures.held);
+          (c.loop-target.invariant.held order on free)
+          (subst Takes c.loop-target.invariant.window c.take_lock.ensures.held);
     }

@@ -8,5 +8,6 @@ invariant-loop-target l = record {
   window : l.table.window ≡ l.fn.table.window;
   held : l.first ≤ l.end → AllOn l.fn.table.window l.fn.table.held →
       clashes l.fn.table.held (asked_from l.rank l.fn.table.window l.kind l.first (l.end - l.first)) ≡ false →
-      HasSameLocks l.table.held (l.fn.table.held ++ asked_from l.rank l.fn.table.window l.kind l.first (l.target - l.first));
+      HasSameLocks l.table.held (l.fn.table.held ++ asked_from l.rank l.fn.table.window l.kind l.first
+      (l.target - l.first));
 }

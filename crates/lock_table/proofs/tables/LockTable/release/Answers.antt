@@ -5,5 +5,6 @@ use Rattle.lock_table.proofs.tables.LockTable.release.Goals as goal
 
 pub returns-clause-held : goal.returns-clause-held
 returns-clause-held c = rw (← c.self.view_is)
-    (released c.self.inside.window c.args.target c.args.rank c.self.inside.targets c.without.result (Shared 0) (omega arith)
+    (released c.self.inside.window c.args.target c.args.rank c.self.inside.targets c.without.result (Shared 0)
+    (omega arith)
     (c.without.ensures c.self.inside.window c.args.target))

@@ -10,7 +10,9 @@ use Rattle.step_runs.specs.Agents.{finished}
 use Rattle.step_runs.specs.BoardSteps.{next_row}
 use Rattle.rank_engine.proofs.Asked.{closing_step, may_ask}
 use Rattle.rank_engine.proofs.Ended.{one_longer}
-use Rattle.rank_engine.proofs.EntrySound.{Makes, answered_put, closed_sound, closing_makes, closing_shape, closing_windows}
+use Rattle.rank_engine.proofs.EntrySound.{answered_put, closed_sound}
+use Rattle.rank_engine.proofs.EntryParts.{Makes, closing_makes, closing_shape}
+use Rattle.rank_engine.proofs.EntrySound.{closing_windows}
 use Rattle.rank_engine.proofs.EntryTurns.{closed_turn, not_yet_turn, seen_turn, turned_away, with_room}
 use Rattle.rank_engine.proofs.Passed.{accepted}
 use Rattle.rank_engine.proofs.agent.Agent.close.Goals as goal

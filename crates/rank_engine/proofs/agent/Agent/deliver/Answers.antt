@@ -43,9 +43,11 @@ invariant_of-self-2 g c =
       delivered_sound at c.deliver.new.self c.args.at c.in_ok-delivery.delivery.done (g.L.Keep.kept c.deliver.new.log)
           (g.M.Memory.face c.args.mem.now) (g.M.Memory.face c.deliver.new.mem) (g.M.Memory.knows c.deliver.new.mem) _ _
           c.self.invariant.0
-          (subst (λ (l : List Call). Delivers c.self.inside.queue c.deliver.new.self c.args.at c.in_ok-delivery.delivery.done
+          (subst (λ (l : List Call). Delivers c.self.inside.queue c.deliver.new.self c.args.at
+          c.in_ok-delivery.delivery.done
           c.self.inside.layout.now l (g.M.Memory.face c.args.mem.now) (g.M.Memory.face c.deliver.new.mem)
-          (g.M.Memory.knows c.deliver.new.mem) (g.L.Keep.kept c.self.inside.log) (g.L.Keep.kept c.deliver.new.log)) calls
+          (g.M.Memory.knows c.deliver.new.mem) (g.L.Keep.kept c.self.inside.log) (g.L.Keep.kept c.deliver.new.log))
+          calls
           c.in_ok-delivery.ensures.delivered)
           (subst (λ (s : RankState). IsFirst s.agent.pending c.args.at) (sym same) c.requires.first).0,
       ap (λ n. n + c.in_ok-delivery.delivery.touches) c.self.invariant.1 ∙ sym c.in_ok-delivery.ensures.count,

@@ -17,7 +17,8 @@ returns-then-branch-clause-answer g c =
     c.if-branch.true c.in_ok-deliver.ensures.delivered in (
       subst (λ n. not (n == 0) ≡ true) count (some_pending c.count.result c.if-count-eq0.false),
       drains_one now c.deliver.new.self true (g.M.Memory.face c.args.mem.now) (g.M.Memory.face c.deliver.new.mem)
-          (g.M.Memory.knows c.deliver.new.mem) c.deliver.ensures.sound delivered c.deliver.ensures.few c.deliver.ensures.free,
+          (g.M.Memory.knows c.deliver.new.mem) c.deliver.ensures.sound delivered c.deliver.ensures.few
+          c.deliver.ensures.free,
     )
 
 pub returns-then-branch-clause-told : goal.returns-then-branch-clause-told
@@ -43,6 +44,7 @@ returns-clause-answer g c =
     c.if-branch.false c.in_ok-deliver.ensures.delivered in (
       subst (λ n. not (n == 0) ≡ true) count (some_pending c.count.result c.if-count-eq0.false),
       drains_one now c.deliver.new.self false (g.M.Memory.face c.args.mem.now) (g.M.Memory.face c.deliver.new.mem)
-          (g.M.Memory.knows c.deliver.new.mem) c.deliver.ensures.sound delivered c.deliver.ensures.few c.deliver.ensures.free,
+          (g.M.Memory.knows c.deliver.new.mem) c.deliver.ensures.sound delivered c.deliver.ensures.few
+          c.deliver.ensures.free,
       c.in_ok-deliver.ensures.moved c.if-branch.false,
     )

@@ -11,5 +11,8 @@ invariant_of-self-2 g c =
     let sound = c.self.invariant.0 in
     let new = ap (λ (s : RankState). s.agent.entered) c.self.view_is ∙ c.requires.new in
     let item : Item = Flush c.self.inside.at in
-    let log = c.keep.ensures.kept ∙ ap (λ l. l ++ item ∷ []) c.reserve.ensures.kept in
-    (plain_sound _ item _ _ _ _ _ _ _ _ _ _ _ sound new refl log refl refl, one_longer _ _ item _ c.self.invariant.1 log)
+    let log = c.keep.ensures.kept ∙ ap (λ l. l ++ item ∷ []) c.reserve.ensures.kept in (
+      plain_sound _ item _ _ _ _ _ _ _ _ _ _ _ sound new refl log refl refl,
+      one_longer _ _ item _ c.self.invariant.1
+          log,
+    )

@@ -31,7 +31,8 @@ returns-then-is_now g c =
     issue_delivers c.args.self.now c.put_issue.new.self call access c.count-place.result
     c.in_ok-put_issue-in-Some.ensures
     (ap (λ (s : RankState). access_of s.agent.known.windows call) (sym same) ∙ sym c.in-Some.ensures)
-    (ap (λ (s : RankState). nat_lt 0 access.len && is_at_once s.stage.delay access) (sym same) ∙ sym c.if-is_now.ensures)
+    (ap (λ (s : RankState). nat_lt 0 access.len && is_at_once s.stage.delay access) (sym same)
+    ∙ sym c.if-is_now.ensures)
     (c.count-place.ensures ∙ ap (λ (s : RankState). length s.agent.pending) same) c.requires.none_at_hand
 
 pub returns-else-is_now : goal.returns-else-is_now
@@ -41,4 +42,5 @@ returns-else-is_now g c =
     let same = c.self.view_is in
     issue_waits c.args.self.now c.put_issue.new.self call access c.in_ok-put_issue-in-Some.ensures
     (ap (λ (s : RankState). access_of s.agent.known.windows call) (sym same) ∙ sym c.in-Some.ensures)
-    (ap (λ (s : RankState). nat_lt 0 access.len && is_at_once s.stage.delay access) (sym same) ∙ sym c.if-is_now.ensures)
+    (ap (λ (s : RankState). nat_lt 0 access.len && is_at_once s.stage.delay access) (sym same)
+    ∙ sym c.if-is_now.ensures)

@@ -30,7 +30,8 @@ returns-then-branch-clause-answer g c =
       subst (λ n. 300 ≤ n) (known ∙ free) low,
       sym c.if-is_over.ensures,
       steps_delivered now c.go_on.new.self c.deliver.new.self c.in-Some.at true (g.M.Memory.face c.args.mem.now)
-          (g.M.Memory.face c.deliver.new.mem) (g.M.Memory.knows c.deliver.new.mem) sound c.deliver.ensures.sound move delivered
+          (g.M.Memory.face c.deliver.new.mem) (g.M.Memory.knows c.deliver.new.mem) sound c.deliver.ensures.sound move
+          delivered
           c.deliver.ensures.few c.deliver.ensures.free,
     )
 
@@ -82,7 +83,8 @@ returns-else-branch-clause-answer g c =
       subst (λ n. 300 ≤ n) (known ∙ free) low,
       sym c.if-is_over.ensures,
       steps_delivered now c.go_on.new.self c.deliver.new.self c.in-Some.at false (g.M.Memory.face c.args.mem.now)
-          (g.M.Memory.face c.deliver.new.mem) (g.M.Memory.knows c.deliver.new.mem) sound c.deliver.ensures.sound move delivered
+          (g.M.Memory.face c.deliver.new.mem) (g.M.Memory.knows c.deliver.new.mem) sound c.deliver.ensures.sound move
+          delivered
           c.deliver.ensures.few c.deliver.ensures.free,
       c.in_ok-deliver-in-Some.ensures.moved c.if-branch.false,
     )

@@ -4,7 +4,8 @@ use Rattle.rma_record.specs.declared.items.Item.{Item}
 use Rattle.rma_record.specs.declared.items.Item.TheVariants.{Entry, Refused}
 use Rattle.rank_rules.specs.Courses.{course_of}
 use Rattle.rank_engine.proofs.Asked.{may_ask, opening_step}
-use Rattle.rank_engine.proofs.EntrySound.{answered_put, opened_sound}
+use Rattle.rank_engine.proofs.EntrySound.{answered_put}
+use Rattle.rank_engine.proofs.EntryParts.{opened_sound}
 use Rattle.step_runs.specs.BoardSteps.{next_row}
 use Rattle.rank_engine.proofs.Ended.{one_longer}
 use Rattle.rank_engine.proofs.EntryTurns.{not_yet_turn, opened_turn, seen_turn, turned_away, with_room}

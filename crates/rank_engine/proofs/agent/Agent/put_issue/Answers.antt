@@ -62,7 +62,8 @@ invariant_of-self-2 g c =
       issue_sound at call c.args.access one _ _ _ _ _ _ _ _ _ _ _ c.self.invariant.0 c.requires.written
           (ap (λ (s : RankState). next_call s.stage s.agent) same ∙ c.requires.call)
           (ap (λ (s : RankState). access_of s.agent.known.windows call) same ∙ c.requires.access)
-          (subst (λ (s : RankState). IfSome (transfer_of call) (IsLookedUp s.stage.layout s.agent.known.windows)) (sym same)
+          (subst (λ (s : RankState). IfSome (transfer_of call) (IsLookedUp s.stage.layout s.agent.known.windows))
+          (sym same)
           c.requires.lies)
           (ap is_at_hand same ∙ c.requires.none_at_hand) refl refl log (ap (λ (q : Queue). q.pending) added)
           (ap (λ (q : Queue). q.touched) added),

@@ -11,12 +11,14 @@ use Rattle.rank_epochs.proofs.state.EpochState.after.Goals as goal
 
 pub post-requires-clause-ranks : goal.post-requires-clause-ranks
 post-requires-clause-ranks c =
-    let accepted = subst (λ (call : Call). IsAccepted c.args.self.now (action_of call)) c.in-Post.is c.requires.accepted in
+    let accepted = subst (λ (call : Call). IsAccepted c.args.self.now (action_of call)) c.in-Post.is c.requires.accepted
+    in
     subst (λ (group : List ℤ). list_all (is_rank 16) group ≡ true) (sym c.as_slice.ensures)
     (ranks_of_post c.args.self.now c.in-Post.win c.in-Post.group c.in-Post.asserts accepted)
 
 pub start-requires-clause-ranks : goal.start-requires-clause-ranks
 start-requires-clause-ranks c =
-    let accepted = subst (λ (call : Call). IsAccepted c.args.self.now (action_of call)) c.in-Start.is c.requires.accepted in
+    let accepted = subst (λ (call : Call). IsAccepted c.args.self.now (action_of call)) c.in-Start.is
+    c.requires.accepted in
     subst (λ (group : List ℤ). list_all (is_rank 16) group ≡ true) (sym c.as_slice-in-Start.ensures)
     (ranks_of_start c.args.self.now c.in-Start.win c.in-Start.group c.in-Start.asserts accepted)

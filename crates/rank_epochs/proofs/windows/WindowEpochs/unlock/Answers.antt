@@ -14,4 +14,5 @@ invariant_of-self c =
     let same : c.into_targets-targets.result.items ≡ targets_locked access =
     c.into_targets-targets.ensures ∙ ap (λ a. targets_locked (access_of a)) c.replace.ensures.value in
     let left = c.others-targets.ensures ∙ ap (filter (λ (one : ℕ). not (one == target))) same in
-    subst (λ (items : List ℕ). are_distinct_ranks items ≡ true) (sym left) (distinct_after_unlock access target c.self.invariant)
+    subst (λ (items : List ℕ). are_distinct_ranks items ≡ true) (sym left)
+    (distinct_after_unlock access target c.self.invariant)

@@ -1,6 +1,7 @@
 use Rattle.std.proofs.Common.{◌<◌, ◌+◌, length, refl, set, arith, subst, sym, cond}
 use Rattle.std.specs.Prelude.{sum_by}
-use Rattle.rank_runners.proofs.Drained.{Leaves, begins, within_still, room_still, between_still_here, leaves_less, pending_falls, pending_of, rank_drained}
+use Rattle.rank_runners.proofs.Drained.{Leaves, begins, within_still, room_still, between_still_here, leaves_less}
+use Rattle.rank_runners.proofs.Drained.{pending_falls, pending_of, rank_drained}
 use Rattle.rank_runners.proofs.runners.Runner.drain_rank.Goals as goal
 
 pub deliveries-init : goal.deliveries-init

@@ -20,7 +20,9 @@ use Rattle.script_reader.proofs.Keeping.{line_kept}
 use Rattle.script_reader.proofs.LineRanges.{line_sound, space_new}
 use Rattle.script_reader.proofs.readers.Reader.line.Goals as goal
 
-counted_from : {T : Type 0} (r : Result T ReadError) (new : Reader) (said : Result Draft FaultKind) → Does r new.draft said → OnOk r (HasTotals new) → (said ≡ Ok new.draft → IsSoundDraft new.draft) → OnOk r (IsCounted new)
+counted_from : {T : Type 0} (r : Result T ReadError) (new : Reader) (said : Result Draft FaultKind) →
+    Does r new.draft said → OnOk r (HasTotals new) → (said ≡ Ok new.draft → IsSoundDraft new.draft) →
+    OnOk r (IsCounted new)
 counted_from (Ok done) new said does totals kept = record { sound = kept does; totals = totals }
 counted_from (Err error) new said does totals kept = tt
 
@@ -28,14 +30,21 @@ pub add-requires-clause-space : goal.add-requires-clause-space
 add-requires-clause-space c = λ is.
     let stands : may_stand c.args.self.now.draft c.in_ok-form.form ≡ true = grind (arith, common_steps) in
     let here : may_stand c.args.self.now.draft Space ≡ true = rw is at stands in
-    let begun = leb-true 1 c.args.self.now.draft.ranks (both_true (is_begun c.args.self.now.draft) (not (is_in_block c.args.self.now.draft)) here).0 in
-    let told : tokens_read c.args.self.now.draft no_fields (places_of c.in_ok-form.form) (tokens_in c.in-Some.rest.now) ≡ Ok c.in_ok-fields.fields = rw (← c.places_of.ensures) c.in_ok-fields.ensures in
+    let begun = leb-true 1 c.args.self.now.draft.ranks
+    (both_true (is_begun c.args.self.now.draft) (not (is_in_block c.args.self.now.draft)) here).0 in
+    let told : tokens_read c.args.self.now.draft no_fields (places_of c.in_ok-form.form) (tokens_in c.in-Some.rest.now)
+    ≡ Ok c.in_ok-fields.fields = rw (← c.places_of.ensures) c.in_ok-fields.ensures in
     space_new c.args.self.now.draft (tokens_in c.in-Some.rest.now) c.in_ok-fields.fields begun (rw is at told)
 
 pub returns-clause-counted : goal.returns-clause-counted
 returns-clause-counted c =
     let stands : may_stand c.args.self.now.draft c.in_ok-form.form ≡ true = grind (arith, common_steps) in
-    let told : tokens_read c.args.self.now.draft no_fields (places_of c.in_ok-form.form) (tokens_in c.in-Some.rest.now) ≡ Ok c.in_ok-fields.fields = rw (← c.places_of.ensures) c.in_ok-fields.ensures in
-    let fields = line_sound c.args.self.now.draft c.in_ok-form.form (tokens_in c.in-Some.rest.now) c.in_ok-fields.fields told in
-    counted_from c.add.result c.add.new.self (limited (with_line c.args.self.now.draft c.in_ok-form.form c.in_ok-fields.fields)) c.add.ensures.draft c.add.ensures.totals
-    (λ h. line_kept c.args.self.now.draft c.add.new.self.draft c.in_ok-form.form c.in_ok-fields.fields c.requires.sound stands fields h)
+    let told : tokens_read c.args.self.now.draft no_fields (places_of c.in_ok-form.form) (tokens_in c.in-Some.rest.now)
+    ≡ Ok c.in_ok-fields.fields = rw (← c.places_of.ensures) c.in_ok-fields.ensures in
+    let fields = line_sound c.args.self.now.draft c.in_ok-form.form (tokens_in c.in-Some.rest.now) c.in_ok-fields.fields
+    told in
+    counted_from c.add.result c.add.new.self
+    (limited (with_line c.args.self.now.draft c.in_ok-form.form c.in_ok-fields.fields)) c.add.ensures.draft
+    c.add.ensures.totals
+    (λ h. line_kept c.args.self.now.draft c.add.new.self.draft c.in_ok-form.form c.in_ok-fields.fields c.requires.sound
+    stands fields h)

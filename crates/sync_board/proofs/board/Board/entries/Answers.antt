@@ -5,5 +5,6 @@ use Rattle.sync_board.proofs.board.Board.entries.Goals as goal
 
 pub returns : goal.returns
 returns g c =
-    c.as_slice.ensures.value ∙ (givens_rows g.N.Token.front c.self.inside.list.rows.items c.self.inside.list.kept.items c.self.invariant.sizes
+    c.as_slice.ensures.value ∙ (givens_rows g.N.Token.front c.self.inside.list.rows.items c.self.inside.list.kept.items
+    c.self.invariant.sizes
     ∙ ap (λ (b : BoardState). map entry_row b.entries) c.self.view_is)

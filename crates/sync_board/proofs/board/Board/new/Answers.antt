@@ -13,7 +13,9 @@ invariant_of-result g c =
       layout_of = rw c.in-Ok.ensures c.requires.layout;
       sizes = rw (c.new-list.ensures.rows, c.new-list.ensures.kept) refl;
       short = rw c.new-list.ensures.rows (omega arith);
-      done = subst (λ (es : List Given). KeepsState c.in-Ok.layout c.args.ranks (rows_given es) c.new-state.result) (sym none) (c.new-state.ensures c.in-Ok.layout c.args.ranks);
-      given = subst (λ (es : List Given). Keeps g.N.Token.front c.args.ranks es c.new-gains.result) (sym none) c.new-gains.ensures.keeps;
+      done = subst (λ (es : List Given). KeepsState c.in-Ok.layout c.args.ranks (rows_given es) c.new-state.result)
+          (sym none) (c.new-state.ensures c.in-Ok.layout c.args.ranks);
+      given = subst (λ (es : List Given). Keeps g.N.Token.front c.args.ranks es c.new-gains.result)
+          (sym none) c.new-gains.ensures.keeps;
       sound = rw (c.fork-copy.ensures.origin_stays, ← c.fork-copy.ensures.origin) c.new-gains.ensures.sound;
     }

@@ -6,7 +6,8 @@ use Rattle.sync_board.proofs.parts.Parts.collected.Goals as goal
 pub loop-rank-preserved : goal.loop-rank-preserved
 loop-rank-preserved c = record {
   parts =
-      c.in-Ok.ensures.items ∙ (rw (c.loop-rank.invariant.parts, c.part-part.ensures) (sym (parts_one_more c.args.self.now.parts.items c.loop-rank.rank)));
+      c.in-Ok.ensures.items ∙ (rw (c.loop-rank.invariant.parts, c.part-part.ensures)
+      (sym (parts_one_more c.args.self.now.parts.items c.loop-rank.rank)));
   dynamic = λ is k below. ⊎_elim
       (λ before. c.loop-rank.invariant.dynamic is k before)
       (λ past.

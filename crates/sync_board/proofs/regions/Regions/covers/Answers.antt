@@ -15,9 +15,11 @@ loop-address-preserved c = λ ranges k keeps low below. ⊎_elim
 
 pub returns-then-not-has : goal.returns-then-not-has
 returns-then-not-has c = λ ranges keeps.
-    sym (not_all_numbers (λ address. list_any (has_byte address) ranges) c.args.lo c.args.len c.loop-address.address (omega arith) (omega arith)
+    sym (not_all_numbers (λ address. list_any (has_byte address) ranges) c.args.lo c.args.len c.loop-address.address
+    (omega arith) (omega arith)
     (sym (c.has.ensures ranges keeps) ∙ c.if-not-has.true))
 
 pub returns : goal.returns
 returns c = λ ranges keeps.
-    sym (all_numbers (λ address. list_any (has_byte address) ranges) c.args.lo c.args.len (λ k low high. c.loop-address.invariant ranges k keeps low (omega arith)))
+    sym (all_numbers (λ address. list_any (has_byte address) ranges) c.args.lo c.args.len
+    (λ k low high. c.loop-address.invariant ranges k keeps low (omega arith)))

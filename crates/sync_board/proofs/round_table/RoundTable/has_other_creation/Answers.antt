@@ -12,9 +12,11 @@ pub returns-then-creation_differs : goal.returns-then-creation_differs
 returns-then-creation_differs c = λ q asker all is kept.
     let round = c.begun-round.ensures (done_at q) kept in
     let found = sym (c.creation_differs.ensures (done_at q) kept) ∙ c.if-creation_differs.true in
-    let Q : ℕ → Type 0 = λ n. list_any (is_differing_creation c.args.flavor) (arrival_in (done_at q c.loop-other.other).creations n) ≡ true in
+    let Q : ℕ → Type 0 = λ n. list_any (is_differing_creation c.args.flavor)
+    (arrival_in (done_at q c.loop-other.other).creations n) ≡ true in
     sym (round_is (is_differing_creation c.args.flavor) q Creation c.args.rank c.args.ranks asker all is
-    ∙ some_number (λ j. list_any (is_differing_creation c.args.flavor) (arrival_in (done_at q j).creations (length (done_at q c.args.rank).creations))) 0 c.args.ranks
+    ∙ some_number (λ j. list_any (is_differing_creation c.args.flavor)
+    (arrival_in (done_at q j).creations (length (done_at q c.args.rank).creations))) 0 c.args.ranks
     c.loop-other.other (omega arith) (omega arith) (subst Q round found))
 
 pub loop-other-preserved : goal.loop-other-preserved
@@ -22,7 +24,8 @@ loop-other-preserved c = λ done_of k kept below. ⊎_elim
     (λ before. c.loop-other.invariant done_of k kept before)
     (λ past.
     let here : k ≡ c.loop-other.other = omega arith in
-    ap (λ j. list_any (is_differing_creation c.args.flavor) (arrival_in (done_of j).creations c.begun-round.result)) here
+    ap (λ j. list_any (is_differing_creation c.args.flavor) (arrival_in (done_of j).creations c.begun-round.result))
+    here
     ∙ (sym (c.creation_differs.ensures done_of kept) ∙ c.if-creation_differs.false))
     (cases_lt k c.loop-other.other)
 
@@ -30,7 +33,9 @@ pub returns : goal.returns
 returns c = λ q asker all is kept.
     let round = c.begun-round.ensures (done_at q) kept in
     sym (round_is (is_differing_creation c.args.flavor) q Creation c.args.rank c.args.ranks asker all is
-    ∙ no_number (λ j. list_any (is_differing_creation c.args.flavor) (arrival_in (done_at q j).creations (length (done_at q c.args.rank).creations))) 0 c.args.ranks
+    ∙ no_number (λ j. list_any (is_differing_creation c.args.flavor)
+    (arrival_in (done_at q j).creations (length (done_at q c.args.rank).creations))) 0 c.args.ranks
     (λ k low high.
-    let Q : ℕ → Type 0 = λ n. list_any (is_differing_creation c.args.flavor) (arrival_in (done_at q k).creations n) ≡ false in
+    let Q : ℕ → Type 0 = λ n. list_any (is_differing_creation c.args.flavor) (arrival_in (done_at q k).creations n) ≡
+    false in
     subst Q round (c.loop-other.invariant (done_at q) k kept (omega arith))))

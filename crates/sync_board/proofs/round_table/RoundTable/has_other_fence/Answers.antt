@@ -12,9 +12,11 @@ pub returns-then-fence_differs : goal.returns-then-fence_differs
 returns-then-fence_differs c = λ q asker all is kept.
     let round = c.begun-round.ensures (done_at q) kept in
     let found = sym (c.fence_differs.ensures (done_at q) kept) ∙ c.if-fence_differs.true in
-    let Q : ℕ → Type 0 = λ n. list_any (is_differing_fence c.args.asserts) (arrival_in (done_at q c.loop-other.other).fences n) ≡ true in
+    let Q : ℕ → Type 0 = λ n. list_any (is_differing_fence c.args.asserts)
+    (arrival_in (done_at q c.loop-other.other).fences n) ≡ true in
     sym (round_is (is_differing_fence c.args.asserts) q Fence c.args.rank c.args.ranks asker all is
-    ∙ some_number (λ j. list_any (is_differing_fence c.args.asserts) (arrival_in (done_at q j).fences (length (done_at q c.args.rank).fences))) 0 c.args.ranks
+    ∙ some_number (λ j. list_any (is_differing_fence c.args.asserts)
+    (arrival_in (done_at q j).fences (length (done_at q c.args.rank).fences))) 0 c.args.ranks
     c.loop-other.other (omega arith) (omega arith) (subst Q round found))
 
 pub loop-other-preserved : goal.loop-other-preserved
@@ -30,7 +32,9 @@ pub returns : goal.returns
 returns c = λ q asker all is kept.
     let round = c.begun-round.ensures (done_at q) kept in
     sym (round_is (is_differing_fence c.args.asserts) q Fence c.args.rank c.args.ranks asker all is
-    ∙ no_number (λ j. list_any (is_differing_fence c.args.asserts) (arrival_in (done_at q j).fences (length (done_at q c.args.rank).fences))) 0 c.args.ranks
+    ∙ no_number (λ j. list_any (is_differing_fence c.args.asserts)
+    (arrival_in (done_at q j).fences (length (done_at q c.args.rank).fences))) 0 c.args.ranks
     (λ k low high.
-    let Q : ℕ → Type 0 = λ n. list_any (is_differing_fence c.args.asserts) (arrival_in (done_at q k).fences n) ≡ false in
+    let Q : ℕ → Type 0 = λ n. list_any (is_differing_fence c.args.asserts) (arrival_in (done_at q k).fences n) ≡ false
+    in
     subst Q round (c.loop-other.invariant (done_at q) k kept (omega arith))))

@@ -7,4 +7,5 @@ use Rattle.sync_board.specs.Tables.{KeepsRounds}
 use Rattle.sync_board.proofs.round_table.RoundTable.has_other_fence.Given as goal
 
 abbrev pub invariant-loop-other : goal.invariant-loop-other
-invariant-loop-other l = (done_of : ℕ → Done) (k : ℕ) → KeepsRounds done_of l.self.rounds.items → k < l.other → list_any (is_differing_fence l.asserts) (arrival_in (done_of k).fences l.round) ≡ false
+invariant-loop-other l = (done_of : ℕ → Done) (k : ℕ) → KeepsRounds done_of l.self.rounds.items → k < l.other →
+    list_any (is_differing_fence l.asserts) (arrival_in (done_of k).fences l.round) ≡ false

@@ -10,9 +10,11 @@ returns-then-arrived-begun c = λ q asker all is kept.
     let begun = c.begun-begun.ensures (done_at q) kept in
     let arrived = c.begun-arrived.ensures (done_at q) kept in
     sym (arrived_is q c.args.kind c.args.rank c.args.ranks asker all is
-    ∙ not_all_numbers (λ k. leb (length (arrivals_by c.args.kind (done_at q c.args.rank))) (length (arrivals_by c.args.kind (done_at q k)))) 0 c.args.ranks
+    ∙ not_all_numbers (λ k. leb (length (arrivals_by c.args.kind (done_at q c.args.rank)))
+    (length (arrivals_by c.args.kind (done_at q k)))) 0 c.args.ranks
     c.loop-other.other (omega arith) (omega arith)
-    (lt-leb (length (arrivals_by c.args.kind (done_at q c.args.rank))) (length (arrivals_by c.args.kind (done_at q c.loop-other.other))) (omega (arith, begun, arrived))))
+    (lt-leb (length (arrivals_by c.args.kind (done_at q c.args.rank)))
+    (length (arrivals_by c.args.kind (done_at q c.loop-other.other))) (omega (arith, begun, arrived))))
 
 pub loop-other-preserved : goal.loop-other-preserved
 loop-other-preserved c = λ done_of k kept below. ⊎_elim
@@ -21,14 +23,16 @@ loop-other-preserved c = λ done_of k kept below. ⊎_elim
     let here : k ≡ c.loop-other.other = omega arith in
     let arrived = c.begun-arrived.ensures done_of kept in
     ap (λ j. leb c.begun-begun.result (length (arrivals_by c.args.kind (done_of j)))) here
-    ∙ le-leb c.begun-begun.result (length (arrivals_by c.args.kind (done_of c.loop-other.other))) (omega (arith, arrived)))
+    ∙ le-leb c.begun-begun.result (length (arrivals_by c.args.kind (done_of c.loop-other.other)))
+    (omega (arith, arrived)))
     (cases_lt k c.loop-other.other)
 
 pub returns : goal.returns
 returns c = λ q asker all is kept.
     let begun = c.begun-begun.ensures (done_at q) kept in
     sym (arrived_is q c.args.kind c.args.rank c.args.ranks asker all is
-    ∙ all_numbers (λ k. leb (length (arrivals_by c.args.kind (done_at q c.args.rank))) (length (arrivals_by c.args.kind (done_at q k)))) 0 c.args.ranks
+    ∙ all_numbers (λ k. leb (length (arrivals_by c.args.kind (done_at q c.args.rank)))
+    (length (arrivals_by c.args.kind (done_at q k)))) 0 c.args.ranks
     (λ k low high.
     let Q : ℕ → Type 0 = λ n. leb n (length (arrivals_by c.args.kind (done_at q k))) ≡ true in
     subst Q begun (c.loop-other.invariant (done_at q) k kept (omega arith))))

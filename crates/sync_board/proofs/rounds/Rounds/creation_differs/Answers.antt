@@ -15,7 +15,8 @@ returns-in-Some c = λ d kept.
     ∙ ap (λ xs. slice_get xs c.args.round) c.deref.ensures.value) in
     c.is_other.ensures
     ∙ (ap (λ o. option_map_or (λ f. not (is_same_flavor c.args.flavor f)) o false) found
-    ∙ any_arrival flavor_in (λ f. not (is_same_flavor c.args.flavor f)) (is_differing_creation c.args.flavor) (creation_by_flavor c.args.flavor) c.args.self.now.created.items d.creations kept.created c.args.round)
+    ∙ any_arrival flavor_in (λ f. not (is_same_flavor c.args.flavor f)) (is_differing_creation c.args.flavor)
+    (creation_by_flavor c.args.flavor) c.args.self.now.created.items d.creations kept.created c.args.round)
 
 pub returns-in-None : goal.returns-in-None
 returns-in-None c = λ d kept.
@@ -23,4 +24,5 @@ returns-in-None c = λ d kept.
     sym (slice_get_past c.deref.result.now c.args.round c.in-None.ensures.lookup.3)
     ∙ ap (λ xs. slice_get xs c.args.round) c.deref.ensures.value in
     ap (λ o. option_map_or (λ f. not (is_same_flavor c.args.flavor f)) o false) missing
-    ∙ any_arrival flavor_in (λ f. not (is_same_flavor c.args.flavor f)) (is_differing_creation c.args.flavor) (creation_by_flavor c.args.flavor) c.args.self.now.created.items d.creations kept.created c.args.round
+    ∙ any_arrival flavor_in (λ f. not (is_same_flavor c.args.flavor f)) (is_differing_creation c.args.flavor)
+    (creation_by_flavor c.args.flavor) c.args.self.now.created.items d.creations kept.created c.args.round

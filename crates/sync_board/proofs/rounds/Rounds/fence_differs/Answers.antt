@@ -14,7 +14,8 @@ returns-in-Some c = λ d kept.
     ∙ ap (λ xs. slice_get xs c.args.round) c.deref.ensures.value) in
     c.do_differ.ensures
     ∙ (ap (λ o. option_map_or (do_asserts_differ c.args.asserts) o false) found
-    ∙ any_arrival asserts_in (do_asserts_differ c.args.asserts) (is_differing_fence c.args.asserts) (fence_by_asserts c.args.asserts) c.args.self.now.fences.items d.fences kept.fences c.args.round)
+    ∙ any_arrival asserts_in (do_asserts_differ c.args.asserts) (is_differing_fence c.args.asserts)
+    (fence_by_asserts c.args.asserts) c.args.self.now.fences.items d.fences kept.fences c.args.round)
 
 pub returns-in-None : goal.returns-in-None
 returns-in-None c = λ d kept.
@@ -22,4 +23,5 @@ returns-in-None c = λ d kept.
     sym (slice_get_past c.deref.result.now c.args.round c.in-None.ensures.lookup.3)
     ∙ ap (λ xs. slice_get xs c.args.round) c.deref.ensures.value in
     ap (λ o. option_map_or (do_asserts_differ c.args.asserts) o false) missing
-    ∙ any_arrival asserts_in (do_asserts_differ c.args.asserts) (is_differing_fence c.args.asserts) (fence_by_asserts c.args.asserts) c.args.self.now.fences.items d.fences kept.fences c.args.round
+    ∙ any_arrival asserts_in (do_asserts_differ c.args.asserts) (is_differing_fence c.args.asserts)
+    (fence_by_asserts c.args.asserts) c.args.self.now.fences.items d.fences kept.fences c.args.round

@@ -3,7 +3,8 @@ use Rattle.sync_board.proofs.SideSteps.{some_so, with_start_past, with_start_bef
 use Rattle.sync_board.proofs.sides.Side.completed_with_start.Goals as goal
 
 pub returns-then-len-self : goal.returns-then-len-self
-returns-then-len-self c = some_so _ _ (λ new more. with_start_past c.args.self.now c.args.group.now new (omega arith) more) c.raised.result c.raised.ensures
+returns-then-len-self c = some_so _ _ (λ new more. with_start_past c.args.self.now c.args.group.now new
+    (omega arith) more) c.raised.result c.raised.ensures
 
 pub returns-else-len-self : goal.returns-else-len-self
 returns-else-len-self c = with_start_before c.args.self.now c.args.group.now (omega arith)

@@ -12,7 +12,8 @@ returns-in-Some-clause-after c = λ rows kept.
     record {
       window = ap (λ o. option_map_or (λ win. window_number (round_of rows row win) win) o 0) named
           ∙ ap (λ r. 32 * r + c.in-Some.name) (sym (c.round-round.ensures.value rows kept
-          ∙ ap (λ b. cond b (creations rows c.args.rank c.in-Some.name) (creations rows c.args.rank c.in-Some.name - 1)) (c.begins_window-begins.ensures c.args.rank c.args.number)));
+          ∙ ap (λ b. cond b (creations rows c.args.rank c.in-Some.name) (creations rows c.args.rank c.in-Some.name - 1))
+          (c.begins_window-begins.ensures c.args.rank c.args.number)));
       number = refl;
       below = rw c.in-Some.is at c.window_named.ensures.below;
       named = rw named refl;

@@ -1,4 +1,5 @@
-use Rattle.std.proofs.Common.{◌≡◌, ◌+◌, cond, get_or, length, Bool, true, false, refl, ap, sym, ◌∙◌, subst, Option, Some, None, ⊎_elim}
+use Rattle.std.proofs.Common.{◌≡◌, ◌+◌, cond, get_or, length, Bool, true, false, refl, ap, sym, ◌∙◌, subst, Option}
+use Rattle.std.proofs.Common.{Some, None, ⊎_elim}
 use Rattle.std.proofs.lemmas.Bool.{cases_eq}
 use Rattle.rma_types.specs.declared.classes.Class.{Class}
 use Rattle.board_rules.specs.Board.{Allow, decision_by, is_allowed_now, refusal}
@@ -21,18 +22,24 @@ pub returns-in-Ok-clause-ok : goal.returns-in-Ok-clause-ok
 returns-in-Ok-clause-ok c = λ rows after allowed kept.
     let row : Row = row_asked c.args.asked.now in
     let q : Question = question c.args.asked.now.ranks rows (row_asked c.args.asked.now) in
-    let is : IsQuestion (question c.args.asked.now.ranks rows (row_asked c.args.asked.now)) c.args.asked.now = record { ranks = refl; rank = refl; call = refl; window = after.window } in
+    let is : IsQuestion (question c.args.asked.now.ranks rows (row_asked c.args.asked.now)) c.args.asked.now = record
+    { ranks = refl; rank = refl; call = refl; window = after.window } in
     let more = acts_entered c.args.asked.now.ranks rows (row_asked c.args.asked.now) in
-    let act : Act = entered (question c.args.asked.now.ranks rows (row_asked c.args.asked.now)) c.args.asked.now.number c.args.asked.now.step in
+    let act : Act = entered (question c.args.asked.now.ranks rows (row_asked c.args.asked.now)) c.args.asked.now.number
+    c.args.asked.now.step in
     record {
-      begun = begun_more rows row c.args.self.now.creations.items c.make_room.new.counts.items c.add.new.counts.items c.args.asked.now.name c.begins_window.result
-          c.requires.name after.named (c.begins_window.ensures c.args.asked.now.rank c.args.asked.now.number) kept.begun c.make_room.ensures.same c.in_ok-make_room.ensures.small c.add.ensures.here c.add.ensures.others;
+      begun = begun_more rows row c.args.self.now.creations.items c.make_room.new.counts.items c.add.new.counts.items
+          c.args.asked.now.name c.begins_window.result
+          c.requires.name after.named (c.begins_window.ensures c.args.asked.now.rank c.args.asked.now.number) kept.begun
+          c.make_room.ensures.same c.in_ok-make_room.ensures.small c.add.ensures.here c.add.ensures.others;
       met = λ rank. ⊎_elim
           (λ e.
           ap (λ k. get_or c.add-in-Ok.new.counts.items k 0) e
           ∙ (c.add-in-Ok.ensures.here
-          ∙ (ap (λ n. n + cond c.meets.result 1 0) (c.make_room-2.ensures.same c.args.asked.now.rank ∙ (kept.met c.args.asked.now.rank ∙ ap (λ k. length (arrivals (acts rows) Barrier k 0)) (sym e)))
-          ∙ (sym (met_here (acts rows) act rank c.args.asked.now.call.now c.meets.result e refl c.meets.ensures (window_zero rows row))
+          ∙ (ap (λ n. n + cond c.meets.result 1 0) (c.make_room-2.ensures.same c.args.asked.now.rank
+          ∙ (kept.met c.args.asked.now.rank ∙ ap (λ k. length (arrivals (acts rows) Barrier k 0)) (sym e)))
+          ∙ (sym (met_here (acts rows) act rank c.args.asked.now.call.now c.meets.result e refl c.meets.ensures
+          (window_zero rows row))
           ∙ ap (λ entries. length (arrivals entries Barrier rank 0)) (sym more)))))
           (λ apart.
           c.add-in-Ok.ensures.others rank apart
@@ -41,14 +48,18 @@ returns-in-Ok-clause-ok c = λ rows after allowed kept.
           ∙ (sym (met_same (acts rows) act rank apart)
           ∙ ap (λ entries. length (arrivals entries Barrier rank 0)) (sym more)))))
           (cases_eq rank c.args.asked.now.rank);
-      windows = subst (λ entries. KeepsWindows c.args.layout.now c.args.asked.now.ranks entries c.enter.new.self.names.items) (sym more)
-          (c.in-Ok.ensures.ok q is (after.window ∙ after.number) (allowed_so (refusal q c.args.asked.now.step) (is_allowed_now q c.args.asked.now.step) allowed) kept.windows);
+      windows = subst (λ entries. KeepsWindows c.args.layout.now c.args.asked.now.ranks entries
+          c.enter.new.self.names.items) (sym more)
+          (c.in-Ok.ensures.ok q is (after.window ∙ after.number)
+          (allowed_so (refusal q c.args.asked.now.step) (is_allowed_now q c.args.asked.now.step) allowed)
+          kept.windows);
     }
 
 pub returns-in-Err-clause-err : goal.returns-in-Err-clause-err
 returns-in-Err-clause-err c = λ rows after kept.
     let q = question c.args.asked.now.ranks rows (row_asked c.args.asked.now) in
-    let is : IsQuestion (question c.args.asked.now.ranks rows (row_asked c.args.asked.now)) c.args.asked.now = record { ranks = refl; rank = refl; call = refl; window = after.window } in
+    let is : IsQuestion (question c.args.asked.now.ranks rows (row_asked c.args.asked.now)) c.args.asked.now = record
+    { ranks = refl; rank = refl; call = refl; window = after.window } in
     record {
       begun = record {
         counted = λ rank name below. c.make_room.ensures.same _ ∙ kept.begun.counted rank name below;

@@ -10,10 +10,14 @@ pub returns-then-have_all_met : goal.returns-then-have_all_met
 returns-then-have_all_met c = λ layout rows call step kept.
     let zero = window_zero rows (row_asked c.args.asked.now) (ap (is_collective Barrier) call) in
     sym (ap (decision (question c.args.asked.now.ranks rows (row_asked c.args.asked.now))) step
-    ∙ ap (decision_by None) (sym (c.have_all_met.ensures (question c.args.asked.now.ranks rows (row_asked c.args.asked.now)) rows refl refl call zero refl kept.met) ∙ c.if-have_all_met.true))
+    ∙ ap (decision_by None) (sym (c.have_all_met.ensures
+    (question c.args.asked.now.ranks rows (row_asked c.args.asked.now)) rows refl refl call zero refl kept.met)
+    ∙ c.if-have_all_met.true))
 
 pub returns-else-have_all_met : goal.returns-else-have_all_met
 returns-else-have_all_met c = λ layout rows call step kept.
     let zero = window_zero rows (row_asked c.args.asked.now) (ap (is_collective Barrier) call) in
     sym (ap (decision (question c.args.asked.now.ranks rows (row_asked c.args.asked.now))) step
-    ∙ ap (decision_by None) (sym (c.have_all_met.ensures (question c.args.asked.now.ranks rows (row_asked c.args.asked.now)) rows refl refl call zero refl kept.met) ∙ c.if-have_all_met.false))
+    ∙ ap (decision_by None) (sym (c.have_all_met.ensures
+    (question c.args.asked.now.ranks rows (row_asked c.args.asked.now)) rows refl refl call zero refl kept.met)
+    ∙ c.if-have_all_met.false))

@@ -23,15 +23,28 @@ returns-clause-ok c = on_ok_weaker c.attach.result
     let new = with_entry (done_on q.entries q.window c.args.rank) step (kept_call q.call) (Attaches win from size) in
     let same = same_for q number step c.args.rank asker in
     let at = done_entered q number step c.args.rank (Attaches win from size) asker is refl in
-    let span : record { base = natural from; bytes = natural size } ≡ record { base = c.args.base; bytes = c.args.bytes } = rw (base, bytes) refl in
+    let span : record { base = natural from; bytes = natural size } ≡ record
+    { base = c.args.base; bytes = c.args.bytes } = rw (base, bytes) refl in
     record {
-      sides = sides_by c.args.rank before after new c.args.self.now.side_table.sides.items same at (sides_unless (done_on q.entries q.window c.args.rank) step (kept_call q.call) (Attaches win from size) refl) kept.sides;
-      members = members_by c.args.rank before after new same at (sides_unless (done_on q.entries q.window c.args.rank) step (kept_call q.call) (Attaches win from size) refl).posts kept.members;
-      rounds = rounds_by c.args.rank before after new c.args.self.now.round_table.rounds.items same at (rounds_unless (done_on q.entries q.window c.args.rank) step (kept_call q.call) (Attaches win from size) (and_right (is_arrive step) false refl)) kept.rounds;
+      sides = sides_by c.args.rank before after new c.args.self.now.side_table.sides.items same at
+          (sides_unless (done_on q.entries q.window c.args.rank) step (kept_call q.call) (Attaches win from size) refl)
+          kept.sides;
+      members = members_by c.args.rank before after new same at
+          (sides_unless (done_on q.entries q.window c.args.rank) step (kept_call q.call) (Attaches win from size)
+          refl).posts kept.members;
+      rounds = rounds_by c.args.rank before after new c.args.self.now.round_table.rounds.items same at
+          (rounds_unless (done_on q.entries q.window c.args.rank) step (kept_call q.call) (Attaches win from size)
+          (and_right (is_arrive step) false refl)) kept.rounds;
       held = held_unless q number step c.args.self.now.lock_state.table (Attaches win from size) is refl refl kept.held;
-      regions = more before after same (ap (λ (d : Done). d.ranges) at ∙ ap (λ (r : Range). (done_on q.entries q.window c.args.rank).ranges ++ r ∷ []) span) kept.regions;
-      inside = inside_by layout c.args.rank before after same (rw at (rw span (all_more (λ (range : Range). range.base + range.bytes ≤ bytes_at layout c.args.rank) (done_on q.entries q.window c.args.rank).ranges (record { base = c.args.base; bytes = c.args.bytes }) (kept.inside c.args.rank) within))) kept.inside;
-      brought = parts_unless layout q number step c.args.self.now.parts.parts.items (Attaches win from size) is refl kept.brought;
+      regions = more before after same
+          (ap (λ (d : Done). d.ranges) at ∙ ap (λ (r : Range). (done_on q.entries q.window c.args.rank).ranges ++ r
+          ∷ []) span) kept.regions;
+      inside = inside_by layout c.args.rank before after same
+          (rw at (rw span (all_more (λ (range : Range). range.base + range.bytes ≤ bytes_at layout c.args.rank)
+          (done_on q.entries q.window c.args.rank).ranges (record { base = c.args.base; bytes = c.args.bytes })
+          (kept.inside c.args.rank) within))) kept.inside;
+      brought = parts_unless layout q number step c.args.self.now.parts.parts.items (Attaches win from size) is refl
+          kept.brought;
     })
     c.attach.ensures.ok
 

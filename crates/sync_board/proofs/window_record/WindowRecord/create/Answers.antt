@@ -20,13 +20,18 @@ returns-in-Ok-clause-ok c = λ layout q number creation asker is flavor made wit
     let at = create_at q number c.args.rank creation asker is in
     let whole = kept_action q.call (Creates creation) is refl in
     record {
-      sides = sides_by c.args.rank before after new c.args.self.now.side_table.sides.items same at (record { posts = refl; starts = refl; completes = refl; waits = refl }) kept.sides;
+      sides = sides_by c.args.rank before after new c.args.self.now.side_table.sides.items same at
+          (record { posts = refl; starts = refl; completes = refl; waits = refl }) kept.sides;
       members = members_by c.args.rank before after new same at refl kept.members;
-      rounds = c.in-Ok.ensures.ok before after (kept_call q.call) (ap (λ a. option_map (λ (c : Creation). c.flavor) (creation_in a)) whole ∙ ap Some flavor) same at kept.rounds;
+      rounds = c.in-Ok.ensures.ok before after (kept_call q.call)
+          (ap (λ a. option_map (λ (c : Creation). c.flavor) (creation_in a)) whole ∙ ap Some flavor) same at
+          kept.rounds;
       held = held_unless q number Arrive c.args.self.now.lock_state.table (Creates creation) is refl refl kept.held;
-      regions = regions_each before after c.args.self.now.region_table.regions.items (ranges_by c.args.rank before after new same at refl) kept.regions;
+      regions = regions_each before after c.args.self.now.region_table.regions.items
+          (ranges_by c.args.rank before after new same at refl) kept.regions;
       inside = inside_each layout before after (ranges_by c.args.rank before after new same at refl) kept.inside;
-      brought = c.arrive.ensures layout q.window q.entries (entered q number Arrive) creation asker refl refl (ap creation_in whole) made within (c.reserve.ensures.same layout q.window q.entries kept.brought);
+      brought = c.arrive.ensures layout q.window q.entries (entered q number Arrive) creation asker refl refl
+          (ap creation_in whole) made within (c.reserve.ensures.same layout q.window q.entries kept.brought);
     }
 
 pub returns-in-Err-clause-err : goal.returns-in-Err-clause-err

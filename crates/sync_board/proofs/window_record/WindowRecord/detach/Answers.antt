@@ -24,11 +24,23 @@ returns c =
     let same = same_for q number step c.args.rank asker in
     let at = done_entered q number step c.args.rank (Detaches win from) asker is refl in
     record {
-      sides = sides_by c.args.rank before after new c.args.self.now.side_table.sides.items same at (sides_unless (done_on q.entries q.window c.args.rank) step (kept_call q.call) (Detaches win from) refl) kept.sides;
-      members = members_by c.args.rank before after new same at (sides_unless (done_on q.entries q.window c.args.rank) step (kept_call q.call) (Detaches win from) refl).posts kept.members;
-      rounds = rounds_by c.args.rank before after new c.args.self.now.round_table.rounds.items same at (rounds_unless (done_on q.entries q.window c.args.rank) step (kept_call q.call) (Detaches win from) (and_right (is_arrive step) false refl)) kept.rounds;
+      sides = sides_by c.args.rank before after new c.args.self.now.side_table.sides.items same at
+          (sides_unless (done_on q.entries q.window c.args.rank) step (kept_call q.call) (Detaches win from) refl)
+          kept.sides;
+      members = members_by c.args.rank before after new same at
+          (sides_unless (done_on q.entries q.window c.args.rank) step (kept_call q.call) (Detaches win from) refl).posts
+          kept.members;
+      rounds = rounds_by c.args.rank before after new c.args.self.now.round_table.rounds.items same at
+          (rounds_unless (done_on q.entries q.window c.args.rank) step (kept_call q.call) (Detaches win from)
+          (and_right (is_arrive step) false refl)) kept.rounds;
       held = held_unless q number step c.args.self.now.lock_state.table (Detaches win from) is refl refl kept.held;
-      regions = c.detach.ensures before after same (ap (λ (d : Done). d.ranges) at ∙ ap (λ b. without b (done_on q.entries q.window c.args.rank).ranges) base) kept.regions;
-      inside = inside_by layout c.args.rank before after same (rw at (all_kept (λ (range : Range). range.base + range.bytes ≤ bytes_at layout c.args.rank) (λ (range : Range). not (eqb range.base (natural from))) (done_on q.entries q.window c.args.rank).ranges (kept.inside c.args.rank))) kept.inside;
-      brought = parts_unless layout q number step c.args.self.now.parts.parts.items (Detaches win from) is refl kept.brought;
+      regions = c.detach.ensures before after same
+          (ap (λ (d : Done). d.ranges) at ∙ ap (λ b. without b (done_on q.entries q.window c.args.rank).ranges) base)
+          kept.regions;
+      inside = inside_by layout c.args.rank before after same
+          (rw at (all_kept (λ (range : Range). range.base + range.bytes ≤ bytes_at layout c.args.rank)
+          (λ (range : Range). not (eqb range.base (natural from))) (done_on q.entries q.window c.args.rank).ranges
+          (kept.inside c.args.rank))) kept.inside;
+      brought = parts_unless layout q number step c.args.self.now.parts.parts.items (Detaches win from) is refl
+          kept.brought;
     })

@@ -16,58 +16,76 @@ as_read z r fits is = ap natural (sym (to_z-of_z fits)) ∙ sym is
 
 pub returns-in-Post-clause-ok : goal.returns-in-Post-clause-ok
 returns-in-Post-clause-ok c =
-    let names : is_wrong_group c.args.asked.now.ranks c.in-Post.group ≡ false = subst (λ call. NamesRanks c.args.asked.now.ranks (action_of call)) c.in-Post.is c.requires.asked.may.names in
+    let names : is_wrong_group c.args.asked.now.ranks c.in-Post.group ≡ false = subst
+    (λ call. NamesRanks c.args.asked.now.ranks (action_of call)) c.in-Post.is c.requires.asked.may.names in
     on_ok_weaker c.post.result
-    (λ more q is allowed kept. more c.args.layout.now q c.args.asked.now.number One _ _ is.rank (ap action_of (is.call ∙ c.in-Post.is)) (rw is.ranks c.requires.asked.few) (rw is.ranks names) kept)
+    (λ more q is allowed kept. more c.args.layout.now q c.args.asked.now.number One _ _ is.rank
+    (ap action_of (is.call ∙ c.in-Post.is)) (rw is.ranks c.requires.asked.few) (rw is.ranks names) kept)
     c.post.ensures.ok
 
 pub returns-in-Start-clause-ok : goal.returns-in-Start-clause-ok
 returns-in-Start-clause-ok c = on_ok_weaker c.start.result
-    (λ more q is allowed kept. more c.args.layout.now q c.args.asked.now.number One _ _ is.rank (ap action_of (is.call ∙ c.in-Start.is)) kept)
+    (λ more q is allowed kept. more c.args.layout.now q c.args.asked.now.number One _ _ is.rank
+    (ap action_of (is.call ∙ c.in-Start.is)) kept)
     c.start.ensures.ok
 
 pub returns-in-Complete-clause-ok : goal.returns-in-Complete-clause-ok
 returns-in-Complete-clause-ok c = on_ok_weaker c.complete.result
-    (λ more q is allowed kept. more c.args.layout.now q c.args.asked.now.number One _ is.rank (ap action_of (is.call ∙ c.in-Complete.is)) kept)
+    (λ more q is allowed kept. more c.args.layout.now q c.args.asked.now.number One _ is.rank
+    (ap action_of (is.call ∙ c.in-Complete.is)) kept)
     c.complete.ensures.ok
 
 pub returns-in-WaitWin-clause-ok : goal.returns-in-WaitWin-clause-ok
 returns-in-WaitWin-clause-ok c = on_ok_weaker c.wait.result
-    (λ more q is allowed kept. more c.args.layout.now q c.args.asked.now.number One _ _ is.rank (ap action_of (is.call ∙ c.in-WaitWin.is)) kept)
+    (λ more q is allowed kept. more c.args.layout.now q c.args.asked.now.number One _ _ is.rank
+    (ap action_of (is.call ∙ c.in-WaitWin.is)) kept)
     c.wait.ensures.ok
 
 pub returns-in-TestWin-clause-ok : goal.returns-in-TestWin-clause-ok
 returns-in-TestWin-clause-ok c = on_ok_weaker c.wait-in-TestWin.result
-    (λ more q is allowed kept. more c.args.layout.now q c.args.asked.now.number One _ _ is.rank (ap action_of (is.call ∙ c.in-TestWin.is)) kept)
+    (λ more q is allowed kept. more c.args.layout.now q c.args.asked.now.number One _ _ is.rank
+    (ap action_of (is.call ∙ c.in-TestWin.is)) kept)
     c.wait-in-TestWin.ensures.ok
 
 pub returns-in-Attach-clause-ok : goal.returns-in-Attach-clause-ok
 returns-in-Attach-clause-ok c =
-    let base : natural c.in-Attach.base ≡ c.natural.result = as_read c.in-Attach.base c.natural.result (search rules) c.natural.ensures in
-    let bytes : natural c.in-Attach.bytes ≡ c.natural-in-Attach.result = as_read c.in-Attach.bytes c.natural-in-Attach.result (search rules) c.natural-in-Attach.ensures in
-    let inside = subst (λ call. BringsInside c.args.layout.now c.args.asked.now.rank c.args.asked.now.number (action_of call)) c.in-Attach.is c.requires.asked.may.inside in
+    let base : natural c.in-Attach.base ≡ c.natural.result = as_read c.in-Attach.base c.natural.result
+    (search rules) c.natural.ensures in
+    let bytes : natural c.in-Attach.bytes ≡ c.natural-in-Attach.result = as_read c.in-Attach.bytes
+    c.natural-in-Attach.result (search rules) c.natural-in-Attach.ensures in
+    let inside = subst (λ call. BringsInside c.args.layout.now c.args.asked.now.rank c.args.asked.now.number
+    (action_of call)) c.in-Attach.is c.requires.asked.may.inside in
     on_ok_weaker c.attach.result
-    (λ more q is allowed kept. more c.args.layout.now q c.args.asked.now.number One _ _ _ is.rank (ap action_of (is.call ∙ c.in-Attach.is)) base bytes (rw (← base, ← bytes) inside.1) kept)
+    (λ more q is allowed kept. more c.args.layout.now q c.args.asked.now.number One _ _ _ is.rank
+    (ap action_of (is.call ∙ c.in-Attach.is)) base bytes (rw (← base, ← bytes) inside.1) kept)
     c.attach.ensures.ok
 
 pub returns-in-Detach-clause-ok : goal.returns-in-Detach-clause-ok
 returns-in-Detach-clause-ok c = λ q is allowed kept.
-    c.detach.ensures c.args.layout.now q c.args.asked.now.number One _ _ is.rank (ap action_of (is.call ∙ c.in-Detach.is)) (as_read c.in-Detach.base c.natural-in-Detach.result (search rules) c.natural-in-Detach.ensures) kept
+    c.detach.ensures c.args.layout.now q c.args.asked.now.number One _ _ is.rank
+    (ap action_of (is.call ∙ c.in-Detach.is))
+    (as_read c.in-Detach.base c.natural-in-Detach.result (search rules) c.natural-in-Detach.ensures) kept
 
 pub returns-in-LockOne-clause-ok : goal.returns-in-LockOne-clause-ok
 returns-in-LockOne-clause-ok c = λ q is allowed kept.
     let call = ap action_of (is.call ∙ c.in-LockOne.is) in
-    c.lock_one.ensures c.args.layout.now q c.args.asked.now.number One _ _ _ is.rank is.window call (as_read c.in-LockOne.target c.rank_of-target.result (search rules) (sym c.rank_of-target.ensures.value)) (sym (ap (may_enter_now q) call) ∙ allowed) kept
+    c.lock_one.ensures c.args.layout.now q c.args.asked.now.number One _ _ _ is.rank is.window call
+    (as_read c.in-LockOne.target c.rank_of-target.result (search rules) (sym c.rank_of-target.ensures.value))
+    (sym (ap (may_enter_now q) call) ∙ allowed) kept
 
 pub returns-in-Unlock-clause-ok : goal.returns-in-Unlock-clause-ok
 returns-in-Unlock-clause-ok c = λ q is allowed kept.
-    c.unlock_one.ensures c.args.layout.now q c.args.asked.now.number One _ _ is.rank is.window (ap action_of (is.call ∙ c.in-Unlock.is)) (as_read c.in-Unlock.target c.rank_of-target-in-Unlock.result (search rules) (sym c.rank_of-target-in-Unlock.ensures.value)) kept
+    c.unlock_one.ensures c.args.layout.now q c.args.asked.now.number One _ _ is.rank is.window
+    (ap action_of (is.call ∙ c.in-Unlock.is)) (as_read c.in-Unlock.target c.rank_of-target-in-Unlock.result
+    (search rules) (sym c.rank_of-target-in-Unlock.ensures.value)) kept
 
 pub returns-in-LockAll-clause-ok : goal.returns-in-LockAll-clause-ok
 returns-in-LockAll-clause-ok c = λ q is allowed kept.
     let call = ap action_of (is.call ∙ c.in-LockAll.is) in
-    c.lock_all.ensures c.args.layout.now q c.args.asked.now.number One _ _ is.rank is.ranks is.window call (sym (ap (may_enter_now q) call) ∙ allowed) kept
+    c.lock_all.ensures c.args.layout.now q c.args.asked.now.number One _ _ is.rank is.ranks is.window call
+    (sym (ap (may_enter_now q) call) ∙ allowed) kept
 
 pub returns-in-UnlockAll-clause-ok : goal.returns-in-UnlockAll-clause-ok
 returns-in-UnlockAll-clause-ok c = λ q is allowed kept.
-    c.unlock_all.ensures c.args.layout.now q c.args.asked.now.number One _ is.rank is.window (ap action_of (is.call ∙ c.in-UnlockAll.is)) kept
+    c.unlock_all.ensures c.args.layout.now q c.args.asked.now.number One _ is.rank is.window
+    (ap action_of (is.call ∙ c.in-UnlockAll.is)) kept

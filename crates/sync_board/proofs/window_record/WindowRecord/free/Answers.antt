@@ -20,11 +20,13 @@ returns-clause-ok c = on_ok_weaker c.free.result
     let same = same_for q number Arrive c.args.rank asker in
     let at = free_at q number c.args.rank win asker is in
     record {
-      sides = sides_by c.args.rank before after new c.args.self.now.side_table.sides.items same at (record { posts = refl; starts = refl; completes = refl; waits = refl }) kept.sides;
+      sides = sides_by c.args.rank before after new c.args.self.now.side_table.sides.items same at
+          (record { posts = refl; starts = refl; completes = refl; waits = refl }) kept.sides;
       members = members_by c.args.rank before after new same at refl kept.members;
       rounds = more before after (kept_call q.call) same at kept.rounds;
       held = held_unless q number Arrive c.args.self.now.lock_state.table (Frees win) is refl refl kept.held;
-      regions = regions_each before after c.args.self.now.region_table.regions.items (ranges_by c.args.rank before after new same at refl) kept.regions;
+      regions = regions_each before after c.args.self.now.region_table.regions.items
+          (ranges_by c.args.rank before after new same at refl) kept.regions;
       inside = inside_each layout before after (ranges_by c.args.rank before after new same at refl) kept.inside;
       brought = parts_unless layout q number Arrive c.args.self.now.parts.parts.items (Frees win) is refl kept.brought;
     })

@@ -19,9 +19,14 @@ returns c =
     let same = same_for q number Leave c.args.rank asker in
     let at = done_entered q number Leave c.args.rank (Frees win) asker is refl in
     record {
-      sides = sides_by c.args.rank before after new c.args.self.now.side_table.sides.items same at (sides_unless (done_on q.entries q.window c.args.rank) Leave (kept_call q.call) (Frees win) refl) kept.sides;
-      members = members_by c.args.rank before after new same at (sides_unless (done_on q.entries q.window c.args.rank) Leave (kept_call q.call) (Frees win) refl).posts kept.members;
-      rounds = rounds_by c.args.rank before after new c.args.self.now.round_table.rounds.items same at (rounds_unless (done_on q.entries q.window c.args.rank) Leave (kept_call q.call) (Frees win) refl) kept.rounds;
+      sides = sides_by c.args.rank before after new c.args.self.now.side_table.sides.items same at
+          (sides_unless (done_on q.entries q.window c.args.rank) Leave (kept_call q.call) (Frees win) refl) kept.sides;
+      members = members_by c.args.rank before after new same at
+          (sides_unless (done_on q.entries q.window c.args.rank) Leave (kept_call q.call) (Frees win) refl).posts
+          kept.members;
+      rounds = rounds_by c.args.rank before after new c.args.self.now.round_table.rounds.items same at
+          (rounds_unless (done_on q.entries q.window c.args.rank) Leave (kept_call q.call) (Frees win) refl)
+          kept.rounds;
       held = held_unless q number Leave c.args.self.now.lock_state.table (Frees win) is refl refl kept.held;
       regions = c.clear.ensures before after same (ap (λ (d : Done). d.ranges) at) kept.regions;
       inside = inside_by layout c.args.rank before after same (rw at tt) kept.inside;

@@ -9,7 +9,8 @@ use Rattle.sync_board.proofs.window_record.WindowRecord.is_any_posted.Goals as g
 pub returns-then-is_posted : goal.returns-then-is_posted
 returns-then-is_posted c = λ layout q ranks kept.
     sym (ap (λ n. list_any (is_posted q) (numbers_from 0 n)) ranks
-    ∙ some_number (is_posted q) 0 c.args.ranks c.loop-rank.rank (omega arith) (omega arith) (sym (c.is_posted.ensures layout q kept) ∙ c.if-is_posted.true))
+    ∙ some_number (is_posted q) 0 c.args.ranks c.loop-rank.rank (omega arith) (omega arith)
+    (sym (c.is_posted.ensures layout q kept) ∙ c.if-is_posted.true))
 
 pub loop-rank-preserved : goal.loop-rank-preserved
 loop-rank-preserved c = λ layout q k kept below. ⊎_elim

@@ -6,4 +6,5 @@ use Rattle.sync_board.specs.Windows.{KeepsBefore}
 use Rattle.sync_board.proofs.window_record.WindowRecord.is_any_posted.Given as goal
 
 abbrev pub invariant-loop-rank : goal.invariant-loop-rank
-invariant-loop-rank l = (layout : Layout) (q : Question) (k : ℕ) → KeepsBefore layout q l.self → k < l.rank → is_posted q k ≡ false
+invariant-loop-rank l = (layout : Layout) (q : Question) (k : ℕ) → KeepsBefore layout q l.self → k < l.rank →
+    is_posted q k ≡ false

@@ -6,4 +6,5 @@ use Rattle.sync_board.proofs.window_record.WindowRecord.pass.Goals as goal
 
 pub returns : goal.returns
 returns c = λ layout q is kept.
-    nothing_entered layout q c.args.asked.now.number c.args.asked.now.step c.args.self.now (ap (λ call. brings_nothing c.args.asked.now.step (action_of call)) is.call ∙ c.requires) kept
+    nothing_entered layout q c.args.asked.now.number c.args.asked.now.step c.args.self.now
+    (ap (λ call. brings_nothing c.args.asked.now.step (action_of call)) is.call ∙ c.requires) kept

@@ -21,12 +21,18 @@ returns-clause-ok c = on_ok_weaker c.post.result
     let at = post_at q number step c.args.rank win c.args.group.now asserts asker is in
     record {
       sides = more before after (members_of c.args.group.now) c.truths_of-truths.ensures same at kept.sides;
-      members = members_posted c.args.rank before after new (members_of c.args.group.now) same at (last_of (done_on q.entries q.window c.args.rank).posts (members_of c.args.group.now)) (group_below q.ranks c.args.group.now few right) kept.members;
-      rounds = rounds_by c.args.rank before after new c.args.self.now.round_table.rounds.items same at (record { creations = refl; frees = refl; fences = refl }) kept.rounds;
-      held = held_unless q number step c.args.self.now.lock_state.table (Synchronises win (Posts c.args.group.now asserts)) is refl refl kept.held;
-      regions = regions_each before after c.args.self.now.region_table.regions.items (ranges_by c.args.rank before after new same at refl) kept.regions;
+      members = members_posted c.args.rank before after new (members_of c.args.group.now) same at
+          (last_of (done_on q.entries q.window c.args.rank).posts (members_of c.args.group.now))
+          (group_below q.ranks c.args.group.now few right) kept.members;
+      rounds = rounds_by c.args.rank before after new c.args.self.now.round_table.rounds.items same at
+          (record { creations = refl; frees = refl; fences = refl }) kept.rounds;
+      held = held_unless q number step c.args.self.now.lock_state.table
+          (Synchronises win (Posts c.args.group.now asserts)) is refl refl kept.held;
+      regions = regions_each before after c.args.self.now.region_table.regions.items
+          (ranges_by c.args.rank before after new same at refl) kept.regions;
       inside = inside_each layout before after (ranges_by c.args.rank before after new same at refl) kept.inside;
-      brought = parts_unless layout q number step c.args.self.now.parts.parts.items (Synchronises win (Posts c.args.group.now asserts)) is refl kept.brought;
+      brought = parts_unless layout q number step c.args.self.now.parts.parts.items
+          (Synchronises win (Posts c.args.group.now asserts)) is refl kept.brought;
     })
     c.post.ensures.ok
 

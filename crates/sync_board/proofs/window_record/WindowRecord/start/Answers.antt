@@ -21,11 +21,15 @@ returns-clause-ok c = on_ok_weaker c.start.result
     record {
       sides = more before after (members_of c.args.group.now) c.truths_of-truths.ensures same at kept.sides;
       members = members_by c.args.rank before after new same at refl kept.members;
-      rounds = rounds_by c.args.rank before after new c.args.self.now.round_table.rounds.items same at (record { creations = refl; frees = refl; fences = refl }) kept.rounds;
-      held = held_unless q number step c.args.self.now.lock_state.table (Synchronises win (Starts c.args.group.now asserts)) is refl refl kept.held;
-      regions = regions_each before after c.args.self.now.region_table.regions.items (ranges_by c.args.rank before after new same at refl) kept.regions;
+      rounds = rounds_by c.args.rank before after new c.args.self.now.round_table.rounds.items same at
+          (record { creations = refl; frees = refl; fences = refl }) kept.rounds;
+      held = held_unless q number step c.args.self.now.lock_state.table
+          (Synchronises win (Starts c.args.group.now asserts)) is refl refl kept.held;
+      regions = regions_each before after c.args.self.now.region_table.regions.items
+          (ranges_by c.args.rank before after new same at refl) kept.regions;
       inside = inside_each layout before after (ranges_by c.args.rank before after new same at refl) kept.inside;
-      brought = parts_unless layout q number step c.args.self.now.parts.parts.items (Synchronises win (Starts c.args.group.now asserts)) is refl kept.brought;
+      brought = parts_unless layout q number step c.args.self.now.parts.parts.items
+          (Synchronises win (Starts c.args.group.now asserts)) is refl kept.brought;
     })
     c.start.ensures.ok
 

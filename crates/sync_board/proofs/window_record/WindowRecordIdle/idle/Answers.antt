@@ -8,7 +8,8 @@ use Rattle.sync_board.specs.KeptParts.{KeepsParts, first_arrival, part_kept}
 use Rattle.sync_board.specs.Windows.{done_on}
 use Rattle.sync_board.proofs.window_record.WindowRecordIdle.idle.Goals as goal
 
-none_kept : (layout : Layout) (window : ℕ) (entries : List Act) (parts : List (Option Part)) → parts ≡ [] → ((rank : ℕ) → first_arrival entries window rank ≡ None) → KeepsParts layout window entries parts
+none_kept : (layout : Layout) (window : ℕ) (entries : List Act) (parts : List (Option Part)) → parts ≡ [] →
+    ((rank : ℕ) → first_arrival entries window rank ≡ None) → KeepsParts layout window entries parts
 none_kept layout window entries parts empty none =
     let nothing : (rank : ℕ) → part_kept parts rank ≡ None = λ rank. ap (λ xs. part_kept xs rank) empty in
     record {
