@@ -6,6 +6,7 @@ pub mod Deliveries
 pub mod Ended
 pub mod EndedRequests
 pub mod EntryNumbers
+pub mod EntryParts
 pub mod EntryRows
 pub mod EntrySound
 pub mod EntrySteps

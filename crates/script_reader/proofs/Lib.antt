@@ -1,9 +1,11 @@
 -- Lemmas on definitions, which the proofs of the reader cite.
 pub mod Adding
+pub mod CallsWritten
 pub mod Charging
 pub mod Cuts
 pub mod Growing
 pub mod Keeping
 pub mod LineRanges
 pub mod TextLines
+pub mod TokenParts
 pub mod TokenRanges
