@@ -1,0 +1,1 @@
+-- Which steps stand for the points of an access.

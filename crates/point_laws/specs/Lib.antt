@@ -1,0 +1,2 @@
+-- Which steps stand for the points of an access.
+pub mod PointLaws
