@@ -66,8 +66,7 @@ SeesEach cells (touch ∷ touches) =
     touches
 
 -- What the touches did. told and states: where the memory tells its cells. not_below, raised and order: the lowest
--- places
--- at the call and after it, and the places of touches of one cell.
+-- places at the call and after it, and the places of touches of one cell.
 pub record TouchesMade (before after : Face) (touches : List MadeTouch) : Type 0 where
   pub stays : Stays before after
   pub share : before.share ≤ after.share + length (updates_of touches)

@@ -43,8 +43,7 @@ fn add_one(
 }
 
 /// int8 127 plus 1 wraps to -128, and the bytes beside it stay; uint32 4294967295 plus 1 is 0. The items have the
-/// states
-/// before.
+/// states before.
 #[test]
 fn sums_wrap_and_neighbours_stay(rt: HostRuntime) -> Result<(), Fail> {
     let parts = Items::from_slice(

@@ -38,8 +38,7 @@ fn is_whole_sum(change: &Change) -> bool
 }
 
 /// Changes one cell: the sum of a whole cell is one add, and every other update one load and one attempt. Gives the
-/// state
-/// before the change.
+/// state before the change.
 fn update_cell<M: Memory>(mem: &mut M, cell: u32, change: &Change) -> Result<Seen, Moved>
     requires cell { cell < cell_count (M.face mem.old) }
     requires change { Fits change.now }

@@ -19,8 +19,7 @@ use Rattle.rank_laws.specs.Deliveries.{place_after}
 use Rattle.rank_laws.specs.Fronts.{Lows, AreAtMost, Put, MeetsEdges}
 
 -- an item of a log: a touch with the lows before and after it; an entry with lows at or below its front, and lows
--- that meet the
--- edges to it
+-- that meet the edges to it
 pub record Mark : Type 0 where
   pub item : Item
   pub low : Lows

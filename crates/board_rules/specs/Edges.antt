@@ -1,6 +1,5 @@
 -- Which entries lead to which: MPI 3.1, sections 11.5 and 11.7, in this project's profile of order. An edge leads from
--- an
--- entry that releases to one that acquires.
+-- an entry that releases to one that acquires.
 use Rattle.std.specs.Prelude.{ℕ, ◌+◌, Bool, true, false, ◌&&◌, ◌||◌, ◌==◌, nat_lt, List, [], ◌∷◌, ◌++◌, Option}
 use Rattle.std.specs.Prelude.{slice_index_or, ℤ}
 use Rattle.std.specs.List.{filter, list_any}

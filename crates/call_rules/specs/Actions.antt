@@ -56,10 +56,8 @@ pub record Creation : Type 0 where
   pub unit : ℤ
 
 -- A call that opens or closes an epoch, or completes accesses within one (11.5). A wait that tests is testwin. A lock,
--- an
--- unlock and a flush of no target are those of all ranks; lock_all is a shared lock. A local flush completes at the
--- origin
--- alone.
+-- an unlock and a flush of no target are those of all ranks; lock_all is a shared lock. A local flush completes at the
+-- origin alone.
 pub data Synchronisation : Type 0 where
   Fences : Asserts → Synchronisation
   Posts : List ℤ → Asserts → Synchronisation

@@ -1,6 +1,5 @@
 -- What a memory shows of itself, and what its calls do to that. A cell is 4 bytes; a place is the number of updates
--- that
--- the cell had before.
+-- that the cell had before.
 use Rattle.std.specs.Prelude.{◌≡◌, ◌≢◌, ◌<◌, ◌≤◌, ◌⊎◌, ℕ, ◌+◌, ◌-◌, ◌^◌, List, [], ◌∷◌, ◌++◌, length, Option, IfSome}
 use Rattle.std.specs.Prelude.{slice_index, slice_set}
 use Rattle.std.specs.Option.{option_map}
@@ -15,10 +14,8 @@ pub record Update : Type 0 where
   pub after : ℕ
 
 -- All plain data of a memory. lows: for each cell its lowest place, the least that may still be seen there. share: how
--- many
--- updates may still be made. moves: how often an attempt came too late. updates: those made through this value, where
--- it
--- tells them. told: the state of each cell, where it tells them.
+-- many updates may still be made. moves: how often an attempt came too late. updates: those made through this value,
+-- where it tells them. told: the state of each cell, where it tells them.
 pub record Face : Type 0 where
   pub lows : List ℕ
   pub share : ℕ

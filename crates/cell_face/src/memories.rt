@@ -14,10 +14,8 @@ pub struct Moved {
 /// A memory of cells of 4 bytes, as one rank uses it.
 ///
 /// Each cell has bits and a place, which is the number of its updates so far (MPI 3.1, section 11.7.1: the updates of
-/// one
-/// location follow each other). Several ranks may use the same cells, so what was seen can be old; a cell's lowest
-/// place
-/// says what can no longer be seen. No call takes memory or waits.
+/// one location follow each other). Several ranks may use the same cells, so what was seen can be old; a cell's lowest
+/// place says what can no longer be seen. No call takes memory or waits.
 pub trait Memory {
     ghost use Rattle.std.specs.Prelude.{ℕ};
     ghost use Rattle.call_rules.specs.declared.cells.Cell.{Cell};

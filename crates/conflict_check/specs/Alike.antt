@@ -16,8 +16,7 @@ abbrev pub judged_by : JudgedPoints → JudgedAccess
 judged_by a = record { id = a.id; access = a.access; done = a.done; visible = a.visible }
 
 -- Two accesses are one, and some of its points stand for all: of the accesses of these names, both lists of points
--- are before
--- the same.
+-- are before the same.
 pub record IsAlike (before : Id → Id → Bool) (ids : List Id) (a b : JudgedAccess) : Type 0 where
   pub named : a.id ≡ b.id
   pub reached : a.access ≡ b.access

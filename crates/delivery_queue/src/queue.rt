@@ -189,8 +189,7 @@ impl Pending {
 
     /// Delivers the access at a place: it makes room for the touches that are left of it, and makes them in the order
     /// of its elements. The access is done, and pending no more, unless an attempt came too late, which never comes
-    /// over
-    /// a memory that tells its cells.
+    /// over a memory that tells its cells.
     pub fn deliver<M: Memory, L: Keep>(
         &mut self,
         at: usize,

@@ -24,8 +24,7 @@ fn is_at(rank: i32, one: &PendingAccess) -> bool
 }
 
 /// Whether the call must wait for the pending access before its first item. `requests` has, for each name, the number
-/// of
-/// the call that made the live request of that name.
+/// of the call that made the live request of that name.
 fn must_wait(requests: &[Option<u32>; 64], call: &Call, one: &PendingAccess) -> bool
     requires { IsWrittenCall call.now }
     ensures { result ≡ does_wait requests.now call.now one.now }

@@ -25,8 +25,7 @@ abbrev pub one_more : List Given → Row → Option Front → List Given
 one_more entries row gift = entries ++ record { row = kept_row row; gift = gift } ∷ []
 
 -- What is asked of a next entry: its rank is one of the run, so are the ranks that a synchronisation names, and the
--- number is
--- that of its window.
+-- number is that of its window.
 pub record IsNext (ranks : ℕ) (entries : List Given) (row : Row) (window : ℕ) : Type 0 where
   pub rank : row.rank < ranks
   pub is_on : window ≡ window_of (rows_given entries) row

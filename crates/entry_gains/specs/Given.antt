@@ -1,6 +1,5 @@
 -- The slots that an entry fills with its gift, and those from which a next entry gains: MPI 3.1, section 11.7, in this
--- project's
--- profile of order.
+-- project's profile of order.
 use Rattle.std.specs.Prelude.{ℕ, ◌+◌, ◌-◌, Bool, true, false, ◌&&◌, ◌==◌, not, nat_lt, if◌then◌else◌, List, Option}
 use Rattle.std.specs.Prelude.{Some, None, ℤ}
 use Rattle.std.specs.List.{list_any}

@@ -1,6 +1,5 @@
 -- The entries of the board with what their ranks gave with them, and what a next entry gains: MPI 3.1, section 11.7, in
--- this
--- project's profile of order.
+-- this project's profile of order.
 use Rattle.std.specs.Prelude.{ℕ, List, [], ◌∷◌, length, map, Option, Some, None, if◌then◌else◌}
 use Rattle.std.specs.List.{flat_map, fold, zip}
 use Rattle.std.specs.Option.{option_map_or}

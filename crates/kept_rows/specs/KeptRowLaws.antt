@@ -1,7 +1,6 @@
 -- That entries without the values of their calls are enough: for the board's answer to a next entry, for the numbers
--- and the
--- parts of windows, for edges, and for what a next entry gains. This project's profile of MPI 3.1, sections 11.5 and
--- 11.7.
+-- and the parts of windows, for edges, and for what a next entry gains. This project's profile of MPI 3.1, sections
+-- 11.5 and 11.7.
 use Rattle.std.specs.Prelude.{◌≡◌, ℕ, List, map}
 use Rattle.rma_types.specs.declared.scripts.Layout.{Layout}
 use Rattle.board_rules.specs.Board.{decide}

@@ -1,6 +1,5 @@
 //! What the board keeps of its entries: each with its call, whose values are left out, and with what its rank gave with
-//! it
-//! (MPI 3.1, sections 11.5 and 11.7, in this project's profile).
+//! it (MPI 3.1, sections 11.5 and 11.7, in this project's profile).
 #![tactic(auto)]
 
 mod calls;
@@ -11,9 +10,8 @@ ghost use Rattle.kept_rows.specs.KeptRowLaws.{EventsAreKept, EdgesNeedNoValues, 
 pub use calls::kept_call;
 
 /// After entries without their values the board answers the next entry, which is asked with its own, as after the
-/// entries
-/// themselves: the numbers and the parts of windows, the edges between entries and what a next entry gains are the same
-/// (MPI 3.1, sections 11.2, 11.5 and 11.7, in this project's profile).
+/// entries themselves: the numbers and the parts of windows, the edges between entries and what a next entry gains are
+/// the same (MPI 3.1, sections 11.2, 11.5 and 11.7, in this project's profile).
 ///
 /// It is a theorem, and does nothing when it is called.
 pub fn kept_rows_are_enough()

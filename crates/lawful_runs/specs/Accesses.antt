@@ -48,8 +48,7 @@ pieces_of memory calls one =
 -- ---- touches
 
 -- a touch: its name, the index of its access's Issue in its log, its element, its cell, its place, its bits, and the
--- change
--- that it makes, if it is an update
+-- change that it makes, if it is an update
 pub record Touching : Type 0 where
   pub id : Id
   pub issue : ℕ

@@ -25,8 +25,7 @@ abbrev pub NamesItsCall : Script → Named → Type 0
 NamesItsCall script one = NamesCallOf script one.id.rank one.item
 
 -- The entries of all logs have the places from 0 on, each once, and each names a call of its rank. So the board's rows
--- are
--- these entries in the order of their places.
+-- are these entries in the order of their places.
 pub record HasEntries (script : Script) (run : Run) : Type 0 where
   pub calls : AllByRecursion (NamesItsCall script) (named_items run)
   pub places : (place : ℕ) →
@@ -64,8 +63,7 @@ abbrev pub moments_in : List Item → List Moment
 moments_in log = flat_map moment_by log
 
 -- The first stands before the second in a log. Places ascend. A look sees each entry before it, no fewer than a look
--- before
--- it, and no entry after it.
+-- before it, and no entry after it.
 abbrev pub IsBefore : Moment → Moment → Type 0
 IsBefore (EntryAt first) (EntryAt second) = first < second
 IsBefore (EntryAt place) (LookAfter seen) = place < seen

@@ -1,6 +1,5 @@
 -- The items of the calls of a rank, in their order, up to its end or to the call at which it stands: MPI 3.1, section
--- 11.5,
--- in this project's profile.
+-- 11.5, in this project's profile.
 use Rattle.std.specs.Prelude.{ℕ, zero, suc, ◌≡◌, ◌⊎◌, Bool, true, false, not, List, [], ◌∷◌, ◌++◌, length, slice_get}
 use Rattle.std.specs.Prelude.{Option, Some, None, IsTrue, IsSomeAnd}
 use Rattle.std.specs.List.{filter}

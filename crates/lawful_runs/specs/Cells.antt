@@ -1,6 +1,5 @@
 -- The states of a cell, and the cells of a lawful run: MPI 3.1, section 11.7.1. Each update of a cell has one place
--- among
--- them, and each touch reads the state at its place.
+-- among them, and each touch reads the state at its place.
 use Rattle.std.specs.Prelude.{ℕ, zero, suc, ◌≡◌, ◌<◌, ◌≤◌, Bool, true, false, ◌==◌, if◌then◌else◌, nat_lt, List, length}
 use Rattle.std.specs.Prelude.{map, slice_index, Option, Some, None}
 use Rattle.std.specs.List.{find, count_by, AllByRecursion}

@@ -47,8 +47,7 @@ is_due_at here log pending issue index =
     list_any (is_due_for here log pending issue index) (numbers_from 0 (length pending))
 
 -- a touch of the access of this Issue, at the index of the log, is due: no item but touches follows, or the next other
--- one
--- must wait for it
+-- one must wait for it
 abbrev pub is_due : RankOfRun → List Item → ℕ → ℕ → Bool
 is_due here log index issue =
     option_map_or (is_due_at here log (pending_at here log index) issue) (next_untouched index (drop index log)) true

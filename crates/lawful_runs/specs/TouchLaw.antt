@@ -1,6 +1,5 @@
 -- The touches of a log: each access whole, in order, after its Issue, and before what waits for it. MPI 3.1, section
--- 11.7,
--- in this project's profile.
+-- 11.7, in this project's profile.
 use Rattle.std.specs.Prelude.{ℕ, ◌≡◌, ◌+◌, ◌<◌, Bool, true, false, not, ◌&&◌, ◌||◌, ◌==◌, if◌then◌else◌, List, [], ◌∷◌}
 use Rattle.std.specs.Prelude.{length, take, drop, slice_get, IsTrue, IsSome, IsSomeAnd, IfSome}
 use Rattle.std.specs.List.{flat_map, list_any, AllByRecursion}

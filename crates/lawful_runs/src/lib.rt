@@ -2,6 +2,6 @@
 //! Definitions.
 //!
 //! They stand in `specs/`, one file a subject: items and logs, entries, accesses and touches, the histories of cells,
-//! the
-//! board's part, the items of the calls, the touches of a log, and when they stand (MPI 3.1, sections 11.5 and 11.7).
+//! the board's part, the items of the calls, the touches of a log, and when they stand (MPI 3.1, sections 11.5 and
+//! 11.7).
 #![tactic(auto)]

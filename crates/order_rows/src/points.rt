@@ -15,8 +15,7 @@ pub fn done_points_of_each_kind()
 {}
 
 /// An update is visible at synchronisations of the owner of the memory: a put at those that take in, once it is done,
-/// and a
-/// store at those that give out. In the unified model it is visible where it is done (MPI 3.1, sections 11.4 and
+/// and a store at those that give out. In the unified model it is visible where it is done (MPI 3.1, sections 11.4 and
 /// 11.5.4).
 pub fn visible_points_of_each_kind()
     ensures put { IsTakenIn }

@@ -1,6 +1,5 @@
 -- What a rank answers a step at the board, and what it gives and gains with it: MPI 3.1, sections 11.5 and 11.7, in
--- this
--- project's profile.
+-- this project's profile.
 use Rattle.std.specs.Prelude.{ℕ, ◌≡◌, ◌+◌, ◌<◌, ◌≤◌, Bool, true, false, ◌||◌, List, ◌++◌, length, map, drop, take}
 use Rattle.std.specs.Prelude.{slice_get, slice_index, Option, Some, None, IfSome}
 use Rattle.std.specs.List.{AllByRecursion}
@@ -21,8 +20,7 @@ use Rattle.rank_engine.specs.declared.answers.Turned.{Turned}
 use Rattle.rank_engine.specs.declared.answers.Turned.TheVariants.{Did, NotYet, Again, Full, Ended}
 
 -- The board is one of the rank's run: its number of ranks, its layout, the rank's rows, and the memory from which the
--- rank's
--- tokens come.
+-- rank's tokens come.
 pub record IsBoardOf (state : RankState) (board : BoardState) (face : Face) : Type 0 where
   pub ranks : board.ranks ≡ state.stage.script.ranks
   pub layout : board.layout ≡ state.stage.layout

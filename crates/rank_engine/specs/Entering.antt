@@ -1,6 +1,5 @@
 -- How a step at the board is made of entries: what is asked of one, what the board answered it, and where the rank
--- stands after
--- it. MPI 3.1, sections 11.2 and 11.5, in this project's profile.
+-- stands after it. MPI 3.1, sections 11.2 and 11.5, in this project's profile.
 use Rattle.std.specs.Prelude.{ℕ, ◌≡◌, ◌+◌, ◌<◌, ◌≤◌, Bool, true, false, List, ◌++◌, length, map, drop, Option, Some}
 use Rattle.std.specs.Prelude.{None, IfSome}
 use Rattle.std.specs.List.{AllByRecursion}

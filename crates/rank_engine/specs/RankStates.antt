@@ -19,8 +19,8 @@ use Rattle.step_runs.specs.Agents.{Agent, new_agent, tries_entry}
 use Rattle.step_runs.specs.DataSteps.{Move, just_delivers, is_at_once, move_of}
 
 -- The script, its layout and its delay; the rank; how many elements of each of its pending accesses are touched; for
--- how many
--- more items room may be asked; and the name of the ring through which the items go, empty where there is none.
+-- how many more items room may be asked; and the name of the ring through which the items go, empty where there is
+-- none.
 pub record RankState : Type 0 where
   pub stage : Stage
   pub agent : Agent
@@ -72,8 +72,7 @@ is_last_at_once delay (one ∷ []) = is_at_once delay one.access
 is_last_at_once delay (one ∷ next ∷ pending) = is_last_at_once delay (next ∷ pending)
 
 -- An access that is touched in the step of its Issue is still pending, since an attempt on a cell came too late: it is
--- touched
--- to its end before anything else is done.
+-- touched to its end before anything else is done.
 abbrev pub is_at_hand : RankState → Bool
 is_at_hand state = is_last_at_once state.stage.delay state.agent.pending
 

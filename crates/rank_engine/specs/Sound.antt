@@ -1,6 +1,5 @@
 -- What holds of a rank between any two of its steps: its script can be said by a text, what it knows and what is
--- pending lies in
--- memory, and it has numbered its windows as the board does. MPI 3.1, sections 11.2, 11.3 and 11.7.
+-- pending lies in memory, and it has numbered its windows as the board does. MPI 3.1, sections 11.2, 11.3 and 11.7.
 use Rattle.std.specs.Prelude.{ℕ, ◌≡◌, ◌≤◌, ◌<◌, ◌==◌, true, List, [], ◌∷◌, length, slice_get, is_some, Some, None}
 use Rattle.std.specs.Prelude.{IfSome}
 use Rattle.std.specs.List.{count_by}

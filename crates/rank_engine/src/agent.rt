@@ -242,8 +242,7 @@ impl<'s, L: Keep + Drop> Agent<'s, L> {
     }
 
     /// A step of the rank that tries no entry: a draw, a refusal by the rank's own tests, an item of a call, the
-    /// delivery
-    /// of a pending access, or the end (MPI 3.1, sections 11.3, 11.5 and 11.7).
+    /// delivery of a pending access, or the end (MPI 3.1, sections 11.3, 11.5 and 11.7).
     pub fn next_data<M: Memory>(&mut self, mem: &mut M) -> Result<Turned, NoMemory>
         requires needs { needs_entry self.old ≡ false }
         requires room { HasRoom self.old (M.face mem.old) }

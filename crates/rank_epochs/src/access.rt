@@ -7,8 +7,7 @@ ghost use Rattle.rank_rules.specs.Epochs as rules;
 use crate::ranks::{Ranks, is_member};
 
 /// The access epoch: none; that of a fence, before and after its first RMA call; that of a start, with its group; that
-/// of
-/// locks, with their targets in the order of locking; or that of a lock_all.
+/// of locks, with their targets in the order of locking; or that of a lock_all.
 #[derive(Debug, Drop)]
 pub enum AccessEpoch {
     Idle,

@@ -8,8 +8,7 @@ use Rattle.call_rules.specs.Actions.{Unlocks, Flushes, Syncs, Transfer, Target, 
 use Rattle.call_rules.specs.Ranks.{natural, members_of, is_member}
 
 -- the access epoch in which a rank is: none; that of a fence, before and after its first RMA call; that of a start,
--- with its
--- group; that of locks, with their targets; or that of a lock_all
+-- with its group; that of locks, with their targets; or that of a lock_all
 pub data AccessEpoch : Type 0 where
   Idle : AccessEpoch
   FenceUnused : AccessEpoch

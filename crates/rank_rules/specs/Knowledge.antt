@@ -1,6 +1,5 @@
 -- What a rank knows at a place of its log, as the fold of its accepted calls, and the class that it gives a call by
--- that
--- alone: MPI 3.1, sections 8.4, 11.2, 11.3.5, 11.5 and 11.6, in this project's order.
+-- that alone: MPI 3.1, sections 8.4, 11.2, 11.3.5, 11.5 and 11.6, in this project's order.
 use Rattle.std.specs.Prelude.{ℕ, Bool, true, false, List, Option, Some, None, slice_get, is_none, if◌then◌else◌}
 use Rattle.std.specs.List.{fold}
 use Rattle.std.specs.Option.{option_map_or}

@@ -1,6 +1,5 @@
 -- The class that a rank gives a call by its windows and ranges: MPI 3.1, sections 11.2, 11.3 and 11.6, in this
--- project's
--- order.
+-- project's order.
 use Rattle.std.specs.Prelude.{ℕ, ◌+◌, ◌*◌, ◌%◌, Bool, false, true, not, ◌&&◌, ◌||◌, ◌==◌, nat_lt, List, [], ◌∷◌, Option}
 use Rattle.std.specs.Prelude.{if◌then◌else◌, ℤ, pos, int_lt, ◌+ℤ◌}
 use Rattle.std.specs.List.{list_any}
@@ -61,8 +60,7 @@ abbrev pub passes_end : Part → ℤ → ℕ → Bool
 passes_end part disp bytes = nat_lt (part.base + part.bytes) (address_in part disp + bytes)
 
 -- A byte of a range in a dynamic window is not attached. A rank knows that of its own ranges alone; an RMA call's range
--- is
--- tested at its look-up.
+-- is tested at its look-up.
 abbrev pub is_unattached : RankWindows → ℕ → Target → ℕ → ℕ → Bool
 is_unattached known win Own address bytes = not (covers (attached_to known win) address bytes)
 is_unattached known win Null address bytes = false

@@ -104,8 +104,7 @@ pub record AreUpdates (updates : List Touching) : Type 0 where
   pub inside : (update : Touching) (change : Change) → In update updates → update.change ≡ Some change → IsInCell change
 
 -- Which bytes are needed after so many updates: fewer updates need them too, and an update that changes one of them
--- passes the
--- test, and changes no other byte, or the bytes that it changes are needed before it.
+-- passes the test, and changes no other byte, or the bytes that it changes are needed before it.
 pub record AreNeeded (updates : List Touching) (test : Touching → Bool) (Needs : ℕ → ℕ → ℕ → Type 0) : Type 0 where
   pub fewer : (k first count : ℕ) → Needs (suc k) first count → Needs k first count
   pub within : (k first count : ℕ) → Needs k first count → first + count ≤ 4

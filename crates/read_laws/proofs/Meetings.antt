@@ -1,6 +1,5 @@
 -- Two accesses of a run without findings, one of them an update, that have a byte in common: one is ordered before
--- the other, or
--- both are accumulates of one datatype.
+-- the other, or both are accumulates of one datatype.
 use Rattle.std.proofs.Common.{◌≡◌, ℕ, zero, suc, ◌<◌, ◌⊎◌, inl, inr, Bool, true, false, cond, not, List, [], ◌∷◌, ◌++◌}
 use Rattle.std.proofs.Common.{Option, Some, None, refl, ap, sym, ◌∙◌, arith}
 use Rattle.std.specs.Prelude.{◌&&◌, ◌||◌, ◌==◌, ◌≢◌, map, nat_lt}

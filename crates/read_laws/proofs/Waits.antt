@@ -1,6 +1,5 @@
 -- Where the touches of an access stand in a lawful log: before an item that waits for it, and directly after its
--- Issue where it
--- is a load or a store.
+-- Issue where it is a load or a store.
 use Rattle.std.proofs.Common.{◌≡◌, ℕ, zero, suc, ◌+◌, ◌-◌, ◌<◌, ◌≤◌, inl, inr, Bool, true, false, not, List, [], ◌∷◌}
 use Rattle.std.proofs.Common.{length, take, drop, Option, Some, refl, ap, sym, ◌∙◌, subst, arith, length-append}
 use Rattle.std.specs.Prelude.{◌&&◌, ◌||◌, slice_get}

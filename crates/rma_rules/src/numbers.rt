@@ -5,8 +5,7 @@ ghost use Rattle.rma_rules.specs.WindowNumbers.{IsEmptyTable, NumbersFollow, wit
 use rma_types::NoMemory;
 
 /// The number of the live window of each of the names w0 to w31, and how many windows of each name the rank has made
-/// (MPI 3.1,
-/// section 11.2). A window's number is 32 times the round of its creation, plus its name.
+/// (MPI 3.1, section 11.2). A window's number is 32 times the round of its creation, plus its name.
 #[derive(Clone, Copy, Debug)]
 pub struct WindowNumbers {
     numbers: [Option<u32>; 32],
@@ -58,8 +57,7 @@ impl WindowNumbers {
 }
 
 /// The table follows what a rank knows of its windows: where a rank does not refuse a creation or a free, it is the
-/// table of
-/// what it knows then (MPI 3.1, section 11.2).
+/// table of what it knows then (MPI 3.1, section 11.2).
 ///
 /// It is a theorem, and does nothing when it is called.
 pub fn numbers_follow()

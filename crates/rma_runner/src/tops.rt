@@ -170,8 +170,7 @@ pub fn refuse_words<K: Sink>(sink: &mut K) -> Outcome
 /// The program: runs the script of a source by the words of the command line, and writes to a sink.
 ///
 /// The gate is not passed: the script is run on one thread. The status is 2 where the words are refused, and then the
-/// source
-/// is untouched; else it is that of `step_main`.
+/// source is untouched; else it is that of `step_main`.
 pub fn rma_main<S: Source, K: Sink, G: Gate>(
     alloc: Global,
     words: &[String],
@@ -183,8 +182,7 @@ pub fn rma_main<S: Source, K: Sink, G: Gate>(
     requires sink_count { K.faults sink.old < 2 ^ 64 - 1 }
 
     // The whole input says a script; its run by the options that the words stand for is handed back, which is lawful,
-    // and
-    // its report was written.
+    // and its report was written.
     ensures reported { IsRunStatus result.status → StandFor (map string_bytes words.now) (λ options.
         Reported options (S.left source.old) (S.left source.new) (K.written sink.old) (K.written sink.new) result.status result.run) }
     // A run is handed back only with the status of a run, or where a write failed.
@@ -222,8 +220,7 @@ pub fn rma_main<S: Source, K: Sink, G: Gate>(
     ensures no_late_read { NoLateRead (S.end source.old) (S.end source.new) }
 
     // Where the words stand for options and without faults, a script's text is reported on, and any other is refused,
-    // unless
-    // memory runs out.
+    // unless memory runs out.
     ensures complete { AreOptions (map string_bytes words.now)
         → (text : List ℕ) (script : ScriptValue) → Reads text script → S.left source.old ≡ Some text
         → S.faults source.new ≡ S.faults source.old → K.faults sink.new ≡ K.faults sink.old

@@ -15,8 +15,7 @@ pub fn late_touches()
 {}
 
 /// A call that completes accesses has them touched before its first item, and no other pending ones, where each access
-/// is
-/// touched when a call must have it (MPI 3.1, sections 11.3.5, 11.5.2 to 11.5.4 and 11.7).
+/// is touched when a call must have it (MPI 3.1, sections 11.3.5, 11.5.2 to 11.5.4 and 11.7).
 pub fn touches_of_completed_accesses()
     ensures locks_and_flush { CompletesByUnlocksAndFlushes }
     ensures requested_gets { CompletesRequestedGets }
@@ -26,8 +25,7 @@ pub fn touches_of_completed_accesses()
 {}
 
 /// A call has the accesses touched that it completes, a fetching one after an earlier accumulate of its cell. Draws
-/// choose
-/// among the others (MPI 3.1, sections 11.5.4 and 11.7).
+/// choose among the others (MPI 3.1, sections 11.5.4 and 11.7).
 pub fn touches_that_are_due()
     ensures gives_way { GivesWayToTheFirstSum }
     ensures gives_way_twice { GivesWayThroughAnother }

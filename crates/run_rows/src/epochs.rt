@@ -16,8 +16,7 @@ pub fn refusals()
 {}
 
 /// A window's name can be used again after its free, and the next window has memory of its own. A request names an
-/// access
-/// until it is waited for or tested (MPI 3.1, sections 11.2.5 and 11.3.5).
+/// access until it is waited for or tested (MPI 3.1, sections 11.2.5 and 11.3.5).
 pub fn names_and_requests()
     ensures name_used_again { HasItsOwnMemory }
     ensures two_requests { CompletesRequests }

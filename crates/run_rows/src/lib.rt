@@ -2,8 +2,7 @@
 //! definitions.
 //!
 //! Each function does nothing: its clauses are the theorems, whose statements stand in `specs/`. A theorem on a script
-//! is
-//! about the run of that script alone. The findings of a report are given to it: nothing here says which pairs are
+//! is about the run of that script alone. The findings of a report are given to it: nothing here says which pairs are
 //! forbidden.
 #![tactic(auto)]
 

@@ -22,8 +22,7 @@ pub fn accumulates_of_two_ranks()
 {}
 
 /// What was put and flushed is loaded by its owner after a barrier, with a sync and without. A store beside a put
-/// leaves
-/// both (MPI 3.1, sections 11.4, 11.5.4 and 11.7).
+/// leaves both (MPI 3.1, sections 11.4, 11.5.4 and 11.7).
 pub fn loads_and_stores()
     ensures load_without_sync { ReportsTheLoad }
     ensures load_after_sync { LoadsAfterASync }

@@ -4,8 +4,7 @@ ghost use Rattle.run_rows.specs.Posts.{RefusesAPostOfALockedRank, TestsInRobin, 
 ghost use Rattle.run_rows.specs.Posts.{TestsInSeeded};
 
 /// A put of one origin of a post is fetched by a later get of another one. A posted rank is not locked, and a locked
-/// rank
-/// does not post (MPI 3.1, sections 11.5.2, 11.5.3 and 11.7).
+/// rank does not post (MPI 3.1, sections 11.5.2, 11.5.3 and 11.7).
 pub fn posts_and_locks()
     ensures wait_of_the_target { ReportsTheGetBeforeTheWait }
     ensures lock_of_a_posted_rank { RefusesALockOfAPostedRank }

@@ -4,8 +4,7 @@ ghost use Rattle.run_rows.specs.Standing.{RefusesTheSecondFlavor, WaitsForTheFla
 ghost use Rattle.run_rows.specs.Standing.{WaitsAsTheRankDrawnFirst};
 
 /// Ranks in two collectives wait for ever, and so does a rank whose lock is excluded by one that is kept. A lock that
-/// is
-/// not given back hinders no other call (MPI 3.1, sections 11.5.1 and 11.5.3).
+/// is not given back hinders no other call (MPI 3.1, sections 11.5.1 and 11.5.3).
 pub fn ranks_that_wait()
     ensures barrier_and_fence { WaitInTwoCollectives }
     ensures kept_lock { WaitsForTheKeptLock }

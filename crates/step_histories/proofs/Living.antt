@@ -25,8 +25,7 @@ use Rattle.step_runs.specs.BoardSteps.{board_step}
 use Rattle.step_runs.specs.DataSteps.{OnMemory, Move, deliver, move_of, data_step}
 
 -- A history of the rank among the entries so far, of which it knows all up to its last. Its lows are not above these,
--- and
--- its log has the Issues of what is pending or touched.
+-- and its log has the Issues of what is pending or touched.
 pub record IsLiving (stage : Stage) (seed rank : ℕ) (puts : List Put) (agent : Agent) (now : Lows) : Type 0 where
   pub known : List Put
   pub later : List Put

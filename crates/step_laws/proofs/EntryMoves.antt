@@ -80,8 +80,7 @@ abbrev pub with_row : Agent → List Row → Call → Step → List Row
 with_row agent rows call step = rows ++ next_row agent call step ∷ []
 
 -- one move of a rank at the board: it is turned away, it arrives at a collective call or looks up where an RMA call
--- goes,
--- it leaves the collective call, or it puts the only entry of a call
+-- goes, it leaves the collective call, or it puts the only entry of a call
 pub data EntryMove (stage : Stage) (agent : Agent) (rows : List Row) (next : Agent) (now : List Row) : Type 0 where
   TurnsAway : (call : Call) (item : Item) → next_call stage agent ≡ Some call → agent.entered ≡ false →
       IsTurnedAway agent rows item →

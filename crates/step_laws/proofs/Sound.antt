@@ -1,6 +1,5 @@
 -- What holds of the entries and of each rank through a run: the windows and ranges that it knows lie in memory, and so
--- do
--- the accesses that it looked up or that are pending.
+-- do the accesses that it looked up or that are pending.
 use Rattle.std.proofs.Common.{◌≡◌, ℕ, zero, suc, ◌+◌, ◌-◌, ◌*◌, ◌<◌, ◌≤◌, inl, inr, Bool, true, false, cond, not, List}
 use Rattle.std.proofs.Common.{[], ◌∷◌, ◌++◌, length, Option, Some, None, refl, sym, ◌∙◌, ap, subst, arith, append_assoc}
 use Rattle.std.specs.Prelude.{◌&&◌, ◌==◌, slice_get, is_none}

@@ -1,6 +1,5 @@
 -- After any number of turns the accesses of all ranks lie in memory, and the ranks and the board agree on the numbers
--- of
--- windows.
+-- of windows.
 use Rattle.std.proofs.Common.{◌≡◌, ℕ, ◌+◌, ◌<◌, ◌≤◌, inl, inr, Bool, true, false, cond, List, [], ◌∷◌, ◌++◌, length}
 use Rattle.std.proofs.Common.{get_or, refl, sym, ◌∙◌, ap, subst, arith}
 use Rattle.std.specs.Prelude.{slice_set, slice_index_or, ◌==◌}

@@ -6,8 +6,7 @@ ghost use Rattle.step_laws.specs.Ends.{RunEnds};
 ghost use Rattle.step_laws.specs.Inside.{AccessesLieInMemory, PiecesLieInCells, WindowNumbersAgree};
 
 /// The run on one thread ends by itself, whatever the order of the ranks and the delay: where its turns are over, no
-/// rank
-/// may have one.
+/// rank may have one.
 ///
 /// It is a theorem, and does nothing when it is called.
 pub fn step_run_ends()
@@ -22,10 +21,8 @@ pub fn step_run_delivers_all()
 {}
 
 /// Each access lies in the memory of its target, and is aligned: a pending one after any number of turns, and one that
-/// its
-/// rank makes in its next turn (MPI 3.1, sections 11.2 and 11.3). So it is for allocated, created and dynamic windows,
-/// and
-/// also where a region is detached between the look-up of an access and its Issue.
+/// its rank makes in its next turn (MPI 3.1, sections 11.2 and 11.3). So it is for allocated, created and dynamic
+/// windows, and also where a region is detached between the look-up of an access and its Issue.
 ///
 /// It is a theorem, and does nothing when it is called.
 pub fn accesses_lie_in_memory()

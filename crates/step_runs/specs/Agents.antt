@@ -17,9 +17,8 @@ use Rattle.rank_rules.specs.declared.pending.PendingAccess.{PendingAccess}
 use Rattle.step_runs.specs.Generator.{seeded, delivery_stream}
 
 -- A rank: its number; its log; what it knows; the number of the first call that does not have all its items; whether
--- that
--- call's first entry is put; whether a draw was made for it; the state of the generator of its deliveries; its pending
--- accesses, in the order of their Issues; and whether it has ended.
+-- that call's first entry is put; whether a draw was made for it; the state of the generator of its deliveries; its
+-- pending accesses, in the order of their Issues; and whether it has ended.
 pub record Agent : Type 0 where
   pub rank : ℕ
   pub log : List Item

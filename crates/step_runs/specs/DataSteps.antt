@@ -1,6 +1,5 @@
 -- A step of a rank without the board: a draw, a refusal by the rank, an item of its own, or the delivery of an access.
--- This
--- project's profile of MPI 3.1, section 11.7.
+-- This project's profile of MPI 3.1, section 11.7.
 use Rattle.std.specs.Prelude.{ℕ, ◌/◌, ◌%◌, Bool, true, ◌==◌, if◌then◌else◌, List, [], ◌∷◌, ◌++◌, length, slice_get}
 use Rattle.std.specs.Prelude.{remove, Option, Some, None}
 use Rattle.std.specs.Option.{option_map_or}

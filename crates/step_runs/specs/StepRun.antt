@@ -105,8 +105,7 @@ first_world stage order seed = record {
 }
 
 -- More turns than any run of at most 16 ranks has. Between two entries each rank is found waiting once at most; a call
--- has
--- two entries and three other turns at most.
+-- has two entries and three other turns at most.
 abbrev pub most_turns : Script → ℕ
 most_turns script = 64 * (calls_of script + 1)
 

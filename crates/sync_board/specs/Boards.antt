@@ -28,8 +28,7 @@ use Rattle.sync_board.specs.declared.answers.Decided.TheVariants.{Entered, NotYe
 use Rattle.sync_board.specs.declared.answers.EntryRow.{EntryRow}
 
 -- A board: the number of ranks, the layout of their memory, the name of the memory from which tokens come, and the
--- entries in
--- the order of their places, with their calls as they are kept.
+-- entries in the order of their places, with their calls as they are kept.
 pub record BoardState : Type 0 where
   pub ranks : ℕ
   pub layout : Layout
@@ -79,8 +78,7 @@ is_step_of Leave call = is_some (collective_of call)
 is_step_of One call = if is_some (collective_of call) then false else true
 
 -- What is asked of a next entry: a rank of the run; a call that a line can say, and that passed the rank's own tests of
--- ranks
--- and ranges; and a step of that call.
+-- ranks and ranges; and a step of that call.
 pub record MayAsk (ranks : ℕ) (layout : Layout) (row : Row) : Type 0 where
   pub rank : row.rank < ranks
   pub written : IsWrittenCall row.call
@@ -106,8 +104,7 @@ ArePartsInside layout ranks parts =
     (rank : ℕ) → rank < ranks → (part_at parts rank).base + (part_at parts rank).bytes ≤ bytes_at layout rank
 
 -- the shape of the window that a creation makes, at its Leave: of the flavor of the call, and of the parts that the
--- ranks'
--- arrivals brought, each inside its rank's memory
+-- ranks' arrivals brought, each inside its rank's memory
 pub record IsShapeMade (board : BoardState) (row : Row) (creation : Creation) (shape : Shape) : Type 0 where
   pub flavor : shape.flavor ≡ creation.flavor
   pub parts : shape.parts ≡ parts_of board.layout board.ranks (acts (rows_on board)) (window_of (rows_on board) row)

@@ -1,6 +1,5 @@
 -- What one rank has done on one window, by its entries there: MPI 3.1, sections 11.2 and 11.5. The board keeps it in
--- counts
--- and tables, a side for each rank and window.
+-- counts and tables, a side for each rank and window.
 use Rattle.std.specs.Prelude.{◌≡◌, ℕ, ◌+◌, ◌<◌, Bool, true, false, ◌&&◌, ◌==◌, nat_lt, if◌then◌else◌, List, [], ◌∷◌}
 use Rattle.std.specs.Prelude.{◌++◌, length, map, take, reverse, slice_index, slice_index_or}
 use Rattle.std.specs.List.{count_by, filter, flat_map, fold}
@@ -31,8 +30,7 @@ arrived collective entries =
     (filter (λ (act : Act). is_arrive act.row.step && is_collective collective act.row.call) entries)
 
 -- What a rank has done on a window: the groups of its posts and of its starts, how many completes and waits, its
--- arrivals at
--- the window's creation, frees and fences, and the ranges that it has attached.
+-- arrivals at the window's creation, frees and fences, and the ranges that it has attached.
 pub record Done : Type 0 where
   pub posts : List (List ℕ)
   pub starts : List (List ℕ)

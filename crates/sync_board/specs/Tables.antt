@@ -1,6 +1,5 @@
 -- Lists that have an item for an index once it was used: the sides and the rounds of the ranks on one window. An index
--- past the
--- end stands for a rank that has done nothing.
+-- past the end stands for a rank that has done nothing.
 use Rattle.std.specs.Prelude.{◌≡◌, ℕ, ◌≢◌, List, [], slice_get}
 use Rattle.std.specs.Option.{MatchOption}
 use Rattle.sync_board.specs.Rounds.{HasRounds}

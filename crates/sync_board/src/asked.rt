@@ -8,8 +8,7 @@ use crate::truths::natural;
 use rma_types::{Call, Class, Step};
 
 /// A next entry: its rank among so many, the number of its call in the rank's list, its call and step, and the name,
-/// the
-/// round and the number of the window that it is on. An entry on no window counts as on that of number 0.
+/// the round and the number of the window that it is on. An entry on no window counts as on that of number 0.
 #[derive(Clone, Copy, Debug)]
 pub(crate) struct Asked<'c> {
     pub(crate) ranks: u8,

@@ -66,8 +66,7 @@ impl<N: Token> Board<N> {
     ghost use Rattle.sync_board.specs.Boards.{IsAnswer, IsLayoutOf, MayAsk, entry_row, is_allow, rows_on};
 
     /// A board without entries, for 1 to 16 ranks with this layout of memory. The root is a token of the memory from
-    /// which
-    /// gifts come; it is kept, and is no gift.
+    /// which gifts come; it is kept, and is no gift.
     pub fn new(alloc: Global, ranks: u8, layout: &Layout, root: N) -> Result<Board<N>, NoMemory>
         requires some { 1 ≤ ranks }
         requires few { ranks ≤ 16 }
@@ -142,8 +141,7 @@ impl<N: Token> Board<N> {
     }
 
     /// Answers the next entry of a rank: this step of the call that has this number in the rank's list. Where it is
-    /// entered it
-    /// stands at the end of the list (MPI 3.1, sections 11.2 and 11.5).
+    /// entered it stands at the end of the list (MPI 3.1, sections 11.2 and 11.5).
     ///
     /// Where a count stands at the end of its type, or memory is wanting, nothing changes.
     pub fn decide(

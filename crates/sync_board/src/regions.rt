@@ -23,8 +23,7 @@ pub(crate) struct Span {
 /// The ranges that a rank has attached to a window.
 ///
 /// Those without a byte in common have an index. A range that has a byte of an earlier one stands beside them, in a
-/// list
-/// of its own: a rank that tests its calls attaches none.
+/// list of its own: a rank that tests its calls attaches none.
 #[derive(Debug, Drop)]
 pub(crate) struct Regions {
     pub(crate) apart: Attached,

@@ -1,6 +1,5 @@
 -- The clocks of a run by rank: for each entry of the board that a rank made, the item that it is, and how many items
--- of each
--- log are before it or are it. MPI 3.1, section 11.7, in this project's profile of order.
+-- of each log are before it or are it. MPI 3.1, section 11.7, in this project's profile of order.
 use Rattle.std.specs.Prelude.{ℕ, ◌<◌, ◌≤◌, Bool, Contains, ◌∷◌, replicate, ◌&&◌, ◌||◌, ◌==◌, nat_lt, nat_le, List, []}
 use Rattle.std.specs.Prelude.{slice_index, slice_index_or}
 use Rattle.std.specs.List.{list_any}

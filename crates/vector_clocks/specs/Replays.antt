@@ -36,8 +36,7 @@ abbrev pub given_told : Told → Given
 given_told t = record { row = kept_row t.row; gift = Some (Some t.gift) }
 
 -- The clock of the next entry after some: it counts its own item, what the entries count that stand in its log or
--- that lead to
--- it, and nothing else. What its rank gave is its clock, where nothing leads to it.
+-- that lead to it, and nothing else. What its rank gave is its clock, where nothing leads to it.
 pub record IsNext (before : List Told) (t : Told) : Type 0 where
   pub own : (id_told t).index < count_in t.stamp (id_told t).rank
   pub up : (s : Told) → Contains before s → (id_told s).rank ≡ (id_told t).rank → (id_told s).index < (id_told t).index
@@ -82,8 +81,7 @@ abbrev pub row_placed : Placed → Call → Row
 row_placed one call = record { rank = one.id.rank; number = one.call; call = call; step = one.step }
 
 -- An entry was put to the board and to the clocks of its rank: the numbers of its rank before it, with its own item,
--- are what its
--- rank gave, and its clock is these with what it gained.
+-- are what its rank gave, and its clock is these with what it gained.
 pub record IsPut (ranks : ℕ) (one : Placed) (call : Call) (board : List Given) (clocks : List (List Mark))
     (after : List Given)
     (later : List (List Mark)) : Type 0 where

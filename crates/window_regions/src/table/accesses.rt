@@ -18,8 +18,7 @@ use rma_types::{Access, Call, Dtype, Kind};
 
 impl WindowTable {
     /// The access of a call that moves data, on its live window (MPI 3.1, sections 11.2 and 11.3); none of another
-    /// call,
-    /// and none where the window is not live.
+    /// call, and none where the window is not live.
     pub fn access(&self, call: &Call) -> Option<Access>
         requires written { IsWrittenCall call.now }
         requires small { IfSome (transfer_of call.now) (HasSmallPlace self.now) }
