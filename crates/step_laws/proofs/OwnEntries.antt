@@ -86,3 +86,4 @@ count_made call true win e = by_creation (creation_of call) refl
 
 pub no_begin : (x y z : Bool) → (x && (false && y) && z) ≡ false
 no_begin true y z = refl
+no_begin false y z = refl

@@ -42,8 +42,6 @@ use Rattle.step_laws.proofs.Sound.{created_grows}
 use Rattle.step_laws.specs.Inside.{bytes_at, begun_names, names_so_far}
 use Rattle.step_laws.proofs.OwnEntries.{IsSoundAt, own_row_sound, pushed_at, count_names, count_made, no_begin}
 
-no_begin false y z = refl
-
 -- ---- moves
 
 arrives_sound : (script : Script) (delay : Delay) (rank : ℕ) (agent : Agent) (rows : List Row) (call : Call) →
