@@ -17,7 +17,6 @@ use Rattle.rma_record.specs.declared.items.Item.TheVariants.{Issue, Null, Touch,
 use Rattle.rma_record.specs.declared.items.Item.TheVariants.{Ended}
 use Rattle.rma_record.specs.declared.runs.Run.{Run}
 use Rattle.board_rules.specs.Entries.{Fence, is_arrive, is_collective}
-use Rattle.board_rules.specs.Questions.{question}
 use Rattle.lawful_runs.specs.BoardLaw.{NamesItsCall, NamesCallOf}
 use Rattle.lawful_runs.specs.Items.{is_touch}
 use Rattle.lawful_runs.specs.LawfulRun.{IsLawful, rank_in}
@@ -32,7 +31,7 @@ use Rattle.read_laws.proofs.Begun.{item_member}
 use Rattle.read_laws.proofs.Lists.{each_get}
 use Rattle.read_laws.proofs.Steps.{IsStep}
 use Rattle.read_laws.proofs.Touches.{in_flat_map}
-use Rattle.point_laws.proofs.Between.{are_two}
+use Rattle.point_laws.proofs.Between.{row_in, event_with, are_two}
 use Rattle.point_laws.proofs.FenceEdges.{own_edge}
 use Rattle.point_laws.proofs.Followed.{IsArrived, arrived}
 use Rattle.point_laws.specs.PointLaws.{NamesNoTouch}
@@ -150,7 +149,7 @@ module _ (script : Script) (delay : Delay) (run : Run) (lawful : IsLawful script
   LeavesUntil most = (x : CallStep) × In x (steps_in script run)
       × (leads_to (events_in script run) y.id x.id ≡ true) × (y.id.rank ≡ x.id.rank) × (x.id.index ≤ most)
 
-  -- the Leave of the arrival's own rank
+  -- the Leave of the arrival's own rank is such a step
   own_leave : (index left : ℕ) → y.id.index < index →
       slice_get (log_of run y.id.rank) index ≡ Some (Entry step.number left Leave) →
       ((k : ℕ) (item : Item) → y.id.index < k → k < index → slice_get (log_of run y.id.rank) k ≡ Some item →
@@ -158,6 +157,7 @@ module _ (script : Script) (delay : Delay) (run : Run) (lawful : IsLawful script
   unfolding LeavesUntil
   own_leave index left below of_leave touches =
       let id : Id = record { rank = y.id.rank; index = index } in
+      let first = row_in y.id.rank step.number Arrive y.call in
       let two = are_two script delay run lawful y.id.rank y.id.index index step.number Arrive Leave y.call entry.0 left
       within below
       (record { logged = logged; of_rank = step.call_is })
@@ -167,31 +167,14 @@ module _ (script : Script) (delay : Delay) (run : Run) (lawful : IsLawful script
       left in (
         record { id = id; call = y.call; step = Leave; known = known_before script run id },
         entry_step script run id step.number left Leave y.call in_run of_leave step.call_is,
-        edge_from (events_in script run) (record {
-          id = y.id;
-          event = record {
-            place = entry.0;
-            step = Arrive;
-            asked = question script.ranks two.before
-                (record { rank = y.id.rank; number = step.number; call = y.call; step = Arrive });
-          };
-        }) (record {
-          id = id;
-          event = record {
-            place = left;
-            step = Leave;
-            asked = question script.ranks (two.before ++ (record {
-              rank = y.id.rank;
-              number = step.number;
-              call = y.call;
-              step = Arrive;
-            }) ∷ two.between) (record { rank = y.id.rank; number = step.number; call = y.call; step = Leave });
-          };
-        }) two.of_first two.of_second edge,
+        edge_from (events_in script run) (event_with script.ranks y.id entry.0 two.before first)
+            (event_with script.ranks id left (two.before ++ first ∷ two.between)
+            (row_in y.id.rank step.number Leave y.call)) two.of_first two.of_second edge,
         refl,
         omega arith,
       )
 
+  -- behind the arrival stand touches alone up to an index, or its Leave stands there
   next_leaves : (most : ℕ) → TouchesUntil most ⊎ LeavesUntil most
   unfolding TouchesUntil LeavesUntil
   next_leaves most = elim parted.followed [
@@ -221,14 +204,16 @@ module _ (script : Script) (delay : Delay) (run : Run) (lawful : IsLawful script
 
   -- ---- along the order
 
-  -- what is after the arrival stands in its log before the Leave, or is after a step to which the arrival leads
+  -- the item is after a step to which the arrival leads
   IsAfterLeaves : Id → Type 0
   IsAfterLeaves c = (x : CallStep) × In x (steps_in script run)
       × (leads_to (events_in script run) y.id x.id ≡ true) × Before script run x.id c
 
+  -- it stands in the log of the arrival, with nothing but touches up to it
   IsEarly : Id → Type 0
   IsEarly c = (y.id.rank ≡ c.rank) × (y.id.index ≤ c.index) × TouchesUntil c.index
 
+  -- further in the log
   in_log : (b c : Id) → IsEarly b → b.rank ≡ c.rank → b.index < c.index → IsEarly c ⊎ IsAfterLeaves c
   unfolding IsEarly IsAfterLeaves LeavesUntil
   in_log b c early rank below = elim (next_leaves c.index) [
@@ -273,6 +258,7 @@ module _ (script : Script) (delay : Delay) (run : Run) (lawful : IsLawful script
             (omega (arith, early.1, other)) (omega arith) at_b in absurd (cc touch)
       ]
 
+  -- what is after the arrival is one of the two
   reached : (c : Id) → Before script run y.id c → IsEarly c ⊎ IsAfterLeaves c
   unfolding IsEarly IsAfterLeaves TouchesUntil
   reached c Same = inl (refl, omega arith, λ k item above under e. absurd (omega (arith, above, under)))
@@ -285,6 +271,7 @@ module _ (script : Script) (delay : Delay) (run : Run) (lawful : IsLawful script
     | inr (x, of_run, led, order) ↦ inr (x, of_run, led, Across order edge)
   ]
 
+  -- an item other than the arrival, which is no touch, is after one of the steps to which the arrival leads
   pub stands : (id : Id) → NamesNoTouch run id → id ≢ y.id → Before script run y.id id →
       (x : CallStep) × In x (steps_in script run) × (leads_to (events_in script run) y.id x.id ≡ true)
       × Before script run x.id id

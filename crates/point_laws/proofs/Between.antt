@@ -7,13 +7,14 @@ use Rattle.std.specs.Option.{option_map_or}
 use Rattle.std.proofs.lemmas.Bool.{cases_eq, cases_lt, eq-eqb, ltb-true}
 use Rattle.std.proofs.lemmas.Grind.{flat_map-append}
 use Rattle.std.proofs.lemmas.Option.{slice_get_within}
+use Rattle.rma_types.specs.declared.accesses.Id.{Id}
 use Rattle.rma_types.specs.declared.accesses.Step.{Step}
 use Rattle.rma_types.specs.declared.calls.Call.{Call}
 use Rattle.rma_types.specs.declared.schedules.Delay.{Delay}
 use Rattle.rma_types.specs.declared.scripts.Script.{Script}
 use Rattle.rma_record.specs.declared.items.Item.TheVariants.{Entry}
 use Rattle.rma_record.specs.declared.runs.Run.{Run}
-use Rattle.board_rules.specs.Edges.{events_of, events_after}
+use Rattle.board_rules.specs.Edges.{events_after}
 use Rattle.board_rules.specs.Entries.{Row}
 use Rattle.board_rules.specs.Questions.{question}
 use Rattle.lawful_runs.specs.Accesses.{EachPair}
@@ -98,47 +99,45 @@ from_rest P at x xs all = all.1
 abbrev HasRow : Script → Named → Row → Type 0
 HasRow script x row = row_of script x ≡ row ∷ []
 
+-- the row of an entry
+abbrev pub row_in : ℕ → ℕ → Step → Call → Row
+row_in rank number step call = record { rank = rank; number = number; call = call; step = step }
+
+-- the event that an entry is, with its row after the rows of the entries before it
+abbrev pub event_with : ℕ → Id → ℕ → List Row → Row → NamedEvent
+event_with ranks id place before row =
+    record { id = id; event = record { place = place; step = row.step; asked = question ranks before row } }
+
+-- the events of entries of these places, after these rows
+abbrev events_among : Script → ℕ → List Row → List Named → List Row → List NamedEvent
+events_among script first before entries rows =
+    map named_event (zip entries (events_after script.ranks first before rows))
+
 -- an entry is an event of the board, which asks after the rows of the entries before it
 event_among : (script : Script) (xs : List Named) (x : Named) (rest : List Named) (row : Row)
     (before front : List Row) (first place : ℕ) → ((y : Named) → In y xs → (r : Row) × HasRow script y r) →
     HasRow script x row → front ≡ before ++ flat_map (row_of script) xs → place ≡ first + length xs →
-    In (record {
-      id = x.id;
-      event = record { place = place; step = row.step; asked = question script.ranks front row };
-    }) (map named_event (zip (xs ++ x ∷ rest)
-    (events_after script.ranks first before (flat_map (row_of script) (xs ++ x ∷ rest)))))
+    In (event_with script.ranks x.id place front row)
+    (events_among script first before (xs ++ x ∷ rest) (flat_map (row_of script) (xs ++ x ∷ rest)))
 event_among script [] x rest row before front first place each of is at =
     let same_front : before ≡ front = sym (is ∙ append-nil before) in
     let same_place : first ≡ place = omega (arith, at) in
-    subst (λ rows. In (record {
-      id = x.id;
-      event = record { place = place; step = row.step; asked = question script.ranks front row };
-    }) (map named_event (zip (x ∷ rest)
-    (events_after script.ranks first before (rows ++ flat_map (row_of script) rest))))) (sym of)
-    (subst (λ (e : NamedEvent). In e (map named_event (zip (x ∷ rest)
-    (events_after script.ranks first before (row ∷ flat_map (row_of script) rest)))))
-    (λ i. record {
-      id = x.id;
-      event = record {
-        place = same_place i;
-        step = row.step;
-        asked = question script.ranks (same_front i) row;
-      };
-    }) here)
+    subst (λ rows. In (event_with script.ranks x.id place front row)
+    (events_among script first before (x ∷ rest) (rows ++ flat_map (row_of script) rest))) (sym of)
+    (subst (λ e. In e (events_among script first before (x ∷ rest) (row ∷ flat_map (row_of script) rest)))
+    (λ i. event_with script.ranks x.id (same_place i) (same_front i) row) here)
 event_among script (y ∷ xs) x rest row before front first place each of is at =
     let one = each y here in
     let later : front ≡ (before ++ one.0 ∷ []) ++ flat_map (row_of script) xs =
     is ∙ ap (λ l. before ++ (l ++ flat_map (row_of script) xs)) one.1
     ∙ sym (append_assoc before (one.0 ∷ []) (flat_map (row_of script) xs)) in
-    subst (λ rows. In (record {
-      id = x.id;
-      event = record { place = place; step = row.step; asked = question script.ranks front row };
-    }) (map named_event (zip (y ∷ (xs ++ x ∷ rest))
-    (events_after script.ranks first before (rows ++ flat_map (row_of script) (xs ++ x ∷ rest)))))) (sym one.1)
+    subst (λ rows. In (event_with script.ranks x.id place front row)
+    (events_among script first before (y ∷ (xs ++ x ∷ rest)) (rows ++ flat_map (row_of script) (xs ++ x ∷ rest))))
+    (sym one.1)
     (there (event_among script xs x rest row (before ++ one.0 ∷ []) front (first + 1) place
     (λ z m. each z (there m)) of later (omega (arith, at))))
 
--- the row of an entry
+-- an entry of a run has a row of its rank
 entry_row : (script : Script) (run : Run) (place : ℕ) (x : Named) → IsEntryOf script run place x →
     (row : Row) × HasRow script x row × (row.rank ≡ x.id.rank)
 entry_row script run place x e = (
@@ -180,10 +179,6 @@ module _ (script : Script) (delay : Delay) (run : Run) (lawful : IsLawful script
     pub logged : slice_get (log_of run rank) index ≡ Some (Entry number place step)
     pub of_rank : slice_get (calls_of script rank) number ≡ Some call
 
-  -- its row of the board
-  abbrev pub row_in : ℕ → ℕ → Step → Call → Row
-  row_in rank number step call = record { rank = rank; number = number; call = call; step = step }
-
   -- an entry of a log among those of the run, at its place
   pub listed : (rank index number place : ℕ) (step : Step) (call : Call) → rank < script.ranks →
       IsEntryIn rank index number place step call →
@@ -208,22 +203,10 @@ module _ (script : Script) (delay : Delay) (run : Run) (lawful : IsLawful script
     pub before : List Row
     pub between : List Row
     pub others : AreOfOthers rank between
-    pub of_first : In (record {
-      id = record { rank = rank; index = first };
-      event = record {
-        place = arrived;
-        step = s;
-        asked = question script.ranks before (row_in rank number s call);
-      };
-    }) (events_in script run)
-    pub of_second : In (record {
-      id = record { rank = rank; index = second };
-      event = record {
-        place = left;
-        step = t;
-        asked = question script.ranks (before ++ row_in rank number s call ∷ between) (row_in rank number t call);
-      };
-    }) (events_in script run)
+    pub of_first : In (event_with script.ranks (record { rank = rank; index = first }) arrived before
+        (row_in rank number s call)) (events_in script run)
+    pub of_second : In (event_with script.ranks (record { rank = rank; index = second }) left
+        (before ++ row_in rank number s call ∷ between) (row_in rank number t call)) (events_in script run)
 
   pub are_two : (rank first second number : ℕ) (s t : Step) (call : Call) (arrived left : ℕ) →
       rank < script.ranks → first < second → IsEntryIn rank first number arrived s call →
@@ -317,53 +300,29 @@ module _ (script : Script) (delay : Delay) (run : Run) (lawful : IsLawful script
           only here = refl
           only (there n) = elim n [ ]
 
-      of_first : In (record {
-        id = record { rank = rank; index = first };
-        event = record {
-          place = arrived;
-          step = s;
-          asked = question script.ranks (flat_map (row_of script) split.front) (row_in rank number s call);
-        };
-      }) (events_in script run)
-      of_first = subst (λ es. In (record {
-        id = record { rank = rank; index = first };
-        event = record {
-          place = arrived;
-          step = s;
-          asked = question script.ranks (flat_map (row_of script) split.front) (row_in rank number s call);
-        };
-      }) (map named_event (zip es (events_of script.ranks (flat_map (row_of script) es))))) (sym split.split)
+      of_first : In (event_with script.ranks x.id arrived (flat_map (row_of script) split.front)
+          (row_in rank number s call)) (events_in script run)
+      of_first = subst (λ es. In (event_with script.ranks x.id arrived (flat_map (row_of script) split.front)
+          (row_in rank number s call)) (events_among script 0 [] es (flat_map (row_of script) es)))
+          (sym split.split)
           (event_among script split.front x (split.back ++ y ∷ split.rest) (row_in rank number s call) []
           (flat_map (row_of script) split.front) 0 arrived
           (each_row 0 split.front (from_front (IsEntryOf script run) 0 split.front (x ∷ split.back) placed_front))
           row_of_x refl (omega (arith, split.long)))
 
-      rows_before : flat_map (row_of script) split.front ++ row_in rank number s call
-          ∷ flat_map (row_of script) split.back ≡ flat_map (row_of script) (split.front ++ x ∷ split.back)
-      rows_before = ap (λ l. flat_map (row_of script) split.front ++ (l ++ flat_map (row_of script) split.back))
+      rows_before : List Row
+      rows_before = flat_map (row_of script) split.front ++ row_in rank number s call
+          ∷ flat_map (row_of script) split.back
+
+      are_before : rows_before ≡ flat_map (row_of script) (split.front ++ x ∷ split.back)
+      are_before = ap (λ l. flat_map (row_of script) split.front ++ (l ++ flat_map (row_of script) split.back))
           (sym row_of_x) ∙ sym (flat_map-append (row_of script) split.front (x ∷ split.back))
 
-      of_second : In (record {
-        id = record { rank = rank; index = second };
-        event = record {
-          place = left;
-          step = t;
-          asked = question script.ranks (flat_map (row_of script) split.front ++ row_in rank number s call
-              ∷ flat_map (row_of script) split.back) (row_in rank number t call);
-        };
-      }) (events_in script run)
+      of_second : In (event_with script.ranks y.id left rows_before (row_in rank number t call)) (events_in script run)
       of_second =
           let long = length-append split.front (x ∷ split.back) in
-          subst (λ es. In (record {
-            id = record { rank = rank; index = second };
-            event = record {
-              place = left;
-              step = t;
-              asked = question script.ranks (flat_map (row_of script) split.front ++ row_in rank number s call
-                  ∷ flat_map (row_of script) split.back) (row_in rank number t call);
-            };
-          }) (map named_event (zip es (events_of script.ranks (flat_map (row_of script) es))))) (sym split_later)
-          (event_among script (split.front ++ x ∷ split.back) y split.rest (row_in rank number t call) []
-          (flat_map (row_of script) split.front ++ row_in rank number s call ∷ flat_map (row_of script) split.back)
-          0 left (each_row 0 (split.front ++ x ∷ split.back) placed_front) row_of_y rows_before
+          subst (λ es. In (event_with script.ranks y.id left rows_before (row_in rank number t call))
+          (events_among script 0 [] es (flat_map (row_of script) es))) (sym split_later)
+          (event_among script (split.front ++ x ∷ split.back) y split.rest (row_in rank number t call) [] rows_before
+          0 left (each_row 0 (split.front ++ x ∷ split.back) placed_front) row_of_y are_before
           (omega (arith, long, split.long, split.apart)))
