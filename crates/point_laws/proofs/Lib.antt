@@ -1,1 +1,5 @@
 -- Which steps stand for the points of an access.
+pub mod Arrivals
+pub mod Between
+pub mod FenceEdges
+pub mod Followed
