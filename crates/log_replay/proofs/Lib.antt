@@ -3,3 +3,4 @@ pub mod Accepted
 pub mod Locked
 pub mod Taught
 pub mod Keeping
+pub mod WholeLogs

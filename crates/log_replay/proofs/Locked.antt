@@ -1,5 +1,5 @@
 -- The access epochs of the tables follow those that are known, where the rank did not refuse the call.
-use Rattle.std.proofs.Common.{◌≡◌, ℕ, zero, suc, ◌+◌, ◌-◌, Bool, true, false, cond, not, List, [], ◌∷◌, ◌++◌, Option}
+use Rattle.std.proofs.Common.{◌≡◌, ℕ, zero, suc, ◌+◌, ◌-◌, Bool, true, false, cond, not, List, [], ◌∷◌, ◌++◌}
 use Rattle.std.proofs.Common.{Some, None, length, replicate, inl, inr, refl, ap, sym, ◌∙◌}
 use Rattle.std.proofs.Common.{subst, arith}
 use Rattle.std.specs.Prelude.{◌==◌, ◌&&◌, ◌||◌, nat_lt, is_some, slice_set, ℤ}
@@ -10,9 +10,9 @@ use Rattle.call_rules.specs.Actions.{Synchronisation, Fences, Posts, Starts, Com
 use Rattle.call_rules.specs.Actions.{Unlocks, Flushes, Syncs, Transfer, Target, Own, Null, Named}
 use Rattle.call_rules.specs.Ranks.{is_member, natural}
 use Rattle.rank_rules.specs.Epochs.{AccessEpoch, Idle, FenceUnused, FenceUsed, StartTo, LocksAt, LockAll, Epochs}
-use Rattle.rank_rules.specs.Epochs.{ExposureEpoch, access_after, after_lock, after_transfer, after_unlock, after_use}
-use Rattle.rank_rules.specs.Epochs.{epochs_at, is_fence_unused, is_fence_used, is_passive, is_passive_at, is_posted}
-use Rattle.rank_rules.specs.Epochs.{locks_at, may_begin, may_lock, may_synchronise, no_epochs, targets_locked}
+use Rattle.rank_rules.specs.Epochs.{ExposureEpoch, access_after, after_transfer, after_use}
+use Rattle.rank_rules.specs.Epochs.{epochs_at, is_fence_unused, is_fence_used, is_posted}
+use Rattle.rank_rules.specs.Epochs.{locks_at, may_lock, may_synchronise, no_epochs, targets_locked}
 use Rattle.log_replay.specs.Deeds.{turn_by}
 use Rattle.log_replay.specs.declared.deeds.Turn.TheVariants as turn
 use Rattle.log_replay.specs.declared.tables.Epoch.TheVariants.{Locks}

@@ -197,7 +197,7 @@ module _ (shapes : ℕ → List Part) (known : Knowledge) (tables : Known) (numb
 
 -- ---- after one item
 
-each_get : {X : Type 0} (P : X → Type 0) (xs : List X) (i : ℕ) (x : X) → AllByRecursion P xs →
+pub each_get : {X : Type 0} (P : X → Type 0) (xs : List X) (i : ℕ) (x : X) → AllByRecursion P xs →
     slice_get xs i ≡ Some x → P x
 each_get P [] i x h e = absurd (cc e)
 each_get P (y ∷ ys) zero x h e = let is : y ≡ x = cc e in subst P is h.0

@@ -1,5 +1,5 @@
 -- The tables of what a rank knows, and what accepted calls make of them: MPI 3.1, sections 11.2, 11.3.5 and 11.5.
-use Rattle.std.specs.Prelude.{ℕ, ◌≡◌, ◌+◌, ◌-◌, ◌<◌, Bool, false, nat_lt, if◌then◌else◌, List, [], ◌∷◌, map, length}
+use Rattle.std.specs.Prelude.{ℕ, ◌≡◌, ◌+◌, ◌-◌, false, nat_lt, if◌then◌else◌, List, [], ◌∷◌, map, length}
 use Rattle.std.specs.Prelude.{slice_index_or, slice_set, Option, Some, None}
 use Rattle.std.specs.Option.{option_map_or}
 use Rattle.rank_rules.specs.Epochs.{AccessEpoch, Epochs, targets_locked}

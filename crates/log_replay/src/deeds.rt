@@ -7,8 +7,9 @@ ghost use Rattle.log_replay.specs.declared.deeds.Turn.TheVariants.{End, Fence};
 
 use rma_types::Call;
 
-/// What an accepted synchronisation makes of the access epoch on its window (MPI 3.1, section 11.5): it stays, it ends,
-/// that of a fence or of a start begins, a post ends that of a fence, a target is locked or unlocked, or all are locked.
+/// What an accepted synchronisation makes of the access epoch on its window (MPI 3.1, section 11.5): it stays, it
+/// ends, that of a fence or of a start begins, a post ends that of a fence, a target is locked or unlocked, or all are
+/// locked.
 #[derive(Clone, Copy, Debug, PartialEq, Eq)]
 pub(crate) enum Turn {
     Stay,

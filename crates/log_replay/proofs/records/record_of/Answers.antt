@@ -4,7 +4,7 @@ use Rattle.std.specs.Prelude.{slice_get, slice_index_or}
 use Rattle.std.proofs.lemmas.Option.{slice_get-get_or}
 use Rattle.lawful_runs.specs.Logs.{log_of}
 use Rattle.log_replay.specs.Kept.{IsKeptAccess, IsKeptStep}
-use Rattle.log_replay.proofs.Keeping.{accesses_at, all_kept, no_item, none_kept, stands_at, steps_at, written_calls}
+use Rattle.log_replay.proofs.WholeLogs.{accesses_at, all_kept, no_item, none_kept, stands_at, steps_at}
 use Rattle.log_replay.proofs.Taught.{first_stands}
 use Rattle.log_replay.proofs.records.record_of.Goals as goal
 

@@ -1,7 +1,7 @@
 -- The records of the ranks so far, and one more.
 use Rattle.std.proofs.Common.{◌≡◌, ◌+◌, ap, arith, length, subst, sym}
 use Rattle.log_replay.specs.Kept.{AreRecordsFrom, IsRecordOf}
-use Rattle.log_replay.proofs.Keeping.{one_longer, records_more}
+use Rattle.log_replay.proofs.WholeLogs.{one_longer, records_more}
 use Rattle.log_replay.proofs.replays.records_of.Goals as goal
 
 pub loop-rank-preserved : goal.loop-rank-preserved
