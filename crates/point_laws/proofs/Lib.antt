@@ -1,1 +1,7 @@
--- Which steps stand for the points of an access.
+-- What the theorems of this crate rest on.
+mod Accepted
+mod Finished
+mod Fits
+mod Positions
+mod Splits
+mod Ties
