@@ -2,6 +2,8 @@
 mod Accepted
 mod Finished
 mod Fits
+mod Owned
+mod Placed
 mod Positions
 mod Splits
 mod Ties

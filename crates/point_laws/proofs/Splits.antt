@@ -165,7 +165,7 @@ stands_after rank window before (row ∷ rows) front s back e =
 abbrev pub own : ℕ → List Row → List Row
 own rank rows = filter (λ (row : Row). row.rank == rank) rows
 
-count_kept : {X : Type 0} (p q : X → Bool) → ((x : X) → q x ≡ false → p x ≡ false) → (xs : List X) →
+pub count_kept : {X : Type 0} (p q : X → Bool) → ((x : X) → q x ≡ false → p x ≡ false) → (xs : List X) →
     count_by p (filter q xs) ≡ count_by p xs
 count_kept p q apart [] = refl
 count_kept {X} p q apart (x ∷ xs) = by_test (q x) refl (count_kept p q apart xs)
@@ -186,7 +186,7 @@ creations_own rank win rows = count_kept
     (λ row other. and_left (row.rank == rank && begins_window row) (names_window win row.call)
     (and_left (row.rank == rank) (begins_window row) other)) rows
 
-window_own : (rank : ℕ) (rows : List Row) (row : Row) → row.rank ≡ rank → window_of (own rank rows) row ≡ window_of
+pub window_own : (rank : ℕ) (rows : List Row) (row : Row) → row.rank ≡ rank → window_of (own rank rows) row ≡ window_of
     rows row
 window_own rank rows row is = by_name (window_named row.call)
   where
