@@ -7,3 +7,4 @@ mod Placed
 mod Positions
 mod Splits
 mod Ties
+mod Waiting
