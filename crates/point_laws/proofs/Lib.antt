@@ -1,5 +1,6 @@
 -- What the theorems of this crate rest on.
 mod Accepted
+mod Completes
 mod Finished
 mod Fits
 mod Owned
