@@ -3,7 +3,7 @@ use Rattle.std.proofs.Common.{◌≡◌, ℕ, inl, inr, Bool, true, false, List,
 use Rattle.std.proofs.Common.{sym, ◌∙◌, subst, arith}
 use Rattle.std.specs.Prelude.{◌&&◌, ◌||◌, ◌==◌, slice_get, Contains, nat_lt}
 use Rattle.std.specs.Option.{option_map_or}
-use Rattle.std.proofs.lemmas.Bool.{and_parts, or_cases, or_right, eqb-true, false≢true}
+use Rattle.std.proofs.lemmas.Bool.{and_parts, or_cases, eqb-true, false≢true}
 use Rattle.std.proofs.lemmas.Option.{some_pair_parts}
 use Rattle.rma_types.specs.declared.accesses.Id.{Id}
 use Rattle.rma_types.specs.declared.accesses.Step.{Step}
@@ -35,6 +35,7 @@ use Rattle.read_laws.proofs.Steps.{IsStep, step_is}
 use Rattle.point_laws.specs.PointLaws.{EndsStartOf, WaitsAtTarget, IsLedTo}
 use Rattle.point_laws.proofs.Owned.{IsOwned, owned_entry}
 use Rattle.point_laws.proofs.Placed.{IsPlaced}
+use Rattle.point_laws.proofs.Positions.{wait_paired}
 use Rattle.point_laws.proofs.Waiting.{IsSynchronised, one_row, within_logs, synchronised_step, on_number, number_on}
 
 pub complete_is : (s : Synchronisation) → is_complete s ≡ true → s ≡ Completes
@@ -149,7 +150,7 @@ module _ (script : Script) (run : Run) (formed : IsWellFormed script) (lawful : 
       (n : ℕ) → n ≡ a.issued.access.window → n ≡ f.event.asked.window → WaitsAtTarget script run a x
   led_waits a y x end step listed rank f of_f f_is second sync waits n window asked =
       let one = synchronised_step script run formed lawful x second step sync
-      (or_right (is_complete second) (is_wait second) waits) in
+      (wait_paired second waits) in
       let same = same_event script run formed lawful f
       (event_at script x.id.rank x.id.index one.earlier one.number x.call) of_f one.placed.event f_is in
       let number : one.live.number ≡ a.issued.access.window = sym one.at

@@ -2,6 +2,7 @@
 mod Accepted
 mod Completes
 mod Finished
+mod FirstSteps
 mod Fits
 mod Owned
 mod Placed

@@ -1,7 +1,7 @@
 -- Where an item stands in a lawful log: after the items of the finished calls, among those of its own.
 use Rattle.std.proofs.Common.{◌≡◌, ℕ, zero, suc, ◌+◌, ◌<◌, ◌⊎◌, inl, inr, Bool, true, false, not, List, [], ◌∷◌, ◌++◌}
 use Rattle.std.proofs.Common.{take, drop, Option, Some, None, refl, ap, sym, ◌∙◌, subst}
-use Rattle.std.specs.Prelude.{◌||◌, slice_get, is_none, if◌then◌else◌}
+use Rattle.std.specs.Prelude.{slice_get, is_none, if◌then◌else◌}
 use Rattle.std.specs.List.{filter}
 use Rattle.std.proofs.lemmas.List.{append-nil}
 use Rattle.std.proofs.lemmas.List.Elements.{filter-append}
@@ -13,7 +13,7 @@ use Rattle.rma_types.specs.declared.calls.Call.{Call}
 use Rattle.rma_types.specs.declared.classes.Class.{Class}
 use Rattle.rma_record.specs.declared.items.Item.{Item}
 use Rattle.rma_record.specs.declared.items.Item.TheVariants.{Issue, Null, Flush, Request, Entry, Tested, Refused, Ended}
-use Rattle.board_rules.specs.Posts.{is_complete, is_wait}
+use Rattle.board_rules.specs.Posts.{is_wait}
 use Rattle.call_rules.specs.Actions.{Synchronisation, Fences, Posts, Starts, Completes, Waits, Locks, Unlocks, Flushes}
 use Rattle.call_rules.specs.Actions.{Syncs, action_of, synchronisation_of}
 use Rattle.lawful_runs.specs.CallItems.{untouched, AreItemsOfCourse, AreItemsBy, AreItemsOf, AreFinished, StandsAt}
@@ -73,17 +73,40 @@ untouched_split xs ys item other =
     filter-append (λ x. not (is_touch x)) xs (item ∷ ys)
     ∙ ap (λ b. untouched xs ++ (if not b then item ∷ untouched ys else untouched ys)) other
 
--- a complete and a wait have one entry
+-- a post, a start, a complete or a wait
+abbrev pub is_paired : Synchronisation → Bool
+is_paired (Fences asserts) = false
+is_paired (Posts group asserts) = true
+is_paired (Starts group asserts) = true
+is_paired Completes = true
+is_paired (Waits tests) = true
+is_paired (Locks kind target asserts) = false
+is_paired (Unlocks target) = false
+is_paired (Flushes target local) = false
+is_paired Syncs = false
+
+pub wait_paired : (s : Synchronisation) → is_wait s ≡ true → is_paired s ≡ true
+wait_paired (Fences asserts) h = absurd (cc h)
+wait_paired (Posts group asserts) h = refl
+wait_paired (Starts group asserts) h = refl
+wait_paired Completes h = refl
+wait_paired (Waits tests) h = refl
+wait_paired (Locks kind target asserts) h = absurd (cc h)
+wait_paired (Unlocks target) h = absurd (cc h)
+wait_paired (Flushes target local) h = absurd (cc h)
+wait_paired Syncs h = absurd (cc h)
+
+-- it has one entry
 one_entry : (known : RankWindows) (call : Call) (s : Synchronisation) → synchronisation_of call ≡ Some s →
-    (is_complete s || is_wait s) ≡ true → IsOneEntry (course_of known call)
+    is_paired s ≡ true → IsOneEntry (course_of known call)
 one_entry known call s e h =
     let is = synchronises (action_of call) s e in
     subst (λ a. IsOneEntry (course_of_action known a)) (sym is.1) (by_kind s h)
   where
-    by_kind : (s : Synchronisation) → (is_complete s || is_wait s) ≡ true → IsOneEntry (course_of_synchronisation s)
+    by_kind : (s : Synchronisation) → is_paired s ≡ true → IsOneEntry (course_of_synchronisation s)
     by_kind (Fences asserts) h = absurd (cc h)
-    by_kind (Posts group asserts) h = absurd (cc h)
-    by_kind (Starts group asserts) h = absurd (cc h)
+    by_kind (Posts group asserts) h = tt
+    by_kind (Starts group asserts) h = tt
     by_kind Completes h = tt
     by_kind (Waits true) h = tt
     by_kind (Waits false) h = tt
@@ -150,7 +173,7 @@ module _ (here : RankOfRun) where
         | inr two ↦ in_rest before number rest two.0 vs item us end two.2
       ]
 
-  -- ---- a complete or a wait
+  -- ---- a post, a start, a complete or a wait
 
   -- the item is the entry of an accepted call of one entry, after the items of the calls before it
   pub record IsOneEntryAt (us : List Item) (number : ℕ) (call : Call) (item : Item) : Type 0 where
@@ -247,7 +270,7 @@ module _ (here : RankOfRun) where
   pub one_entry_at : (items us vs : List Item) (item : Item) (number : ℕ) (step : Step) (call : Call)
       (s : Synchronisation) → HasItemsOfCalls here items → items ≡ us ++ item ∷ vs →
       step_by item ≡ Some (number, step) → slice_get calls number ≡ Some call → synchronisation_of call ≡ Some s →
-      (is_complete s || is_wait s) ≡ true → IsOneEntryAt us number call item
+      is_paired s ≡ true → IsOneEntryAt us number call item
   one_entry_at items us vs item number step call s has e step_is of is kind =
       by_standing us item number step call step_is of (λ known. one_entry known call s is kind)
       (item_stands items us vs item has e)
@@ -265,13 +288,17 @@ module _ (here : RankOfRun) where
     pub own : own_class (known_at here before) call ≡ None
     pub is : access_of (known_at here before).windows call ≡ Some access
     pub same : known_at here us ≡ known_at here before
+    pub issues : HasIssue (course_of (known_at here before).windows call)
+    pub looked : (front ≡ []) ⊎ ((place : ℕ) × (front ≡ Entry number place One ∷ []))
 
   module _ (us : List Item) (number : ℕ) (access : Access) (n : ℕ) (call : Call) (of : slice_get calls n ≡ Some call)
       (before front back : List Item) (split : us ≡ before ++ front) (finished : AreFinished here n before)
       (own : own_class (known_at here before) call ≡ None) where
     told : (other : Access) → access_of (known_at here before).windows call ≡ Some other →
-        Issue number access ≡ Issue n other → known_at here us ≡ known_at here before → IsIssueAt us number access
-    told other is e same =
+        Issue number access ≡ Issue n other → known_at here us ≡ known_at here before →
+        HasIssue (course_of (known_at here before).windows call) →
+        ((front ≡ []) ⊎ ((place : ℕ) × (front ≡ Entry n place One ∷ []))) → IsIssueAt us number access
+    told other is e same issues looked =
         let number_is : number ≡ n = cc e in
         let access_is : access ≡ other = cc e in
         record {
@@ -284,6 +311,8 @@ module _ (here : RankOfRun) where
           own = own;
           is = is ∙ ap Some (sym access_is);
           same = same;
+          issues = issues;
+          looked = subst (λ m. (front ≡ []) ⊎ ((place : ℕ) × (front ≡ Entry m place One ∷ []))) (sym number_is) looked;
         }
 
     issue_by : (c : Course) → course_of (known_at here before).windows call ≡ c →
@@ -295,6 +324,7 @@ module _ (here : RankOfRun) where
         let one = some_and (access_of (known_at here before).windows call) issue in
         told one.0 one.1 (at.1 ∙ one.2)
         (ap (known_at here) (split ∙ ap (λ l. before ++ l) at.0 ∙ append-nil before))
+        (subst HasIssue (sym is) tt) (inl at.0)
     issue_by LookUpAndIssue is (place, x, issue, h) =
         let one = some_and (access_of (known_at here before).windows call) issue in
         let t = transfer_with_issue (known_at here before).windows call (subst HasIssue (sym is) tt) in
@@ -305,7 +335,7 @@ module _ (here : RankOfRun) where
               ∙ fold_joined (learn (shapes_in here.stage here.rows) calls) (first_knowledge here.stage here.rank)
               before (Entry n place One ∷ [])
               ∙ learns_nothing (shapes_in here.stage here.rows) calls (known_at here before) n place One call of
-              (ap is_none t.1))
+              (ap is_none t.1)) (subst HasIssue (sym is) tt) (inr (place, second.0))
         ]
     issue_by OneFlush is h = let e = (single_at front back (Issue number access) (Flush n) h).1 in absurd (cc e)
     issue_by OneRequest is h = let e = (single_at front back (Issue number access) (Request n) h).1 in absurd (cc e)

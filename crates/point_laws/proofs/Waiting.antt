@@ -1,7 +1,7 @@
 -- The completes and waits of a lawful run at their places: the window of each, and the epochs of its rank there.
 use Rattle.std.proofs.Common.{◌≡◌, ℕ, zero, suc, ◌<◌, inl, inr, Bool, true, false, not, List, [], ◌∷◌, ◌++◌, length, take}
 use Rattle.std.proofs.Common.{drop, Option, Some, None, refl, ap, sym, ◌∙◌, subst, arith}
-use Rattle.std.specs.Prelude.{◌||◌, ◌==◌, slice_get, slice_index_or, is_some}
+use Rattle.std.specs.Prelude.{◌==◌, slice_get, slice_index_or, is_some}
 use Rattle.std.specs.Option.{option_map_or}
 use Rattle.std.proofs.lemmas.Bool.{eqb-true, eq-eqb, not-false}
 use Rattle.rma_types.specs.declared.accesses.Id.{Id}
@@ -14,7 +14,6 @@ use Rattle.rma_record.specs.declared.items.Item.{Item}
 use Rattle.rma_record.specs.declared.items.Item.TheVariants.{Entry}
 use Rattle.rma_record.specs.declared.runs.Run.{Run}
 use Rattle.board_rules.specs.Entries.{Row, window_of}
-use Rattle.board_rules.specs.Posts.{is_complete, is_wait}
 use Rattle.call_rules.specs.Actions.{Synchronisation, Synchronises, action_of, creation_in, synchronisation_in}
 use Rattle.call_rules.specs.Actions.{synchronisation_of, window_in_action, window_named}
 use Rattle.call_rules.specs.WellFormed.{IsWellFormed, IsWrittenAction, IsWrittenCall}
@@ -38,7 +37,7 @@ use Rattle.point_laws.proofs.Finished.{finished_fits, known_untouched}
 use Rattle.point_laws.proofs.Fits.{Fits, IsLive, IsMadeOn, on_live}
 use Rattle.point_laws.proofs.Owned.{IsOwned, owned_entry}
 use Rattle.point_laws.proofs.Placed.{IsPlaced}
-use Rattle.point_laws.proofs.Positions.{IsOneEntryAt, one_entry_at, split_get, untouched_split}
+use Rattle.point_laws.proofs.Positions.{IsOneEntryAt, is_paired, one_entry_at, split_get, untouched_split}
 use Rattle.point_laws.proofs.Splits.{own, made, made_by_own, window_own}
 use Rattle.point_laws.proofs.Ties.{IsTied}
 
@@ -122,7 +121,7 @@ module _ (script : Script) (run : Run) (formed : IsWellFormed script) (lawful : 
         }
 
     pub synchronised_at : (item : Item) (step : Step) → slice_get (log_of run rank) index ≡ Some item →
-        step_by item ≡ Some (number, step) → (is_complete s || is_wait s) ≡ true →
+        step_by item ≡ Some (number, step) → is_paired s ≡ true →
         IsSynchronised script run rank index call s
     synchronised_at item step logged step_is kind =
         let split = split_get (log_of run rank) index item logged in
@@ -143,7 +142,7 @@ module _ (script : Script) (run : Run) (formed : IsWellFormed script) (lawful : 
 
   -- a step of a call
   pub synchronised_step : (x : CallStep) (s : Synchronisation) → IsStep script run x →
-      synchronisation_of x.call ≡ Some s → (is_complete s || is_wait s) ≡ true →
+      synchronisation_of x.call ≡ Some s → is_paired s ≡ true →
       IsSynchronised script run x.id.rank x.id.index x.call s
   synchronised_step x s is sync kind =
       let within = within_logs run.logs x.id.rank x.id.index is.item is.logged in
