@@ -43,7 +43,7 @@ use Rattle.point_laws.proofs.Waiting.{IsSynchronised, one_row, within_logs, sync
 
 -- ---- lists
 
-count_cons : {X : Type 0} (p : X → Bool) (x : X) (xs : List X) →
+pub count_cons : {X : Type 0} (p : X → Bool) (x : X) (xs : List X) →
     count_by p (x ∷ xs) ≡ cond (p x) 1 0 + count_by p xs
 count_cons p x xs = sum_by-cons (λ y. cond (p y) 1 0) x xs
 

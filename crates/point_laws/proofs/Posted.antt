@@ -2,16 +2,18 @@
 -- it before.
 use Rattle.std.proofs.Common.{◌≡◌, ℕ, suc, ◌+◌, ◌<◌, ◌≤◌, ◌⊎◌, inl, inr, Bool, true, false, List, [], ◌∷◌, ◌++◌, length}
 use Rattle.std.proofs.Common.{Option, Some, None, refl, ap, sym, ◌∙◌, subst, arith, append_assoc}
-use Rattle.std.specs.Prelude.{◌==◌, nat_lt, ℤ}
+use Rattle.std.specs.Prelude.{◌==◌, nat_lt, slice_get, ℤ}
 use Rattle.std.specs.List.{flat_map, list_all}
 use Rattle.std.proofs.lemmas.Bool.{eqb-true, ltb-true}
 use Rattle.std.proofs.lemmas.Grind.{flat_map-append}
+use Rattle.rma_types.specs.declared.accesses.Id.{Id}
 use Rattle.rma_types.specs.declared.accesses.Step.{Step}
 use Rattle.rma_types.specs.declared.accesses.Step.TheVariants.{One}
 use Rattle.rma_types.specs.declared.calls.Asserts.{Asserts}
 use Rattle.rma_types.specs.declared.classes.Class.{Class}
 use Rattle.rma_types.specs.declared.schedules.Delay.TheVariants.{Seeded}
 use Rattle.rma_types.specs.declared.scripts.Script.{Script}
+use Rattle.rma_record.specs.declared.items.Item.{Item}
 use Rattle.rma_record.specs.declared.items.Item.TheVariants.{Entry}
 use Rattle.rma_record.specs.declared.runs.Run.{Run}
 use Rattle.board_rules.specs.Board.{Allow, decide, decision, decision_by, refusal, may_enter_now, may_synchronise_now}
@@ -23,12 +25,12 @@ use Rattle.call_rules.specs.Actions.{Syncs, action_of, synchronisation_of}
 use Rattle.call_rules.specs.Ranks.{members_of, is_member}
 use Rattle.call_rules.specs.WellFormed.{IsWellFormed}
 use Rattle.lawful_runs.specs.LawfulRun.{IsLawful}
-use Rattle.lawful_runs.specs.Logs.{rows_of}
+use Rattle.lawful_runs.specs.Logs.{log_of, rows_of}
 use Rattle.order_laws.proofs.Edges.{naming_append}
 use Rattle.order_laws.proofs.Members.{In, any_in, all_in}
 use Rattle.read_laws.proofs.Steps.{synchronises}
 use Rattle.point_laws.proofs.Ended.{IsGroupEnded}
-use Rattle.point_laws.proofs.Placed.{placed_row}
+use Rattle.point_laws.proofs.Placed.{IsPlaced, placed_row}
 use Rattle.point_laws.proofs.Positions.{is_paired}
 use Rattle.point_laws.proofs.Splits.{made, made_after, made_is, made_joined, stands_after}
 use Rattle.point_laws.proofs.Waiting.{IsSynchronised, synchronised_at}
@@ -143,6 +145,45 @@ posts_grow rank target window xs ys =
     omega (arith, joined)
 
 module _ (script : Script) (run : Run) (formed : IsWellFormed script) (lawful : IsLawful script Seeded run) where
+  -- a start is allowed where the members of its group have posted
+  start_at : (before : List Row) (row : Row) (later : List Row) (id : Id) → IsPlaced script run before row later id →
+      (s : Synchronisation) (group : List ℕ) → IsStartOf s group → synchronisation_of row.call ≡ Some s →
+      start_has_posts (question script.ranks before row) group ≡ true
+  start_at before row later id placed s group start sync =
+      let paired : is_paired s ≡ true = ap is_paired start.is in
+      let here = synchronised_at script run formed lawful id.rank id.index row.number row.call s
+      placed.within placed.of_rank sync (Entry row.number (length before) row.step) row.step
+      placed.logged refl paired in
+      let step = same_step (slice_get (log_of run id.rank) id.index) row.number (length before) here.number
+      (length here.earlier) row.step One placed.logged here.placed.logged in
+      start_allowed (question script.ranks before row) s group start
+      (subst (λ t. decision (question script.ranks before row) t ≡ Allow) step placed.allowed) sync
+    where
+      same_step : (o : Option Item) (n p m q : ℕ) (s t : Step) → o ≡ Some (Entry n p s) → o ≡ Some (Entry m q t) → s ≡ t
+      same_step o n p m q s t first second =
+          let both : Some (Entry n p s) ≡ Some (Entry m q t) = sym first ∙ second in
+          let same : Entry n p s ≡ Entry m q t = cc both in cc same
+
+  -- so it has as many posts as it asks for
+  posts_before : (rank target window : ℕ) (before : List Row) (row : Row) (group : List ℕ)
+      (ended : List (List ℕ)) → row.rank ≡ rank → window_of before row ≡ window →
+      flat_map group_of_start (made rank window before) ≡ ended → is_member target group ≡ true →
+      start_has_posts (question script.ranks before row) group ≡ true →
+      naming target ended < naming rank (flat_map group_of_post (made target window before))
+  posts_before rank target window before row group ended rank_is window_is groups member has =
+      let below = ltb-true _ _ (all_in (λ member. nat_lt
+      (naming member (starts (question script.ranks before row) row.rank))
+      (naming row.rank (posts (question script.ranks before row) member))) has (member_in target group member)) in
+      let started : naming target (starts (question script.ranks before row) row.rank) ≡ naming target ended =
+      ap (λ l. naming target (flat_map group_of_start l)) (made_is row.rank (window_of before row) [] before
+      ∙ (λ i. made (rank_is i) (window_is i) before)) ∙ ap (naming target) groups in
+      let posted : naming row.rank (posts (question script.ranks before row) target)
+      ≡ naming rank (flat_map group_of_post (made target window before)) =
+      ap (λ l. naming row.rank (flat_map group_of_post l)) (made_is target (window_of before row) [] before
+      ∙ ap (λ n. made target n before) window_is)
+      ∙ ap (λ r. naming r (flat_map group_of_post (made target window before))) rank_is in
+      omega (arith, below, started, posted)
+
   -- the start of the group was allowed: its members had posted
   pub posts_needed : (rank target window : ℕ) (earlier later : List Row) → rows_of script run ≡ earlier ++ later →
       (g : IsGroupEnded rank target window earlier) →
@@ -150,38 +191,14 @@ module _ (script : Script) (run : Run) (formed : IsWellFormed script) (lawful : 
   posts_needed rank target window earlier later split g =
       let one = start_split (made rank window earlier) g.ended g.group g.more g.begun in
       let stands = stands_after rank window [] earlier one.front one.s one.back one.split in
-      let row = stands.row in
-      let before = stands.earlier in
-      let whole : rows_of script run ≡ before ++ row ∷ (stands.later ++ later) =
-      split ∙ ap (λ l. l ++ later) stands.split ∙ append_assoc before (row ∷ stands.later) later in
-      let placed = placed_row script Seeded run lawful before row (stands.later ++ later) whole in
-      let paired : is_paired one.s ≡ true = ap is_paired one.start.is in
-      let here = synchronised_at script run formed lawful placed.0.rank placed.0.index row.number row.call one.s
-      placed.1.within placed.1.of_rank stands.call_is (Entry row.number (length before) row.step) row.step
-      placed.1.logged refl paired in
-      let item : Entry row.number (length before) row.step ≡ Entry here.number (length here.earlier) One =
-      cc (sym placed.1.logged ∙ here.placed.logged) in
-      let step : row.step ≡ One = step_of item in
-      let has = start_allowed (question script.ranks before row) one.s g.group one.start
-      (subst (λ s. decision (question script.ranks before row) s ≡ Allow) step placed.1.allowed) stands.call_is in
-      let below = ltb-true _ _ (all_in (λ member. nat_lt
-      (naming member (starts (question script.ranks before row) row.rank))
-      (naming row.rank (posts (question script.ranks before row) member))) has
-      (member_in target g.group g.member)) in
-      let made_here : (r : ℕ) → synchronisations (acts before) r (window_of before row) ≡ made r window before =
-      λ r. made_is r (window_of before row) [] before ∙ ap (λ n. made r n before) stands.window_is in
-      let started : naming target (starts (question script.ranks before row) row.rank) ≡ naming target g.ended =
-      ap (λ l. naming target (flat_map group_of_start l)) (made_here row.rank
-      ∙ ap (λ r. made r window before) stands.rank_is ∙ stands.made_before) ∙ ap (naming target) one.groups in
-      let posted : naming row.rank (posts (question script.ranks before row) target)
-      ≡ naming rank (flat_map group_of_post (made target window before)) =
-      ap (λ l. naming row.rank (flat_map group_of_post l)) (made_here target)
-      ∙ ap (λ r. naming r (flat_map group_of_post (made target window before))) stands.rank_is in
-      let grown = posts_grow rank target window before (row ∷ stands.later) in
+      let placed = placed_row script Seeded run lawful stands.earlier stands.row (stands.later ++ later)
+      (split ∙ ap (λ l. l ++ later) stands.split ∙ append_assoc stands.earlier (stands.row ∷ stands.later) later) in
+      let has = start_at stands.earlier stands.row (stands.later ++ later) placed.0 placed.1 one.s g.group one.start
+      stands.call_is in
+      let needed = posts_before rank target window stands.earlier stands.row g.group g.ended stands.rank_is
+      stands.window_is (ap (flat_map group_of_start) stands.made_before ∙ one.groups) g.member has in
+      let grown = posts_grow rank target window stands.earlier (stands.row ∷ stands.later) in
       let same : naming rank (flat_map group_of_post (made target window earlier))
-      ≡ naming rank (flat_map group_of_post (made target window (before ++ row ∷ stands.later))) =
+      ≡ naming rank (flat_map group_of_post (made target window (stands.earlier ++ stands.row ∷ stands.later))) =
       ap (λ l. naming rank (flat_map group_of_post (made target window l))) stands.split in
-      omega (arith, below, started, posted, grown, same)
-    where
-      step_of : {n m p q : ℕ} {s t : Step} → Entry n p s ≡ Entry m q t → s ≡ t
-      step_of e = cc e
+      omega (arith, needed, grown, same)
