@@ -6,6 +6,7 @@ mod Finished
 mod FirstSteps
 mod Fits
 mod Issues
+mod Leading
 mod NumberedWaits
 mod Owned
 mod Placed
