@@ -1,26 +1,24 @@
 -- An accepted call keeps what a rank knows of a window in step with what its entries have done.
-use Rattle.std.proofs.Common.{◌≡◌, ℕ, suc, ◌+◌, ◌<◌, inl, inr, Bool, true, false, cond, not, List, [], ◌∷◌, ◌++◌, length}
+use Rattle.std.proofs.Common.{◌≡◌, ℕ, ◌+◌, ◌<◌, inl, inr, true, false, cond, not, List, [], ◌∷◌, ◌++◌, length}
 use Rattle.std.proofs.Common.{Option, Some, None, refl, ap, sym, ◌∙◌, subst, arith, append_assoc}
 use Rattle.std.proofs.Common.{get_or-set_same, get_or-set_other}
-use Rattle.std.specs.Prelude.{◌==◌, ◌&&◌, is_some, slice_set, if◌then◌else◌}
+use Rattle.std.specs.Prelude.{◌==◌, ◌&&◌, is_some, slice_set}
 use Rattle.std.specs.List.{count_by, filter, find, AllByRecursion}
 use Rattle.std.specs.Option.{option_map_or}
-use Rattle.std.proofs.lemmas.Bool.{cases_Bool, cases_eq, and_parts, and_left, and_right, and_from, eqb-true, eq-eqb}
+use Rattle.std.proofs.lemmas.Bool.{cases_eq, and_left, and_right, and_from, eqb-true, eq-eqb}
 use Rattle.std.proofs.lemmas.Bool.{ne_eqb, not-false}
-use Rattle.std.proofs.lemmas.List.{append-nil, length-set}
+use Rattle.std.proofs.lemmas.List.{length-set}
 use Rattle.std.proofs.lemmas.List.Sums.{sum_by-cons, sum_by-append}
 use Rattle.rma_types.specs.declared.accesses.Step.{Step}
 use Rattle.rma_types.specs.declared.accesses.Step.TheVariants.{Arrive, Leave, One}
 use Rattle.rma_types.specs.declared.calls.Call.{Call}
-use Rattle.rma_types.specs.declared.classes.Class.{Class}
 use Rattle.rma_types.specs.declared.scripts.Part.{Part}
 use Rattle.board_rules.specs.Entries.{Row, begins_window, names_window, is_creation, is_arrive}
 use Rattle.call_rules.specs.Actions.{Action, Creates, Frees, Attaches, Detaches, Synchronises, Meets, Moves}
 use Rattle.call_rules.specs.Actions.{EndsRequest, Synchronisation, Fences, Posts, Starts, Completes, Waits, Locks}
 use Rattle.call_rules.specs.Actions.{Unlocks, Flushes, Syncs, Transfer, Creation, action_of, synchronisation_in}
-use Rattle.call_rules.specs.Actions.{synchronisation_of, window_in_action, window_named, creation_in, creation_of}
+use Rattle.call_rules.specs.Actions.{synchronisation_of, window_in_action, creation_in}
 use Rattle.call_rules.specs.WellFormed.{IsWrittenAction}
-use Rattle.rank_rules.specs.Classes.{Test, first_class}
 use Rattle.rank_rules.specs.Courses.{Course, OneNull, OneIssue, LookUpAndIssue, OneFlush, OneRequest, ArriveAndLeave}
 use Rattle.rank_rules.specs.Courses.{EntryOrTested, OneEntry, course_of_transfer, course_of_synchronisation}
 use Rattle.rank_rules.specs.Courses.{course_of_action, course_of}
@@ -29,9 +27,11 @@ use Rattle.rank_rules.specs.Epochs.{after_transfer}
 use Rattle.rank_rules.specs.EpochTests.{epoch_class, epoch_tests}
 use Rattle.rank_rules.specs.Knowledge.{Knowledge, known_after_call}
 use Rattle.rank_rules.specs.Requests.{requests_after}
-use Rattle.rank_rules.specs.Windows.{Window, RankWindows, window_of_name, window_number, windows_after, next_number}
+use Rattle.rank_rules.specs.Windows.{Window, window_of_name, window_number, windows_after, next_number}
 use Rattle.rank_rules.specs.WindowTests.{window_class, window_tests}
+use Rattle.step_laws.proofs.OwnTests.{none_applies}
 use Rattle.point_laws.proofs.Fits.{Fits, fits_kept, fits_made, fits_made_new, quiet_more, Keeps, IsQuiet, IsMadeOn}
+use Rattle.point_laws.proofs.Found.{found_joined, found_last, found_kept, found_none}
 use Rattle.point_laws.proofs.Ties.{IsTied, tied_first, tied_more, tied_after, tied_flush, tied_sync, tied_transfer}
 
 -- the entries of an accepted call
@@ -59,46 +59,6 @@ rows_each P OneRequest rank number call all = tt
 rows_each P ArriveAndLeave rank number call all = (all Arrive, (all Leave, tt))
 rows_each P EntryOrTested rank number call all = (all One, tt)
 rows_each P OneEntry rank number call all = (all One, tt)
-
--- ---- lists
-
-found_joined : {X : Type 0} (p : X → Bool) (xs : List X) (x : X) → p x ≡ false → find p (xs ++ x ∷ []) ≡ find p xs
-found_joined {X} p [] x other = ap (λ b. cond b (Some x) None) other
-found_joined {X} p (y ∷ ys) x other = ap (λ o. cond (p y) (Some y) o) (found_joined p ys x other)
-
-found_last : {X : Type 0} (p : X → Bool) (xs : List X) (x : X) → find p xs ≡ None → p x ≡ true →
-    find p (xs ++ x ∷ []) ≡ Some x
-found_last {X} p [] x none passes = ap (λ b. cond b (Some x) None) passes
-found_last {X} p (y ∷ ys) x none passes = by_test (p y) none (λ h. found_last p ys x h passes)
-  where
-    by_test : (b : Bool) → cond b (Some y) (find p ys) ≡ None → (find p ys ≡ None → find p (ys ++ x ∷ []) ≡ Some x) →
-        cond b (Some y) (find p (ys ++ x ∷ [])) ≡ Some x
-    by_test true e rest = absurd (cc e)
-    by_test false e rest = rest e
-
-found_kept : {X : Type 0} (p q : X → Bool) (xs : List X) → ((x : X) → q x ≡ false → p x ≡ false) →
-    find p (filter q xs) ≡ find p xs
-found_kept p q [] apart = refl
-found_kept {X} p q (x ∷ xs) apart = by_test (q x) refl (found_kept p q xs apart)
-  where
-    by_test : (b : Bool) → q x ≡ b → find p (filter q xs) ≡ find p xs →
-        find p (cond b (x ∷ filter q xs) (filter q xs)) ≡ cond (p x) (Some x) (find p xs)
-    by_test true is rest = ap (λ o. cond (p x) (Some x) o) rest
-    by_test false is rest = rest ∙ sym (ap (λ b. cond b (Some x) (find p xs)) (apart x is))
-
-found_none : {X : Type 0} (p : X → Bool) (xs : List X) → find p (filter (λ x. not (p x)) xs) ≡ None
-found_none p [] = refl
-found_none {X} p (x ∷ xs) = by_test (p x) refl (found_none p xs)
-  where
-    by_test : (b : Bool) → p x ≡ b → find p (filter (λ y. not (p y)) xs) ≡ None →
-        find p (cond (not b) (x ∷ filter (λ y. not (p y)) xs) (filter (λ y. not (p y)) xs)) ≡ None
-    by_test true is rest = rest
-    by_test false is rest = ap (λ b. cond b (Some x) (find p (filter (λ y. not (p y)) xs))) is ∙ rest
-
-pub none_applies : (tests : List Test) → first_class tests ≡ None → AllByRecursion (λ (one : Test). one.0 ≡ false) tests
-none_applies [] e = tt
-none_applies ((true, class) ∷ rest) e = absurd (cc e)
-none_applies ((false, class) ∷ rest) e = (refl, none_applies rest e)
 
 -- ---- the calls
 
@@ -370,35 +330,35 @@ module _ (shapes : ℕ → List Part) (rank win : ℕ) (small : win < 32) (known
   by_action : (action : Action) → action_of call ≡ action → IsWrittenAction action →
       window_class known.windows action ≡ None → epoch_class known.windows.ranks known.epochs action ≡ None →
       FitsAfter action
-  by_action (Creates creation) is written windows epochs = elim (cases_eq creation.win win) [
+  by_action (Creates creation) is written windows tests = elim (cases_eq creation.win win) [
     | inl same ↦ creates_here creation is same
         (dead_window (window_of_name known.windows win)
         (subst (λ n. is_some (window_of_name known.windows n) ≡ false) same (none_applies (window_tests known.windows (Creates creation)) windows).0))
     | inr apart ↦ creates_apart creation is written.name apart
   ]
-  by_action (Frees other) is written windows epochs = frees other is
-  by_action (Attaches other base bytes) is written windows epochs = quiet (Attaches other base bytes)
+  by_action (Frees other) is written windows tests = frees other is
+  by_action (Attaches other base bytes) is written windows tests = quiet (Attaches other base bytes)
       (quiet_rows (Attaches other base bytes) is refl refl OneEntry)
       (record { long = refl; created = refl; same = λ w e. e; tied = λ w e s tied. tied })
-  by_action (Detaches other base) is written windows epochs = quiet (Detaches other base)
+  by_action (Detaches other base) is written windows tests = quiet (Detaches other base)
       (quiet_rows (Detaches other base) is refl refl OneEntry)
       (record { long = refl; created = refl; same = λ w e. e; tied = λ w e s tied. tied })
-  by_action (Synchronises other s) is written windows epochs = elim (cases_eq other win) [
+  by_action (Synchronises other s) is written windows tests = elim (cases_eq other win) [
     | inl same ↦
         let passed = (none_applies (window_tests known.windows (Synchronises other s)) windows).0 in
         let w = live_window (window_of_name known.windows win) refl
         (subst (λ n. not (is_some (window_of_name known.windows n)) ≡ false) same passed) in
         let may = not-false (may_synchronise (epochs_at known.epochs other) s)
-        (none_applies (epoch_tests known.windows.ranks known.epochs (Synchronises other s)) epochs).1.1.0 in
+        (none_applies (epoch_tests known.windows.ranks known.epochs (Synchronises other s)) tests).1.1.0 in
         subst (λ n. FitsAfter (Synchronises n s)) (sym same)
         (synchronises s w.0 (is ∙ ap (λ n. Synchronises n s) same) w.1
         (subst (λ n. may_synchronise (epochs_at known.epochs n) s ≡ true) same may))
     | inr apart ↦ synchronises_apart other s is written.0 apart
   ]
-  by_action Meets is written windows epochs = quiet Meets (quiet_rows Meets is refl refl ArriveAndLeave)
+  by_action Meets is written windows tests = quiet Meets (quiet_rows Meets is refl refl ArriveAndLeave)
       (record { long = refl; created = refl; same = λ w e. e; tied = λ w e s tied. tied })
-  by_action (Moves t) is written windows epochs = moves t is
-  by_action (EndsRequest req) is written windows epochs = quiet (EndsRequest req)
+  by_action (Moves t) is written windows tests = moves t is
+  by_action (EndsRequest req) is written windows tests = quiet (EndsRequest req)
       (quiet_rows (EndsRequest req) is refl refl OneRequest)
       (record { long = refl; created = refl; same = λ w e. e; tied = λ w e s tied. tied })
 

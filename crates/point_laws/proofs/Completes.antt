@@ -1,7 +1,7 @@
 -- The step of its target to which the complete of an access leads is a wait on the window of the access.
-use Rattle.std.proofs.Common.{◌≡◌, ℕ, inl, inr, Bool, true, false, List, [], ◌∷◌, length, Option, Some, None, refl, ap}
+use Rattle.std.proofs.Common.{◌≡◌, ℕ, inl, inr, true, false, List, length, Some, refl, ap}
 use Rattle.std.proofs.Common.{sym, ◌∙◌, subst, arith}
-use Rattle.std.specs.Prelude.{◌&&◌, ◌||◌, ◌==◌, slice_get, Contains, nat_lt}
+use Rattle.std.specs.Prelude.{◌&&◌, slice_get, Contains}
 use Rattle.std.specs.Option.{option_map_or}
 use Rattle.std.proofs.lemmas.Bool.{and_parts, or_cases, eqb-true, false≢true}
 use Rattle.std.proofs.lemmas.Option.{some_pair_parts}
@@ -11,7 +11,6 @@ use Rattle.rma_types.specs.declared.accesses.Step.TheVariants.{Arrive, Leave, On
 use Rattle.rma_types.specs.declared.calls.Call.{Call}
 use Rattle.rma_types.specs.declared.schedules.Delay.TheVariants.{Seeded}
 use Rattle.rma_types.specs.declared.scripts.Script.{Script}
-use Rattle.rma_record.specs.declared.items.Item.{Item}
 use Rattle.rma_record.specs.declared.items.Item.TheVariants.{Entry}
 use Rattle.rma_record.specs.declared.runs.Run.{Run}
 use Rattle.board_rules.specs.Edges.{Event, are_on_one_window, is_edge_by, is_matched_one, is_waited_for_by}
@@ -27,14 +26,12 @@ use Rattle.order_rules.specs.Before.{NamedEvent, events_in, is_edge_between}
 use Rattle.order_rules.specs.CallSteps.{CallStep, IssuedAccess, step_by, steps_in, is_later_at_origin, is_step_on}
 use Rattle.order_rules.specs.CallSteps.{is_later_on_window}
 use Rattle.order_rules.specs.DonePoints.{completes_start}
-use Rattle.order_laws.proofs.Events.{IsEventAt}
 use Rattle.order_laws.proofs.Members.{In, contains_in, some_of}
-use Rattle.order_laws.proofs.Order.{edge_between, event_on_board, same_on_board, same_id}
+use Rattle.order_laws.proofs.Order.{edge_between, event_on_board, same_on_board}
 use Rattle.read_laws.proofs.Folds.{find_in}
 use Rattle.read_laws.proofs.Steps.{IsStep, step_is}
 use Rattle.point_laws.specs.PointLaws.{EndsStartOf, WaitsAtTarget, IsLedTo}
-use Rattle.point_laws.proofs.Owned.{IsOwned, owned_entry}
-use Rattle.point_laws.proofs.Placed.{IsPlaced}
+use Rattle.point_laws.proofs.Owned.{owned_entry}
 use Rattle.point_laws.proofs.Positions.{wait_paired}
 use Rattle.point_laws.proofs.Waiting.{IsSynchronised, one_row, within_logs, synchronised_step, on_number, number_on}
 

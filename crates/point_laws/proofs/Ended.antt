@@ -7,10 +7,9 @@ use Rattle.std.specs.List.{count_by, flat_map}
 use Rattle.std.specs.Option.{option_map_or}
 use Rattle.std.proofs.lemmas.Bool.{and_parts, and_from, eqb-true, eq-eqb, ltb-true, lt-ltb, cases_eq}
 use Rattle.std.proofs.lemmas.Grind.{flat_map-append}
-use Rattle.std.proofs.lemmas.List.{append-nil, take-append-drop, take-take, take_at, length-take-le}
+use Rattle.std.proofs.lemmas.List.{take-append-drop, take-take, take_at, length-take-le}
 use Rattle.std.proofs.lemmas.List.Sums.{sum_by-append, sum_by-cons}
 use Rattle.std.proofs.lemmas.Option.{slice_get_within}
-use Rattle.rma_types.specs.declared.accesses.Id.{Id}
 use Rattle.rma_types.specs.declared.accesses.Step.{Step}
 use Rattle.rma_types.specs.declared.accesses.Step.TheVariants.{One}
 use Rattle.rma_types.specs.declared.calls.Call.{Call}
@@ -27,7 +26,7 @@ use Rattle.call_rules.specs.Ranks.{is_member}
 use Rattle.call_rules.specs.WellFormed.{IsWellFormed}
 use Rattle.lawful_runs.specs.LawfulRun.{IsLawful}
 use Rattle.lawful_runs.specs.Logs.{log_of, calls_of, row_by}
-use Rattle.order_rules.specs.CallSteps.{CallStep, IssuedAccess, known_before, step_by, steps_in, is_later_at_origin}
+use Rattle.order_rules.specs.CallSteps.{CallStep, IssuedAccess, known_before, step_by, is_later_at_origin}
 use Rattle.order_rules.specs.CallSteps.{is_later_on_window, is_step_on}
 use Rattle.order_rules.specs.DonePoints.{completes_start}
 use Rattle.order_laws.proofs.Members.{contains_in}
@@ -37,7 +36,7 @@ use Rattle.point_laws.specs.PointLaws.{EndsStartOf}
 use Rattle.point_laws.proofs.Completes.{IsEnd, complete_is}
 use Rattle.point_laws.proofs.FirstSteps.{first_step, listed_entry}
 use Rattle.point_laws.proofs.Issues.{IsStarted, started}
-use Rattle.point_laws.proofs.Splits.{own, made, made_after, made_joined, made_by_own, StandsAfter, stands_after}
+use Rattle.point_laws.proofs.Splits.{own, made, made_after, made_joined, made_by_own, stands_after}
 use Rattle.point_laws.proofs.Splits.{window_own}
 use Rattle.point_laws.proofs.Waiting.{IsSynchronised, one_row, within_logs, synchronised_at, number_on}
 
@@ -116,8 +115,16 @@ module _ (script : Script) (rank : ℕ) where
           ∷ []))
       by_call None e = inl (ap (λ o. option_map_or
           (λ c. record { rank = rank; number = number; call = c; step = step } ∷ []) o []) e)
-      by_call (Some call) e = inr (number, place, step, call, refl, e, ap (λ o. option_map_or
-          (λ c. record { rank = rank; number = number; call = c; step = step } ∷ []) o []) e)
+      by_call (Some call) e = inr (
+        number,
+        place,
+        step,
+        call,
+        refl,
+        e,
+        ap (λ o. option_map_or
+            (λ c. record { rank = rank; number = number; call = c; step = step } ∷ []) o []) e,
+      )
   row_or_none (Tested number seen) = inl refl
   row_or_none (Refused number class seen) = inl refl
   row_or_none Ended = inl refl
@@ -196,180 +203,180 @@ pub record IsGroupEnded (rank : ℕ) (target window : ℕ) (earlier : List Row) 
 module _ (script : Script) (run : Run) (formed : IsWellFormed script) (lawful : IsLawful script Seeded run)
     (a : IssuedAccess) (y : CallStep) (ends : EndsStartOf script run a y) (end : IsEnd script run formed lawful a y)
   where
-  abbrev rank : ℕ
-  rank = y.id.rank
+    abbrev rank : ℕ
+    rank = y.id.rank
 
-  abbrev window : ℕ
-  window = a.issued.access.window
+    abbrev window : ℕ
+    window = a.issued.access.window
 
-  abbrev log : List Item
-  log = log_of run y.id.rank
+    abbrev log : List Item
+    log = log_of run y.id.rank
 
-  abbrev until_access : List Item
-  until_access = take a.id.index (log_of run y.id.rank)
+    abbrev until_access : List Item
+    until_access = take a.id.index (log_of run y.id.rank)
 
-  abbrev between : List Item
-  between = drop a.id.index (take y.id.index (log_of run y.id.rank))
+    abbrev between : List Item
+    between = drop a.id.index (take y.id.index (log_of run y.id.rank))
 
-  parts : (y.id.rank ≡ a.id.rank) × (a.id.index < y.id.index)
-  parts =
-      let two = and_parts (y.id.rank == a.id.rank) (nat_lt a.id.index y.id.index) end.later in
-      (eqb-true y.id.rank a.id.rank two.0, ltb-true a.id.index y.id.index two.1)
+    parts : (y.id.rank ≡ a.id.rank) × (a.id.index < y.id.index)
+    parts =
+        let two = and_parts (y.id.rank == a.id.rank) (nat_lt a.id.index y.id.index) end.later in
+        (eqb-true y.id.rank a.id.rank two.0, ltb-true a.id.index y.id.index two.1)
 
-  begun : IsStarted script run a y.id.rank
-  begun = subst (IsStarted script run a) (sym parts.0)
-      (started script run formed lawful a (contains_in _ a ends.access) ends.rma ends.epoch)
+    begun : IsStarted script run a y.id.rank
+    begun = subst (IsStarted script run a) (sym parts.0)
+        (started script run formed lawful a (contains_in _ a ends.access) ends.rma ends.epoch)
 
-  until_end : take y.id.index log ≡ until_access ++ between
-  until_end = let low = parts.1 in
-      sym (take-append-drop a.id.index (take y.id.index log))
-      ∙ ap (λ l. l ++ between) (take-take a.id.index y.id.index log (omega (arith, low)))
+    until_end : take y.id.index log ≡ until_access ++ between
+    until_end = let low = parts.1 in
+        sym (take-append-drop a.id.index (take y.id.index log))
+        ∙ ap (λ l. l ++ between) (take-take a.id.index y.id.index log (omega (arith, low)))
 
-  long : length until_access ≡ a.id.index
-  long = let low = slice_get_within log a.id.index (Issue begun.number begun.access) begun.logged in
-      length-take-le a.id.index log (omega (arith, low))
+    long : length until_access ≡ a.id.index
+    long = let low = slice_get_within log a.id.index (Issue begun.number begun.access) begun.logged in
+        length-take-le a.id.index log (omega (arith, low))
 
-  abbrev before : List Row
-  before = rows_in script y.id.rank until_access
+    abbrev before : List Row
+    before = rows_in script y.id.rank until_access
 
-  abbrev later : List Row
-  later = rows_in script y.id.rank between
+    abbrev later : List Row
+    later = rows_in script y.id.rank between
 
-  owned : own rank end.one.earlier ≡ before ++ later
-  owned = end.one.owned ∙ ap (rows_in script rank) until_end
-      ∙ flat_map-append (row_by script rank) until_access between
+    owned : own rank end.one.earlier ≡ before ++ later
+    owned = end.one.owned ∙ ap (rows_in script rank) until_end
+        ∙ flat_map-append (row_by script rank) until_access between
 
-  made_split : made rank window end.one.earlier ≡ made rank window before ++ made_after rank window before later
-  made_split = sym (made_by_own rank window [] end.one.earlier) ∙ ap (made rank window) owned
-      ∙ made_joined rank window [] before later
+    made_split : made rank window end.one.earlier ≡ made rank window before ++ made_after rank window before later
+    made_split = sym (made_by_own rank window [] end.one.earlier) ∙ ap (made rank window) owned
+        ∙ made_joined rank window [] before later
 
-  -- the step of a complete between them would be the next one
-  no_step : (z number : ℕ) (item : Item) (call : Call) → a.id.index < z → z < y.id.index →
-      slice_get log z ≡ Some item → step_by item ≡ Some (number, One) →
-      slice_get (calls_of script rank) number ≡ Some call → synchronisation_of call ≡ Some Completes →
-      (one : IsSynchronised script run rank z call Completes) → one.live.number ≡ window → ⊥
-  no_step z number item call low high logged step_is of sync one window_is =
-      let within = within_logs run.logs rank z item logged in
-      let step : CallStep = record {
-        id = record { rank = rank; index = z };
-        call = call;
-        step = One;
-        known = known_before script run (record { rank = rank; index = z });
-      } in
-      let is : IsStep script run step = record {
-        item = item;
-        number = number;
-        logged = logged;
-        step_is = step_is;
-        call_is = of;
-        known_is = refl;
-      } in
-      let later_at : is_later_at_origin a step ≡ true = and_from (rank == a.id.rank) (nat_lt a.id.index z)
-      (eq-eqb rank a.id.rank parts.0) (lt-ltb a.id.index z low) in
-      let on = number_on script run formed lawful step Completes window is one window_is in
-      let completes : completes_start step ≡ true = ap (λ o. option_map_or is_complete o false) sync in
-      let least = first_step script run (λ x. is_later_on_window a x && completes_start x) y step ends.next
-      (listed_entry script run rank z number One item call within logged step_is of)
-      (and_from (is_later_on_window a step) (completes_start step)
-      (and_from (is_later_at_origin a step) (is_step_on window step) later_at on) completes) refl in
-      omega (arith, least, high)
+    -- the step of a complete between them would be the next one
+    no_step : (z number : ℕ) (item : Item) (call : Call) → a.id.index < z → z < y.id.index →
+        slice_get log z ≡ Some item → step_by item ≡ Some (number, One) →
+        slice_get (calls_of script rank) number ≡ Some call → synchronisation_of call ≡ Some Completes →
+        (one : IsSynchronised script run rank z call Completes) → one.live.number ≡ window → ⊥
+    no_step z number item call low high logged step_is of sync one window_is =
+        let within = within_logs run.logs rank z item logged in
+        let step : CallStep = record {
+          id = record { rank = rank; index = z };
+          call = call;
+          step = One;
+          known = known_before script run (record { rank = rank; index = z });
+        } in
+        let is : IsStep script run step = record {
+          item = item;
+          number = number;
+          logged = logged;
+          step_is = step_is;
+          call_is = of;
+          known_is = refl;
+        } in
+        let later_at : is_later_at_origin a step ≡ true = and_from (rank == a.id.rank) (nat_lt a.id.index z)
+        (eq-eqb rank a.id.rank parts.0) (lt-ltb a.id.index z low) in
+        let on = number_on script run formed lawful step Completes window is one window_is in
+        let completes : completes_start step ≡ true = ap (λ o. option_map_or is_complete o false) sync in
+        let least = first_step script run (λ x. is_later_on_window a x && completes_start x) y step ends.next
+        (listed_entry script run rank z number One item call within logged step_is of)
+        (and_from (is_later_on_window a step) (completes_start step)
+        (and_from (is_later_at_origin a step) (is_step_on window step) later_at on) completes) refl in
+        omega (arith, least, high)
 
-  no_entry : (front back : List Item) (number place : ℕ) (step : Step) (call : Call) (s : Synchronisation) →
-      between ≡ front ++ Entry number place step ∷ back → slice_get (calls_of script rank) number ≡ Some call →
-      synchronisation_of call ≡ Some s → is_complete s ≡ true →
-      window_of (before ++ rows_in script rank front)
-      (record { rank = rank; number = number; call = call; step = step }) ≡ window → ⊥
-  no_entry front back number place step call s split of sync completes window_is =
-      let item = Entry number place step in
-      let whole : log ≡ (until_access ++ front) ++ item ∷ (back ++ drop y.id.index log) =
-      sym (take-append-drop y.id.index log)
-      ∙ ap (λ l. l ++ drop y.id.index log) (until_end ∙ ap (λ l. until_access ++ l) split
-      ∙ sym (append_assoc until_access front (item ∷ back)))
-      ∙ append_assoc (until_access ++ front) (item ∷ back) (drop y.id.index log) in
-      let z = length (until_access ++ front) in
-      let logged : slice_get log (length (until_access ++ front)) ≡ Some item =
-      ap (λ l. slice_get l (length (until_access ++ front))) whole
-      ∙ get_at (until_access ++ front) (back ++ drop y.id.index log) item in
-      let taken : take (length (until_access ++ front)) log ≡ until_access ++ front =
-      ap (take (length (until_access ++ front))) whole
-      ∙ take_at (until_access ++ front) (item ∷ (back ++ drop y.id.index log)) (length (until_access ++ front)) refl in
-      let sync_is : synchronisation_of call ≡ Some Completes = sync ∙ ap Some (complete_is s completes) in
-      let within = within_logs run.logs rank z item logged in
-      let one = synchronised_at script run formed lawful rank z number call Completes
-      (omega (arith, within, lawful.ranks)) of sync_is item step logged refl refl in
-      let same : Entry one.number (length one.earlier) One ≡ item = cc (sym one.placed.logged ∙ logged) in
-      let step_same : One ≡ step = step_of same in
-      let number_same : one.number ≡ number = number_of same in
-      let rows : own rank one.earlier ≡ before ++ rows_in script rank front =
-      one.owned ∙ ap (rows_in script rank) taken ∙ flat_map-append (row_by script rank) until_access front in
-      let number_is : one.live.number ≡ window =
-      sym one.at ∙ sym (window_own rank one.earlier (one_row rank one.number call) refl)
-      ∙ (λ i. window_of (rows i)
-      (record { rank = rank; number = number_same i; call = call; step = step_same i })) ∙ window_is in
-      let sum = length-append until_access front in
-      let apart : z ≡ a.id.index → ⊥ = λ at. other (sym begun.logged ∙ ap (slice_get log) (sym at) ∙ logged) in
-      let low = long in
-      let total : length (take y.id.index log) ≡ z + length (item ∷ back) =
-      ap length (until_end ∙ ap (λ l. until_access ++ l) split ∙ sym (append_assoc until_access front (item ∷ back)))
-      ∙ length-append (until_access ++ front) (item ∷ back) in
-      let most = length_taken y.id.index log in
-      no_step z number item call (above z apart sum low) (below z (length back) total most) logged
-      (ap (λ s. Some (number, s)) (sym step_same)) of sync_is one number_is
-    where
-      step_of : {n m p q : ℕ} {s t : Step} → Entry n p s ≡ Entry m q t → s ≡ t
-      step_of e = cc e
+    no_entry : (front back : List Item) (number place : ℕ) (step : Step) (call : Call) (s : Synchronisation) →
+        between ≡ front ++ Entry number place step ∷ back → slice_get (calls_of script rank) number ≡ Some call →
+        synchronisation_of call ≡ Some s → is_complete s ≡ true →
+        window_of (before ++ rows_in script rank front)
+        (record { rank = rank; number = number; call = call; step = step }) ≡ window → ⊥
+    no_entry front back number place step call s split of sync completes window_is =
+        let item = Entry number place step in
+        let whole : log ≡ (until_access ++ front) ++ item ∷ (back ++ drop y.id.index log) =
+        sym (take-append-drop y.id.index log)
+        ∙ ap (λ l. l ++ drop y.id.index log) (until_end ∙ ap (λ l. until_access ++ l) split
+        ∙ sym (append_assoc until_access front (item ∷ back)))
+        ∙ append_assoc (until_access ++ front) (item ∷ back) (drop y.id.index log) in
+        let z = length (until_access ++ front) in
+        let logged : slice_get log (length (until_access ++ front)) ≡ Some item =
+        ap (λ l. slice_get l (length (until_access ++ front))) whole
+        ∙ get_at (until_access ++ front) (back ++ drop y.id.index log) item in
+        let taken : take (length (until_access ++ front)) log ≡ until_access ++ front =
+        ap (take (length (until_access ++ front))) whole
+        ∙ take_at (until_access ++ front) (item ∷ (back ++ drop y.id.index log)) (length (until_access ++ front)) refl in
+        let sync_is : synchronisation_of call ≡ Some Completes = sync ∙ ap Some (complete_is s completes) in
+        let within = within_logs run.logs rank z item logged in
+        let one = synchronised_at script run formed lawful rank z number call Completes
+        (omega (arith, within, lawful.ranks)) of sync_is item step logged refl refl in
+        let same : Entry one.number (length one.earlier) One ≡ item = cc (sym one.placed.logged ∙ logged) in
+        let step_same : One ≡ step = step_of same in
+        let number_same : one.number ≡ number = number_of same in
+        let rows : own rank one.earlier ≡ before ++ rows_in script rank front =
+        one.owned ∙ ap (rows_in script rank) taken ∙ flat_map-append (row_by script rank) until_access front in
+        let number_is : one.live.number ≡ window =
+        sym one.at ∙ sym (window_own rank one.earlier (one_row rank one.number call) refl)
+        ∙ (λ i. window_of (rows i)
+        (record { rank = rank; number = number_same i; call = call; step = step_same i })) ∙ window_is in
+        let sum = length-append until_access front in
+        let apart : z ≡ a.id.index → ⊥ = λ at. other (sym begun.logged ∙ ap (slice_get log) (sym at) ∙ logged) in
+        let low = long in
+        let total : length (take y.id.index log) ≡ z + length (item ∷ back) =
+        ap length (until_end ∙ ap (λ l. until_access ++ l) split ∙ sym (append_assoc until_access front (item ∷ back)))
+        ∙ length-append (until_access ++ front) (item ∷ back) in
+        let most = length_taken y.id.index log in
+        no_step z number item call (above z apart sum low) (below z (length back) total most) logged
+        (ap (λ s. Some (number, s)) (sym step_same)) of sync_is one number_is
+      where
+        step_of : {n m p q : ℕ} {s t : Step} → Entry n p s ≡ Entry m q t → s ≡ t
+        step_of e = cc e
 
-      number_of : {n m p q : ℕ} {s t : Step} → Entry n p s ≡ Entry m q t → n ≡ m
-      number_of e = cc e
+        number_of : {n m p q : ℕ} {s t : Step} → Entry n p s ≡ Entry m q t → n ≡ m
+        number_of e = cc e
 
-      other : Some (Issue begun.number begun.access) ≡ Some (Entry number place step) → ⊥
-      other e = cc e
+        other : Some (Issue begun.number begun.access) ≡ Some (Entry number place step) → ⊥
+        other e = cc e
 
-      length_taken : {X : Type 0} (n : ℕ) (xs : List X) → length (take n xs) ≤ n
-      length_taken zero xs = omega arith
-      length_taken (suc n) [] = omega arith
-      length_taken (suc n) (x ∷ xs) = let rest = length_taken n xs in omega (arith, rest)
+        length_taken : {X : Type 0} (n : ℕ) (xs : List X) → length (take n xs) ≤ n
+        length_taken zero xs = omega arith
+        length_taken (suc n) [] = omega arith
+        length_taken (suc n) (x ∷ xs) = let rest = length_taken n xs in omega (arith, rest)
 
-      above : (z : ℕ) → (z ≡ a.id.index → ⊥) → z ≡ length until_access + length front →
-          length until_access ≡ a.id.index → a.id.index < z
-      above z apart sum low = elim (cases_eq z a.id.index) [
-        | inl same ↦ absurd (apart same)
-        | inr differ ↦ omega (arith, differ, sum, low)
-      ]
+        above : (z : ℕ) → (z ≡ a.id.index → ⊥) → z ≡ length until_access + length front →
+            length until_access ≡ a.id.index → a.id.index < z
+        above z apart sum low = elim (cases_eq z a.id.index) [
+          | inl same ↦ absurd (apart same)
+          | inr differ ↦ omega (arith, differ, sum, low)
+        ]
 
-      below : (z n : ℕ) → length (take y.id.index log) ≡ z + suc n → length (take y.id.index log) ≤ y.id.index →
-          z < y.id.index
-      below z n total most = omega (arith, total, most)
+        below : (z n : ℕ) → length (take y.id.index log) ≡ z + suc n → length (take y.id.index log) ≤ y.id.index →
+            z < y.id.index
+        below z n total most = omega (arith, total, most)
 
-  none_between : count_by is_complete (made_after rank window before later) ≡ 0
-  none_between = by_count (count_by is_complete (made_after rank window before later)) refl
-    where
-      by_count : (n : ℕ) → count_by is_complete (made_after rank window before later) ≡ n →
-          count_by is_complete (made_after rank window before later) ≡ 0
-      by_count zero e = e
-      by_count (suc n) e =
-          let one = count_split is_complete 0 (made_after rank window before later) (omega (arith, e)) in
-          let stands = stands_after rank window before later one.0 one.1 one.2 one.3 in
-          let item = item_of_row script rank between stands.earlier stands.row stands.later stands.split in
-          absurd (no_entry item.front item.back item.number item.place item.step item.call one.1 item.split
-          item.of_rank (sym (ap (λ (r : Row). synchronisation_of r.call) item.row_is) ∙ stands.call_is) one.5
-          ((λ i. window_of (before ++ item.rows i) (sym item.row_is i)) ∙ stands.window_is))
+    none_between : count_by is_complete (made_after rank window before later) ≡ 0
+    none_between = by_count (count_by is_complete (made_after rank window before later)) refl
+      where
+        by_count : (n : ℕ) → count_by is_complete (made_after rank window before later) ≡ n →
+            count_by is_complete (made_after rank window before later) ≡ 0
+        by_count zero e = e
+        by_count (suc n) e =
+            let one = count_split is_complete 0 (made_after rank window before later) (omega (arith, e)) in
+            let stands = stands_after rank window before later one.0 one.1 one.2 one.3 in
+            let item = item_of_row script rank between stands.earlier stands.row stands.later stands.split in
+            absurd (no_entry item.front item.back item.number item.place item.step item.call one.1 item.split
+            item.of_rank (sym (ap (λ (r : Row). synchronisation_of r.call) item.row_is) ∙ stands.call_is) one.5
+            ((λ i. window_of (before ++ item.rows i) (sym item.row_is i)) ∙ stands.window_is))
 
-  pub group_ended : IsGroupEnded y.id.rank a.issued.access.target a.issued.access.window end.one.earlier
-  group_ended = record {
-    group = begun.group;
-    member = begun.member;
-    ended = begun.ended;
-    more = flat_map group_of_start (made_after rank window before later);
-    begun = ap (flat_map group_of_start) made_split
-        ∙ flat_map-append group_of_start (made rank window before) (made_after rank window before later)
-        ∙ ap (λ l. l ++ flat_map group_of_start (made_after rank window before later)) begun.begun
-        ∙ append_assoc begun.ended (begun.group ∷ [])
-        (flat_map group_of_start (made_after rank window before later));
-    completed =
-        let joined = ap (count_by is_complete) made_split
-        ∙ sum_by-append (λ s. cond (is_complete s) 1 0) (made rank window before)
-        (made_after rank window before later) in
-        let none = none_between in
-        let first = begun.completed in omega (arith, joined, none, first);
-  }
+    pub group_ended : IsGroupEnded y.id.rank a.issued.access.target a.issued.access.window end.one.earlier
+    group_ended = record {
+      group = begun.group;
+      member = begun.member;
+      ended = begun.ended;
+      more = flat_map group_of_start (made_after rank window before later);
+      begun = ap (flat_map group_of_start) made_split
+          ∙ flat_map-append group_of_start (made rank window before) (made_after rank window before later)
+          ∙ ap (λ l. l ++ flat_map group_of_start (made_after rank window before later)) begun.begun
+          ∙ append_assoc begun.ended (begun.group ∷ [])
+          (flat_map group_of_start (made_after rank window before later));
+      completed =
+          let joined = ap (count_by is_complete) made_split
+          ∙ sum_by-append (λ s. cond (is_complete s) 1 0) (made rank window before)
+          (made_after rank window before later) in
+          let none = none_between in
+          let first = begun.completed in omega (arith, joined, none, first);
+    }

@@ -2,8 +2,7 @@
 use Rattle.std.proofs.Common.{◌≡◌, ℕ, zero, suc, ◌<◌, ◌⊎◌, inl, inr, Bool, true, false, cond, not, List, [], ◌∷◌, ◌++◌}
 use Rattle.std.proofs.Common.{Option, Some, None, refl, ap, sym, ◌∙◌, subst}
 use Rattle.std.specs.Prelude.{slice_get, is_none}
-use Rattle.std.specs.List.{fold, flat_map}
-use Rattle.std.specs.Option.{option_map_or}
+use Rattle.std.specs.List.{fold}
 use Rattle.std.proofs.lemmas.Grind.{flat_map-append}
 use Rattle.std.proofs.lemmas.List.{append-nil}
 use Rattle.rma_types.specs.declared.accesses.Step.{Step}
@@ -11,19 +10,18 @@ use Rattle.rma_types.specs.declared.accesses.Step.TheVariants.{Arrive, Leave, On
 use Rattle.rma_types.specs.declared.calls.Call.{Call}
 use Rattle.rma_types.specs.declared.classes.Class.{Class}
 use Rattle.rma_types.specs.declared.scripts.Part.{Part}
-use Rattle.rma_types.specs.declared.scripts.Script.{Script}
 use Rattle.rma_record.specs.declared.items.Item.{Item}
 use Rattle.rma_record.specs.declared.items.Item.TheVariants.{Issue, Null, Touch, Flush, Request, Entry, Tested, Refused}
 use Rattle.rma_record.specs.declared.items.Item.TheVariants.{Ended}
 use Rattle.board_rules.specs.Entries.{Row}
 use Rattle.call_rules.specs.WellFormed.{IsWellFormed, IsWrittenCall}
-use Rattle.lawful_runs.specs.CallItems.{untouched, AreItemsOfCourse, AreItemsBy, AreItemsOf, AreFinished}
+use Rattle.lawful_runs.specs.CallItems.{untouched, AreItemsOfCourse, AreItemsBy, AreFinished}
 use Rattle.lawful_runs.specs.Items.{is_touch}
-use Rattle.lawful_runs.specs.Logs.{calls_of, row_by}
+use Rattle.lawful_runs.specs.Logs.{row_by}
 use Rattle.lawful_runs.specs.Stages.{RankOfRun, calls_here, known_at, shapes_in, first_knowledge}
 use Rattle.rank_rules.specs.Courses.{Course, OneNull, OneIssue, LookUpAndIssue, OneFlush, OneRequest, ArriveAndLeave}
 use Rattle.rank_rules.specs.Courses.{EntryOrTested, OneEntry, course_of, access_of}
-use Rattle.rank_rules.specs.Knowledge.{Knowledge, own_class, ends_call, learn, known_after_call, accepted_by}
+use Rattle.rank_rules.specs.Knowledge.{Knowledge, own_class, learn, known_after_call}
 use Rattle.read_laws.proofs.Begun.{rows_in}
 use Rattle.read_laws.proofs.Firsts.{some_and}
 use Rattle.read_laws.proofs.Lessons.{fold_joined, accepts, learns_nothing, one_row}
@@ -111,14 +109,18 @@ module _ (here : RankOfRun) where
       ))
   teaches EntryOrTested known number call items is of (inl (place, e)) =
       subst (Teaches EntryOrTested known number call) (sym e)
-      (inr (one_step known number place call of (subst IsOneEntry (sym is) tt),
-      entry_rows number place One call [] [] of refl))
+      (inr (
+        one_step known number place call of (subst IsOneEntry (sym is) tt),
+        entry_rows number place One call [] [] of refl,
+      ))
   teaches EntryOrTested known number call items is of (inr (seen, e)) =
       subst (Teaches EntryOrTested known number call) (sym e) (inl (refl, refl))
   teaches OneEntry known number call items is of (place, e) =
       subst (Teaches OneEntry known number call) (sym e)
-      (inr (one_step known number place call of (subst IsOneEntry (sym is) tt),
-      entry_rows number place One call [] [] of refl))
+      (inr (
+        one_step known number place call of (subst IsOneEntry (sym is) tt),
+        entry_rows number place One call [] [] of refl,
+      ))
 
   -- ---- the finished calls
 

@@ -1,5 +1,5 @@
 -- The first step of a rank that passes a test has the least index.
-use Rattle.std.proofs.Common.{◌≡◌, ℕ, zero, suc, ◌+◌, ◌<◌, ◌≤◌, ◌⊎◌, inl, inr, Bool, true, false, cond, List, [], ◌∷◌}
+use Rattle.std.proofs.Common.{◌≡◌, ℕ, ◌+◌, ◌<◌, ◌≤◌, ◌⊎◌, inl, inr, Bool, true, false, cond, List, [], ◌∷◌}
 use Rattle.std.proofs.Common.{◌++◌, length, Option, Some, None, refl, ap, sym, ◌∙◌, subst, arith}
 use Rattle.std.specs.Prelude.{slice_get}
 use Rattle.std.specs.List.{find, flat_map}
@@ -10,7 +10,7 @@ use Rattle.rma_types.specs.declared.calls.Call.{Call}
 use Rattle.rma_types.specs.declared.scripts.Script.{Script}
 use Rattle.rma_record.specs.declared.items.Item.{Item}
 use Rattle.rma_record.specs.declared.runs.Run.{Run}
-use Rattle.lawful_runs.specs.Logs.{Named, named_from, named_in, named_logs, named_items, log_of, calls_of}
+use Rattle.lawful_runs.specs.Logs.{Named, named_from, named_in, named_logs, log_of, calls_of}
 use Rattle.order_rules.specs.CallSteps.{CallStep, known_before, step_by, call_step, steps_of_item, steps_in}
 use Rattle.order_laws.proofs.Members.{In, here, there, append_in}
 use Rattle.read_laws.proofs.Begun.{item_member}
@@ -114,8 +114,7 @@ module _ (script : Script) (run : Run) where
   first_in_logs p rank [] y z found m passes same = elim m [ ]
   first_in_logs p rank (log ∷ logs) y z found m passes same =
       let split = logs_split rank log logs in
-      elim (found_in_parts p (steps_from rank 0 log) (steps_of_logs (rank + 1) logs) y (sym (ap (find p) split) ∙ found))
-      [
+      elim (found_in_parts p (steps_from rank 0 log) (steps_of_logs (rank + 1) logs) y (sym (ap (find p) split) ∙ found)) [
         | inl early ↦ elim (append_in (steps_from rank 0 log) (subst (In z) split m)) [
           | inl near ↦ first_in_log p rank 0 log y z early near passes
           | inr far ↦

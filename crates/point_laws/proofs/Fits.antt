@@ -1,20 +1,16 @@
 -- What a rank knows of the window of a name, and what its entries have done: the number of the window, and its epochs.
-use Rattle.std.proofs.Common.{◌≡◌, ℕ, suc, ◌+◌, ◌-◌, ◌<◌, ◌≤◌, inl, inr, Bool, true, false, cond, not, List, []}
+use Rattle.std.proofs.Common.{◌≡◌, ℕ, suc, ◌+◌, ◌-◌, ◌<◌, ◌≤◌, Bool, true, false, cond, List, []}
 use Rattle.std.proofs.Common.{◌∷◌, ◌++◌, length, Option, Some, None, refl, ap, sym, ◌∙◌, subst, arith, append_assoc}
-use Rattle.std.proofs.Common.{get_or-set_same, get_or-set_other}
-use Rattle.std.specs.Prelude.{◌==◌, ◌&&◌, is_some, slice_set, if◌then◌else◌, replicate}
-use Rattle.std.specs.List.{count_by, filter, find, AllByRecursion}
+use Rattle.std.specs.Prelude.{◌==◌, ◌&&◌, if◌then◌else◌}
+use Rattle.std.specs.List.{count_by, AllByRecursion}
 use Rattle.std.specs.Option.{option_map_or}
-use Rattle.std.proofs.lemmas.Bool.{cases_Bool, cases_eq, and_parts, and_left, and_right, and_from, eqb-true, eq-eqb}
+use Rattle.std.proofs.lemmas.Bool.{and_parts, and_left, and_right, and_from, eqb-true, eq-eqb}
 use Rattle.std.proofs.lemmas.Bool.{ne_eqb}
-use Rattle.std.proofs.lemmas.List.{append-nil, length-set, length-replicate, get_or-replicate}
+use Rattle.std.proofs.lemmas.List.{append-nil, length-replicate}
 use Rattle.std.proofs.lemmas.List.Sums.{sum_by-cons, sum_by-append}
-use Rattle.rma_types.specs.declared.accesses.Step.{Step}
-use Rattle.rma_types.specs.declared.accesses.Step.TheVariants.{Arrive, Leave, One}
-use Rattle.rma_types.specs.declared.calls.Call.{Call}
-use Rattle.board_rules.specs.Entries.{Row, window_of, begins_window, names_window, creations, is_creation, is_arrive}
-use Rattle.call_rules.specs.Actions.{Synchronisation, Creation, synchronisation_of, window_named, creation_of}
-use Rattle.rank_rules.specs.Epochs.{Epochs, epochs_at, no_epochs}
+use Rattle.board_rules.specs.Entries.{Row, window_of, begins_window, names_window, creations}
+use Rattle.call_rules.specs.Actions.{Synchronisation, synchronisation_of, window_named}
+use Rattle.rank_rules.specs.Epochs.{epochs_at, no_epochs}
 use Rattle.rank_rules.specs.Knowledge.{Knowledge, nothing_known}
 use Rattle.rank_rules.specs.Windows.{Window, window_of_name, window_number}
 use Rattle.point_laws.proofs.Splits.{in_call, in_row, made, made_pushed}

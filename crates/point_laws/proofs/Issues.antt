@@ -1,8 +1,8 @@
 -- What an RMA access in a start epoch tells: the group of the epoch has its target, and is that of the last start of its
 -- rank on the window, which is not yet completed.
-use Rattle.std.proofs.Common.{◌≡◌, ℕ, zero, suc, ◌+◌, ◌<◌, ◌≤◌, ◌⊎◌, inl, inr, Bool, true, false, cond, not, List, []}
-use Rattle.std.proofs.Common.{◌∷◌, ◌++◌, length, take, drop, Option, Some, None, refl, ap, sym, ◌∙◌, subst, arith}
-use Rattle.std.specs.Prelude.{◌&&◌, ◌==◌, slice_get, is_some, if◌then◌else◌, ℤ}
+use Rattle.std.proofs.Common.{◌≡◌, ℕ, suc, ◌⊎◌, inl, inr, Bool, true, false, cond, List, []}
+use Rattle.std.proofs.Common.{◌∷◌, ◌++◌, length, take, drop, Option, Some, None, refl, ap, sym, ◌∙◌, subst}
+use Rattle.std.specs.Prelude.{slice_get, is_some, if◌then◌else◌, ℤ}
 use Rattle.std.specs.List.{count_by, flat_map}
 use Rattle.std.specs.Option.{option_map_or}
 use Rattle.std.proofs.lemmas.Bool.{not-false, false≢true}
@@ -23,8 +23,8 @@ use Rattle.rma_record.specs.declared.items.Item.TheVariants.{Issue, Entry}
 use Rattle.rma_record.specs.declared.runs.Run.{Run}
 use Rattle.board_rules.specs.Entries.{Row}
 use Rattle.board_rules.specs.Posts.{group_of_start, is_complete}
-use Rattle.call_rules.specs.Actions.{Moves, Synchronisation, Transfer, Target, Own, Null, Named, target_of, action_of}
-use Rattle.call_rules.specs.Actions.{synchronisation_in, synchronisation_of, transfer_of}
+use Rattle.call_rules.specs.Actions.{Moves, Synchronisation, Transfer, Target, Own, Null, Named, target_of}
+use Rattle.call_rules.specs.Actions.{synchronisation_in, transfer_of}
 use Rattle.call_rules.specs.Ranks.{is_member, natural}
 use Rattle.call_rules.specs.Transfers.{rank_reached}
 use Rattle.call_rules.specs.WellFormed.{IsWellFormed, IsWrittenAction, IsWrittenCall}
@@ -36,26 +36,24 @@ use Rattle.lawful_runs.specs.Stages.{RankOfRun, known_at}
 use Rattle.call_rules.specs.Pieces.{numbers_from}
 use Rattle.order_rules.specs.CallSteps.{IssuedAccess, known_before, epoch_for, issued_access, accesses_of, accesses_in}
 use Rattle.order_rules.specs.Roles.{role_of}
-use Rattle.rank_rules.specs.Courses.{course_of_transfer, course_of_action, course_of, access_on, access_of}
+use Rattle.rank_rules.specs.Courses.{course_of_transfer, course_of_action, access_on}
 use Rattle.rank_rules.specs.Epochs.{AccessEpoch, Idle, FenceUnused, FenceUsed, StartTo, LocksAt, LockAll, epochs_at}
 use Rattle.rank_rules.specs.Epochs.{is_start_epoch, is_passive_at, may_move}
 use Rattle.rank_rules.specs.EpochTests.{epoch_class, epoch_tests}
-use Rattle.rank_rules.specs.Knowledge.{Knowledge, own_class}
-use Rattle.rank_rules.specs.Windows.{Window, RankWindows, window_of_name}
+use Rattle.rank_rules.specs.Windows.{RankWindows}
 use Rattle.order_laws.proofs.Members.{In, flat_map_in, map_in}
 use Rattle.read_laws.proofs.Begun.{rows_in, rows_untouched}
 use Rattle.read_laws.proofs.Lessons.{one_row}
 use Rattle.read_laws.proofs.Lists.{each_get}
 use Rattle.read_laws.proofs.Names.{calls_written}
-use Rattle.read_laws.proofs.Steps.{IsAccess, access_is}
+use Rattle.read_laws.proofs.Steps.{access_is}
 use Rattle.read_laws.proofs.Touches.{issued_is}
 use Rattle.step_laws.proofs.OwnTests.{HasIssue, moves_it, epochs_allow, none_applies, allowed_has_access}
 use Rattle.point_laws.specs.PointLaws.{is_rma}
 use Rattle.point_laws.proofs.Finished.{finished_fits, known_untouched}
-use Rattle.point_laws.proofs.Fits.{Fits, IsLive}
 use Rattle.point_laws.proofs.Positions.{IsIssueAt, issue_at, split_get, untouched_split}
-use Rattle.point_laws.proofs.Splits.{in_call, in_row, made, made_pushed}
-use Rattle.point_laws.proofs.Ties.{IsTied, IsAccessTied, group_open}
+use Rattle.point_laws.proofs.Splits.{in_call, made, made_pushed}
+use Rattle.point_laws.proofs.Ties.{group_open}
 
 -- ---- transfers
 

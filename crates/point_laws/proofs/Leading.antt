@@ -1,7 +1,7 @@
 -- Where the complete of an access is before a wait of its target on the window, it leads to that wait or an earlier one.
 use Rattle.std.proofs.Common.{◌≡◌, ℕ, suc, ◌+◌, ◌<◌, ◌≤◌, inl, inr, Bool, true, false, cond, List, [], ◌∷◌, ◌++◌, length}
-use Rattle.std.proofs.Common.{take, Option, Some, refl, ap, sym, ◌∙◌, subst, arith, append_assoc, length-append}
-use Rattle.std.specs.Prelude.{◌&&◌, ◌||◌, ◌==◌, slice_index_or, reverse}
+use Rattle.std.proofs.Common.{take, Some, refl, ap, sym, ◌∙◌, subst, arith, append_assoc, length-append}
+use Rattle.std.specs.Prelude.{◌&&◌, ◌==◌, slice_index_or, reverse}
 use Rattle.std.specs.List.{count_by, flat_map}
 use Rattle.std.specs.Option.{option_map_or}
 use Rattle.std.proofs.lemmas.Bool.{and_from, or_left, eq-eqb, cases_lt}
@@ -23,7 +23,6 @@ use Rattle.call_rules.specs.Actions.{Syncs, synchronisation_of}
 use Rattle.call_rules.specs.Ranks.{is_member}
 use Rattle.call_rules.specs.WellFormed.{IsWellFormed}
 use Rattle.lawful_runs.specs.LawfulRun.{IsLawful}
-use Rattle.lawful_runs.specs.Logs.{rows_of}
 use Rattle.order_rules.specs.Before.{NamedEvent, events_in, is_edge_between, Before}
 use Rattle.order_rules.specs.CallSteps.{CallStep, IssuedAccess, known_before, steps_in}
 use Rattle.rank_rules.specs.Epochs.{epochs_at, may_synchronise}
@@ -36,10 +35,9 @@ use Rattle.point_laws.proofs.Completes.{IsEnd, end_is, event_at}
 use Rattle.point_laws.proofs.Ended.{IsGroupEnded, group_ended, count_split, count_cons}
 use Rattle.point_laws.proofs.FirstSteps.{listed_entry}
 use Rattle.point_laws.proofs.NumberedWaits.{front_of, same_front, before_place, IsNumbered, numbered_wait}
-use Rattle.point_laws.proofs.Placed.{IsPlaced}
 use Rattle.point_laws.proofs.Positions.{wait_paired}
 use Rattle.point_laws.proofs.Posted.{posts_needed, posts_grow}
-use Rattle.point_laws.proofs.Splits.{in_call, in_row, made, made_is, made_pushed}
+use Rattle.point_laws.proofs.Splits.{in_call, made, made_is, made_pushed}
 use Rattle.point_laws.proofs.Ties.{posted_open}
 use Rattle.point_laws.proofs.Waiting.{IsSynchronised, one_row, within_logs, synchronised_step, on_number, number_on}
 
@@ -259,8 +257,7 @@ module _ (script : Script) (run : Run) (formed : IsWellFormed script) (lawful : 
         let g_here = g_at w.id.rank w.rank_is in
         let edge_is = edge y.id.rank y.id.index w.id.rank w.id.index y.call w.call w.s end.one w.one end.call_is w.sync
         w.waits window end.window w.number g_here.0 groups group
-        (ap (flat_map group_of_post) w.made_here ∙ front_posts) member (counts ∙ g_here.1) in
-        (
+        (ap (flat_map group_of_post) w.made_here ∙ front_posts) member (counts ∙ g_here.1) in (
           x,
           record {
             step = in_contains (listed_entry script run w.id.rank w.id.index w.one.number One

@@ -5,6 +5,7 @@ mod Ended
 mod Finished
 mod FirstSteps
 mod Fits
+mod Found
 mod Issues
 mod Leading
 mod NumberedWaits

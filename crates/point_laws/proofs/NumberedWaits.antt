@@ -1,51 +1,32 @@
 -- The order gives places, and the wait of a number among those of a rank on a window.
-use Rattle.std.proofs.Common.{◌≡◌, ℕ, zero, suc, ◌+◌, ◌<◌, ◌≤◌, inl, inr, Bool, true, false, cond, List, [], ◌∷◌, ◌++◌}
-use Rattle.std.proofs.Common.{length, take, Option, Some, None, refl, ap, sym, ◌∙◌, subst, arith, append_assoc}
+use Rattle.std.proofs.Common.{◌≡◌, ℕ, suc, ◌+◌, ◌<◌, ◌≤◌, inl, inr, true, List, [], ◌∷◌, ◌++◌}
+use Rattle.std.proofs.Common.{length, Some, refl, ap, sym, ◌∙◌, arith, append_assoc}
 use Rattle.std.proofs.Common.{length-append}
-use Rattle.std.specs.Prelude.{◌&&◌, ◌||◌, ◌==◌, Contains, slice_get, slice_index_or, reverse}
-use Rattle.std.specs.List.{count_by, flat_map, list_any}
-use Rattle.std.specs.Option.{option_map_or}
-use Rattle.std.proofs.lemmas.Bool.{and_from, or_left, eq-eqb, cases_lt, cases_order}
-use Rattle.std.proofs.lemmas.Grind.{flat_map-append}
-use Rattle.std.proofs.lemmas.List.{append-nil, get_or_at, take_at, reverse-append}
-use Rattle.std.proofs.lemmas.List.Sums.{sum_by-append, sum_by-cons}
+use Rattle.std.specs.List.{count_by}
+use Rattle.std.proofs.lemmas.Bool.{cases_lt}
 use Rattle.rma_types.specs.declared.accesses.Id.{Id}
-use Rattle.rma_types.specs.declared.accesses.Step.{Step}
-use Rattle.rma_types.specs.declared.accesses.Step.TheVariants.{One}
 use Rattle.rma_types.specs.declared.calls.Call.{Call}
 use Rattle.rma_types.specs.declared.schedules.Delay.TheVariants.{Seeded}
 use Rattle.rma_types.specs.declared.scripts.Script.{Script}
 use Rattle.rma_record.specs.declared.items.Item.TheVariants.{Entry}
 use Rattle.rma_record.specs.declared.runs.Run.{Run}
-use Rattle.board_rules.specs.Edges.{Event, are_on_one_window, is_edge_by, is_waited_for_by, group_completed}
-use Rattle.board_rules.specs.Entries.{Row, acts, synchronisations, window_of}
-use Rattle.board_rules.specs.Posts.{group_of_post, group_of_start, is_complete, is_wait, naming, posts, starts, completes}
-use Rattle.board_rules.specs.Posts.{completed, last_posted}
+use Rattle.board_rules.specs.Entries.{Row}
+use Rattle.board_rules.specs.Posts.{is_wait}
 use Rattle.board_rules.specs.Questions.{question}
-use Rattle.call_rules.specs.Actions.{Synchronisation, Fences, Posts, Starts, Completes, Waits, Locks, Unlocks, Flushes}
-use Rattle.call_rules.specs.Actions.{Syncs, synchronisation_of}
-use Rattle.call_rules.specs.Ranks.{is_member}
+use Rattle.call_rules.specs.Actions.{Synchronisation}
+use Rattle.call_rules.specs.Actions.{synchronisation_of}
 use Rattle.call_rules.specs.WellFormed.{IsWellFormed}
 use Rattle.lawful_runs.specs.LawfulRun.{IsLawful}
-use Rattle.lawful_runs.specs.Logs.{log_of, rows_of}
-use Rattle.order_rules.specs.Before.{NamedEvent, events_in, is_edge_between, leads_to, Before, Same, InLog, Across}
-use Rattle.order_rules.specs.CallSteps.{CallStep, IssuedAccess, known_before, steps_in, is_step_on}
-use Rattle.rank_rules.specs.Epochs.{epochs_at, may_synchronise}
-use Rattle.order_laws.proofs.Edges.{naming_append}
-use Rattle.order_laws.proofs.Members.{In, in_contains, contains_in, some_of}
-use Rattle.order_laws.proofs.Order.{edge_between, edge_from, edge_ascends, log_ascends, same_place}
-use Rattle.read_laws.proofs.Steps.{IsStep, step_is}
-use Rattle.point_laws.specs.PointLaws.{EndsStartOf, WaitsAtTarget, IsLedTo}
-use Rattle.point_laws.proofs.Completes.{IsEnd, end_is, event_at, same_event}
-use Rattle.point_laws.proofs.Ended.{IsGroupEnded, group_ended, count_split, count_cons}
-use Rattle.point_laws.proofs.FirstSteps.{listed_entry}
-use Rattle.point_laws.proofs.Placed.{IsPlaced, placed_row}
+use Rattle.lawful_runs.specs.Logs.{rows_of}
+use Rattle.order_rules.specs.Before.{NamedEvent, events_in, Before, Same, InLog, Across}
+use Rattle.order_laws.proofs.Members.{In}
+use Rattle.order_laws.proofs.Order.{edge_between, edge_ascends, log_ascends, same_place}
+use Rattle.point_laws.proofs.Completes.{event_at, same_event}
+use Rattle.point_laws.proofs.Ended.{count_split}
+use Rattle.point_laws.proofs.Placed.{placed_row}
 use Rattle.point_laws.proofs.Positions.{wait_paired}
-use Rattle.point_laws.proofs.Posted.{posts_needed, posts_grow}
-use Rattle.point_laws.proofs.Splits.{in_call, in_row, made, made_is, made_pushed, StandsAfter, stands_after}
-use Rattle.point_laws.proofs.Ties.{IsTied, open_posts, posted_open}
-use Rattle.point_laws.proofs.Waiting.{IsSynchronised, one_row, within_logs, synchronised_at, synchronised_step}
-use Rattle.point_laws.proofs.Waiting.{on_number, number_on}
+use Rattle.point_laws.proofs.Splits.{made, stands_after}
+use Rattle.point_laws.proofs.Waiting.{IsSynchronised, one_row, synchronised_at}
 
 -- ---- lists
 

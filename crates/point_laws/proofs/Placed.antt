@@ -1,38 +1,26 @@
 -- The entries of a lawful run at their places: each with its item, its call, its event and the board's answer, and what
 -- the entries of its own rank before it are.
-use Rattle.std.proofs.Common.{◌≡◌, ℕ, zero, suc, ◌+◌, ◌<◌, ◌≤◌, ◌⊎◌, inl, inr, Bool, true, false, cond, List, [], ◌∷◌}
-use Rattle.std.proofs.Common.{◌++◌, length, take, Option, Some, None, refl, ap, sym, ◌∙◌, subst, arith, append_assoc}
-use Rattle.std.specs.Prelude.{◌==◌, slice_get, map, if◌then◌else◌}
-use Rattle.std.specs.List.{count_by, filter, flat_map, list_any, zip}
+use Rattle.std.proofs.Common.{◌≡◌, ℕ, suc, ◌+◌, ◌<◌, List, [], ◌∷◌}
+use Rattle.std.proofs.Common.{◌++◌, length, Some, refl, ap, sym, ◌∙◌, subst, arith, append_assoc}
+use Rattle.std.specs.Prelude.{slice_get, map}
+use Rattle.std.specs.List.{flat_map, zip}
 use Rattle.std.specs.Option.{option_map_or}
-use Rattle.std.proofs.lemmas.Bool.{cases_order, eq-eqb, ne_eqb, false≢true}
-use Rattle.std.proofs.lemmas.Grind.{flat_map-append}
 use Rattle.std.proofs.lemmas.List.{append-nil}
-use Rattle.std.proofs.lemmas.List.Sums.{sum_by-cons, sum_by-append}
 use Rattle.rma_types.specs.declared.accesses.Id.{Id}
-use Rattle.rma_types.specs.declared.accesses.Step.{Step}
-use Rattle.rma_types.specs.declared.accesses.Step.TheVariants.{One}
-use Rattle.rma_types.specs.declared.calls.Call.{Call}
 use Rattle.rma_types.specs.declared.schedules.Delay.{Delay}
 use Rattle.rma_types.specs.declared.scripts.Script.{Script}
-use Rattle.rma_record.specs.declared.items.Item.{Item}
-use Rattle.rma_record.specs.declared.items.Item.TheVariants.{Issue, Null, Touch, Flush, Request, Entry, Tested, Refused}
-use Rattle.rma_record.specs.declared.items.Item.TheVariants.{Ended}
+use Rattle.rma_record.specs.declared.items.Item.TheVariants.{Entry}
 use Rattle.rma_record.specs.declared.runs.Run.{Run}
 use Rattle.board_rules.specs.Board.{Allow, decide}
 use Rattle.board_rules.specs.Edges.{events_after}
 use Rattle.board_rules.specs.Entries.{Row}
 use Rattle.board_rules.specs.Questions.{question}
 use Rattle.lawful_runs.specs.BoardLaw.{AreAllowed}
-use Rattle.lawful_runs.specs.Items.{belongs_to}
-use Rattle.lawful_runs.specs.LawfulRun.{IsLawful, rank_in}
+use Rattle.lawful_runs.specs.LawfulRun.{IsLawful}
 use Rattle.lawful_runs.specs.Logs.{Named, log_of, calls_of, entries_of, row_by, row_of, rows_of}
 use Rattle.order_rules.specs.Before.{NamedEvent, named_event, events_in}
-use Rattle.order_laws.proofs.Events.{AllFrom, IsEntryOf, entries_placed, get_in}
-use Rattle.order_laws.proofs.Members.{In, here, there, in_any}
-use Rattle.read_laws.proofs.Begun.{IsEntered, entered, rows_in}
-use Rattle.read_laws.proofs.Firsts.{is_first}
-use Rattle.point_laws.proofs.Splits.{own, own_joined}
+use Rattle.order_laws.proofs.Events.{AllFrom, IsEntryOf, entries_placed}
+use Rattle.order_laws.proofs.Members.{In, here, there}
 
 -- ---- events
 
@@ -205,36 +193,37 @@ placed_row script delay run lawful earlier row later split =
     let row_same = head_of same in
     let row_back = sym row_same in
     let event = event_among script run 0 [] one.before one.after one.entry row
-    (subst (AllFrom (IsEntryOf script run) 0) one.split all) one.row_is in
-    (one.entry.id, record {
-      rank_is = ap (λ (r : Row). r.rank) row_same;
-      split = split;
-      logged = is.logged ∙ ap Some (is.is ∙ (λ i. Entry (row_back i).number (place i) (row_back i).step));
-      of_rank = ap (slice_get (calls_of script one.entry.id.rank)) (ap (λ (r : Row). r.number) row_same) ∙ is.of_rank
-          ∙ ap Some (sym (ap (λ (r : Row). r.call) row_same));
-      within = is.within;
-      event = subst (λ (e : NamedEvent). In e (events_in script run))
-          (λ i. record {
-            id = one.entry.id;
-            event = record {
-              place = place i;
-              step = row.step;
-              asked = question script.ranks (one.rows i) row;
-            };
-          })
-          (subst (λ l. In (record {
-            id = one.entry.id;
-            event = record {
-              place = 0 + length one.before;
-              step = row.step;
-              asked = question script.ranks (flat_map (row_of script) one.before) row;
-            };
-          }) (map named_event (zip l (events_after script.ranks 0 [] (flat_map (row_of script) l)))))
-          (sym one.split) event);
-      allowed = allowed_at script.ranks [] earlier later row
-          (subst (AreAllowed script.ranks []) split lawful.board.allowed);
-    })
+    (subst (AllFrom (IsEntryOf script run) 0) one.split all) one.row_is in (
+      one.entry.id,
+      record {
+        rank_is = ap (λ (r : Row). r.rank) row_same;
+        split = split;
+        logged = is.logged ∙ ap Some (is.is ∙ (λ i. Entry (row_back i).number (place i) (row_back i).step));
+        of_rank = ap (slice_get (calls_of script one.entry.id.rank)) (ap (λ (r : Row). r.number) row_same) ∙ is.of_rank
+            ∙ ap Some (sym (ap (λ (r : Row). r.call) row_same));
+        within = is.within;
+        event = subst (λ (e : NamedEvent). In e (events_in script run))
+            (λ i. record {
+              id = one.entry.id;
+              event = record {
+                place = place i;
+                step = row.step;
+                asked = question script.ranks (one.rows i) row;
+              };
+            })
+            (subst (λ l. In (record {
+              id = one.entry.id;
+              event = record {
+                place = 0 + length one.before;
+                step = row.step;
+                asked = question script.ranks (flat_map (row_of script) one.before) row;
+              };
+            }) (map named_event (zip l (events_after script.ranks 0 [] (flat_map (row_of script) l)))))
+            (sym one.split) event);
+        allowed = allowed_at script.ranks [] earlier later row
+            (subst (AreAllowed script.ranks []) split lawful.board.allowed);
+      },
+    )
   where
     head_of : {r d : Row} → ◌≡◌ {A = List Row} (r ∷ []) (d ∷ []) → r ≡ d
     head_of e = cc e
-

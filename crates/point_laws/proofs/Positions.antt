@@ -1,8 +1,7 @@
 -- Where an item stands in a lawful log: after the items of the finished calls, among those of its own.
-use Rattle.std.proofs.Common.{◌≡◌, ℕ, zero, suc, ◌+◌, ◌<◌, ◌⊎◌, inl, inr, Bool, true, false, not, List, [], ◌∷◌, ◌++◌}
+use Rattle.std.proofs.Common.{◌≡◌, ℕ, zero, suc, ◌⊎◌, inl, inr, Bool, true, false, not, List, [], ◌∷◌, ◌++◌}
 use Rattle.std.proofs.Common.{take, drop, Option, Some, None, refl, ap, sym, ◌∙◌, subst}
 use Rattle.std.specs.Prelude.{slice_get, is_none, if◌then◌else◌}
-use Rattle.std.specs.List.{filter}
 use Rattle.std.proofs.lemmas.List.{append-nil}
 use Rattle.std.proofs.lemmas.List.Elements.{filter-append}
 use Rattle.std.proofs.lemmas.Option.{some_pair_parts}
@@ -24,7 +23,7 @@ use Rattle.order_rules.specs.CallSteps.{step_by}
 use Rattle.rank_rules.specs.Courses.{Course, OneNull, OneIssue, LookUpAndIssue, OneFlush, OneRequest, ArriveAndLeave}
 use Rattle.rank_rules.specs.Courses.{EntryOrTested, OneEntry, course_of_synchronisation, course_of_action, course_of}
 use Rattle.rank_rules.specs.Courses.{access_of}
-use Rattle.rank_rules.specs.Knowledge.{Knowledge, own_class, learn}
+use Rattle.rank_rules.specs.Knowledge.{own_class, learn}
 use Rattle.rank_rules.specs.Windows.{RankWindows}
 use Rattle.read_laws.proofs.Firsts.{some_and}
 use Rattle.read_laws.proofs.Lessons.{fold_joined, learns_nothing}
@@ -200,62 +199,62 @@ module _ (here : RankOfRun) where
           not_one (subst IsOneEntry (ap (course_of known) (same_call same) ∙ is) (one known))
 
       module _ (before front back : List Item) (finished : AreFinished here n before) (split : us ≡ before ++ front)
-          where
-        accepted : own_class (known_at here before) found ≡ None → (place : ℕ) → front ≡ [] →
-            item ≡ Entry n place One → IsOneEntryAt us number call item
-        accepted own place none is =
-            let same = same_number (Entry n place One) n One is refl in
-            let at : before ≡ us = sym (split ∙ ap (λ l. before ++ l) none ∙ append-nil before) in
-            record {
-              place = place;
-              is = is ∙ ap (λ m. Entry m place One) same;
-              finished = subst (AreFinished here number) at (subst (λ m. AreFinished here m before) same finished);
-              own = subst (λ l. own_class (known_at here l) call ≡ None) at
-                  (ap (own_class (known_at here before)) (same_call same) ∙ own);
-            }
+        where
+          accepted : own_class (known_at here before) found ≡ None → (place : ℕ) → front ≡ [] →
+              item ≡ Entry n place One → IsOneEntryAt us number call item
+          accepted own place none is =
+              let same = same_number (Entry n place One) n One is refl in
+              let at : before ≡ us = sym (split ∙ ap (λ l. before ++ l) none ∙ append-nil before) in
+              record {
+                place = place;
+                is = is ∙ ap (λ m. Entry m place One) same;
+                finished = subst (AreFinished here number) at (subst (λ m. AreFinished here m before) same finished);
+                own = subst (λ l. own_class (known_at here l) call ≡ None) at
+                    (ap (own_class (known_at here before)) (same_call same) ∙ own);
+              }
 
-        by_course : (c : Course) → course_of (known_at here before).windows found ≡ c →
-            own_class (known_at here before) found ≡ None →
-            AreItemsOfCourse c (known_at here before) n found (front ++ item ∷ back) →
-            IsOneEntryAt us number call item
-        by_course OneNull is own h = absurd (no_step (Null n) (single_at front back item (Null n) h).1 refl)
-        by_course OneIssue is own (x, issue, h) =
-            let access = some_and (access_of (known_at here before).windows found) issue in
-            absurd (no_step (Issue n access.0) ((single_at front back item x h).1 ∙ access.2) refl)
-        by_course LookUpAndIssue is own (place, x, issue, h) =
-            let access = some_and (access_of (known_at here before).windows found) issue in
-            elim (pair_at front back item (Entry n place One) x h) [
-              | inl first ↦ absurd (wrong (known_at here before).windows LookUpAndIssue is (λ o. o)
-                  (same_number (Entry n place One) n One first.1 refl))
-              | inr second ↦ absurd (no_step (Issue n access.0) (second.1 ∙ access.2) refl)
-            ]
-        by_course OneFlush is own h = absurd (wrong (known_at here before).windows OneFlush is (λ o. o)
-            (same_number (Flush n) n One (single_at front back item (Flush n) h).1 refl))
-        by_course OneRequest is own h = absurd (wrong (known_at here before).windows OneRequest is (λ o. o)
-            (same_number (Request n) n One (single_at front back item (Request n) h).1 refl))
-        by_course ArriveAndLeave is own (arrived, left, h) =
-            elim (pair_at front back item (Entry n arrived Arrive) (Entry n left Leave) h) [
-              | inl first ↦ absurd (wrong (known_at here before).windows ArriveAndLeave is (λ o. o)
-                  (same_number (Entry n arrived Arrive) n Arrive first.1 refl))
-              | inr second ↦ absurd (wrong (known_at here before).windows ArriveAndLeave is (λ o. o)
-                  (same_number (Entry n left Leave) n Leave second.1 refl))
-            ]
-        by_course EntryOrTested is own (inl entry) =
-            let at = single_at front back item (Entry n entry.0 One) entry.1 in accepted own entry.0 at.0 at.1
-        by_course EntryOrTested is own (inr tested) =
-            absurd (no_step (Tested n tested.0) (single_at front back item (Tested n tested.0) tested.1).1 refl)
-        by_course OneEntry is own (place, h) =
-            let at = single_at front back item (Entry n place One) h in accepted own place at.0 at.1
+          by_course : (c : Course) → course_of (known_at here before).windows found ≡ c →
+              own_class (known_at here before) found ≡ None →
+              AreItemsOfCourse c (known_at here before) n found (front ++ item ∷ back) →
+              IsOneEntryAt us number call item
+          by_course OneNull is own h = absurd (no_step (Null n) (single_at front back item (Null n) h).1 refl)
+          by_course OneIssue is own (x, issue, h) =
+              let access = some_and (access_of (known_at here before).windows found) issue in
+              absurd (no_step (Issue n access.0) ((single_at front back item x h).1 ∙ access.2) refl)
+          by_course LookUpAndIssue is own (place, x, issue, h) =
+              let access = some_and (access_of (known_at here before).windows found) issue in
+              elim (pair_at front back item (Entry n place One) x h) [
+                | inl first ↦ absurd (wrong (known_at here before).windows LookUpAndIssue is (λ o. o)
+                    (same_number (Entry n place One) n One first.1 refl))
+                | inr second ↦ absurd (no_step (Issue n access.0) (second.1 ∙ access.2) refl)
+              ]
+          by_course OneFlush is own h = absurd (wrong (known_at here before).windows OneFlush is (λ o. o)
+              (same_number (Flush n) n One (single_at front back item (Flush n) h).1 refl))
+          by_course OneRequest is own h = absurd (wrong (known_at here before).windows OneRequest is (λ o. o)
+              (same_number (Request n) n One (single_at front back item (Request n) h).1 refl))
+          by_course ArriveAndLeave is own (arrived, left, h) =
+              elim (pair_at front back item (Entry n arrived Arrive) (Entry n left Leave) h) [
+                | inl first ↦ absurd (wrong (known_at here before).windows ArriveAndLeave is (λ o. o)
+                    (same_number (Entry n arrived Arrive) n Arrive first.1 refl))
+                | inr second ↦ absurd (wrong (known_at here before).windows ArriveAndLeave is (λ o. o)
+                    (same_number (Entry n left Leave) n Leave second.1 refl))
+              ]
+          by_course EntryOrTested is own (inl entry) =
+              let at = single_at front back item (Entry n entry.0 One) entry.1 in accepted own entry.0 at.0 at.1
+          by_course EntryOrTested is own (inr tested) =
+              absurd (no_step (Tested n tested.0) (single_at front back item (Tested n tested.0) tested.1).1 refl)
+          by_course OneEntry is own (place, h) =
+              let at = single_at front back item (Entry n place One) h in accepted own place at.0 at.1
 
-        by_class : (o : Option Class) → own_class (known_at here before) found ≡ o →
-            AreItemsBy o (known_at here before) n found (front ++ item ∷ back) → IsOneEntryAt us number call item
-        by_class (Some class) own h =
-            absurd (no_step (Refused n class 0) (single_at front back item (Refused n class 0) h).1 refl)
-        by_class None own (inl refused) =
-            absurd (no_step (Refused n refused.1 (suc refused.2))
-            (single_at front back item (Refused n refused.1 (suc refused.2)) refused.3).1 refl)
-        by_class None own (inr accepted) =
-            by_course (course_of (known_at here before).windows found) refl own accepted
+          by_class : (o : Option Class) → own_class (known_at here before) found ≡ o →
+              AreItemsBy o (known_at here before) n found (front ++ item ∷ back) → IsOneEntryAt us number call item
+          by_class (Some class) own h =
+              absurd (no_step (Refused n class 0) (single_at front back item (Refused n class 0) h).1 refl)
+          by_class None own (inl refused) =
+              absurd (no_step (Refused n refused.1 (suc refused.2))
+              (single_at front back item (Refused n refused.1 (suc refused.2)) refused.3).1 refl)
+          by_class None own (inr accepted) =
+              by_course (course_of (known_at here before).windows found) refl own accepted
 
     by_standing : Stands us item → IsOneEntryAt us number call item
     by_standing (OfCall is) =
@@ -367,11 +366,11 @@ module _ (here : RankOfRun) where
 
   pub issue_at : (items us vs : List Item) (number : ℕ) (access : Access) → HasItemsOfCalls here items →
       items ≡ us ++ Issue number access ∷ vs → IsIssueAt us number access
-  issue_at items us vs number access has e = by_standing' (item_stands items us vs (Issue number access) has e)
+  issue_at items us vs number access has e = by_stand (item_stands items us vs (Issue number access) has e)
     where
-      by_standing' : Stands us (Issue number access) → IsIssueAt us number access
-      by_standing' (OfCall is) =
+      by_stand : Stands us (Issue number access) → IsIssueAt us number access
+      by_stand (OfCall is) =
           let call = some_and (slice_get calls is.number) is.of in
           issue_class us number access is call.0 call.1 (own_class (known_at here is.before) call.0) refl call.2
-      by_standing' (Last is) = absurd (cc is)
-      by_standing' (Arrived n place found known is found_is course) = absurd (cc is)
+      by_stand (Last is) = absurd (cc is)
+      by_stand (Arrived n place found known is found_is course) = absurd (cc is)

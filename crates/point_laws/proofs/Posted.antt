@@ -1,9 +1,9 @@
 -- Where a rank completes a start, each member of its group has posted to the rank once more than the rank had started to
 -- it before.
-use Rattle.std.proofs.Common.{◌≡◌, ℕ, suc, ◌+◌, ◌<◌, ◌≤◌, ◌⊎◌, inl, inr, Bool, true, false, List, [], ◌∷◌, ◌++◌, length}
+use Rattle.std.proofs.Common.{◌≡◌, ℕ, ◌<◌, ◌≤◌, ◌⊎◌, inl, inr, Bool, true, false, List, [], ◌∷◌, ◌++◌, length}
 use Rattle.std.proofs.Common.{Option, Some, None, refl, ap, sym, ◌∙◌, subst, arith, append_assoc}
 use Rattle.std.specs.Prelude.{◌==◌, nat_lt, slice_get, ℤ}
-use Rattle.std.specs.List.{flat_map, list_all}
+use Rattle.std.specs.List.{flat_map}
 use Rattle.std.proofs.lemmas.Bool.{eqb-true, ltb-true}
 use Rattle.std.proofs.lemmas.Grind.{flat_map-append}
 use Rattle.rma_types.specs.declared.accesses.Id.{Id}
@@ -16,8 +16,8 @@ use Rattle.rma_types.specs.declared.scripts.Script.{Script}
 use Rattle.rma_record.specs.declared.items.Item.{Item}
 use Rattle.rma_record.specs.declared.items.Item.TheVariants.{Entry}
 use Rattle.rma_record.specs.declared.runs.Run.{Run}
-use Rattle.board_rules.specs.Board.{Allow, decide, decision, decision_by, refusal, may_enter_now, may_synchronise_now}
-use Rattle.board_rules.specs.Entries.{Row, acts, synchronisations, window_of}
+use Rattle.board_rules.specs.Board.{Allow, decision, decision_by, refusal, may_enter_now, may_synchronise_now}
+use Rattle.board_rules.specs.Entries.{Row, window_of}
 use Rattle.board_rules.specs.Posts.{group_of_post, group_of_start, naming, posts, starts, start_has_posts}
 use Rattle.board_rules.specs.Questions.{Question, question}
 use Rattle.call_rules.specs.Actions.{Synchronisation, Fences, Posts, Starts, Completes, Waits, Locks, Unlocks, Flushes}
@@ -33,7 +33,7 @@ use Rattle.point_laws.proofs.Ended.{IsGroupEnded}
 use Rattle.point_laws.proofs.Placed.{IsPlaced, placed_row}
 use Rattle.point_laws.proofs.Positions.{is_paired}
 use Rattle.point_laws.proofs.Splits.{made, made_after, made_is, made_joined, stands_after}
-use Rattle.point_laws.proofs.Waiting.{IsSynchronised, synchronised_at}
+use Rattle.point_laws.proofs.Waiting.{synchronised_at}
 
 -- ---- starts among synchronisations
 

@@ -1,20 +1,18 @@
 -- The completes and waits of a lawful run at their places: the window of each, and the epochs of its rank there.
-use Rattle.std.proofs.Common.{◌≡◌, ℕ, zero, suc, ◌<◌, inl, inr, Bool, true, false, not, List, [], ◌∷◌, ◌++◌, length, take}
+use Rattle.std.proofs.Common.{◌≡◌, ℕ, zero, suc, ◌<◌, true, false, not, List, [], ◌∷◌, length, take}
 use Rattle.std.proofs.Common.{drop, Option, Some, None, refl, ap, sym, ◌∙◌, subst, arith}
 use Rattle.std.specs.Prelude.{◌==◌, slice_get, slice_index_or, is_some}
 use Rattle.std.specs.Option.{option_map_or}
 use Rattle.std.proofs.lemmas.Bool.{eqb-true, eq-eqb, not-false}
-use Rattle.rma_types.specs.declared.accesses.Id.{Id}
 use Rattle.rma_types.specs.declared.accesses.Step.{Step}
 use Rattle.rma_types.specs.declared.accesses.Step.TheVariants.{One}
 use Rattle.rma_types.specs.declared.calls.Call.{Call}
 use Rattle.rma_types.specs.declared.schedules.Delay.TheVariants.{Seeded}
 use Rattle.rma_types.specs.declared.scripts.Script.{Script}
 use Rattle.rma_record.specs.declared.items.Item.{Item}
-use Rattle.rma_record.specs.declared.items.Item.TheVariants.{Entry}
 use Rattle.rma_record.specs.declared.runs.Run.{Run}
 use Rattle.board_rules.specs.Entries.{Row, window_of}
-use Rattle.call_rules.specs.Actions.{Synchronisation, Synchronises, action_of, creation_in, synchronisation_in}
+use Rattle.call_rules.specs.Actions.{Synchronisation, Synchronises, action_of}
 use Rattle.call_rules.specs.Actions.{synchronisation_of, window_in_action, window_named}
 use Rattle.call_rules.specs.WellFormed.{IsWellFormed, IsWrittenAction, IsWrittenCall}
 use Rattle.lawful_runs.specs.CallItems.{untouched}
@@ -34,10 +32,10 @@ use Rattle.read_laws.proofs.Names.{calls_written}
 use Rattle.read_laws.proofs.Steps.{IsStep, synchronises}
 use Rattle.step_laws.proofs.OwnTests.{windows_allow, epochs_allow, none_applies}
 use Rattle.point_laws.proofs.Finished.{finished_fits, known_untouched}
-use Rattle.point_laws.proofs.Fits.{Fits, IsLive, IsMadeOn, on_live}
+use Rattle.point_laws.proofs.Fits.{Fits, on_live}
 use Rattle.point_laws.proofs.Owned.{IsOwned, owned_entry}
 use Rattle.point_laws.proofs.Placed.{IsPlaced}
-use Rattle.point_laws.proofs.Positions.{IsOneEntryAt, is_paired, one_entry_at, split_get, untouched_split}
+use Rattle.point_laws.proofs.Positions.{is_paired, one_entry_at, split_get, untouched_split}
 use Rattle.point_laws.proofs.Splits.{own, made, made_by_own, window_own}
 use Rattle.point_laws.proofs.Ties.{IsTied}
 
@@ -54,20 +52,20 @@ one_row rank number call = record { rank = rank; number = number; call = call; s
 -- a complete or a wait at its place, on the live window of its name
 pub record IsSynchronised (script : Script) (run : Run) (rank index : ℕ) (call : Call) (s : Synchronisation) : Type 0
   where
-  pub number : ℕ
-  pub earlier : List Row
-  pub later : List Row
-  pub placed : IsPlaced script run earlier (one_row rank number call) later (record { rank = rank; index = index })
-  pub owned : own rank earlier ≡ rows_in script rank (take index (log_of run rank))
-  pub win : ℕ
-  pub named : window_named call ≡ Some win
-  pub live : Window
-  pub known : window_of_name (known_before script run (record { rank = rank; index = index })).windows win ≡ Some live
-  pub at : window_of earlier (one_row rank number call) ≡ live.number
-  pub tied : IsTied (epochs_at (known_before script run (record { rank = rank; index = index })).epochs win)
-      (made rank live.number earlier)
-  pub may : may_synchronise (epochs_at (known_before script run (record { rank = rank; index = index })).epochs win) s
-      ≡ true
+    pub number : ℕ
+    pub earlier : List Row
+    pub later : List Row
+    pub placed : IsPlaced script run earlier (one_row rank number call) later (record { rank = rank; index = index })
+    pub owned : own rank earlier ≡ rows_in script rank (take index (log_of run rank))
+    pub win : ℕ
+    pub named : window_named call ≡ Some win
+    pub live : Window
+    pub known : window_of_name (known_before script run (record { rank = rank; index = index })).windows win ≡ Some live
+    pub at : window_of earlier (one_row rank number call) ≡ live.number
+    pub tied : IsTied (epochs_at (known_before script run (record { rank = rank; index = index })).epochs win)
+        (made rank live.number earlier)
+    pub may : may_synchronise (epochs_at (known_before script run (record { rank = rank; index = index })).epochs win) s
+        ≡ true
 
 live_of : (o : Option Window) → not (is_some o) ≡ false → (w : Window) × (o ≡ Some w)
 live_of None h = absurd (cc h)

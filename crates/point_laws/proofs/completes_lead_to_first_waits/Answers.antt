@@ -1,3 +1,4 @@
+-- The clauses are theorems.
 use Rattle.point_laws.proofs.Completes.{lead_to_waits}
 use Rattle.point_laws.proofs.Leading.{led_to_first}
 use Rattle.point_laws.proofs.completes_lead_to_first_waits.Goals as goal
