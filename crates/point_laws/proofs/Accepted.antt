@@ -333,7 +333,8 @@ module _ (shapes : ℕ → List Part) (rank win : ℕ) (small : win < 32) (known
   by_action (Creates creation) is written windows tests = elim (cases_eq creation.win win) [
     | inl same ↦ creates_here creation is same
         (dead_window (window_of_name known.windows win)
-        (subst (λ n. is_some (window_of_name known.windows n) ≡ false) same (none_applies (window_tests known.windows (Creates creation)) windows).0))
+        (subst (λ n. is_some (window_of_name known.windows n) ≡ false) same
+        (none_applies (window_tests known.windows (Creates creation)) windows).0))
     | inr apart ↦ creates_apart creation is written.name apart
   ]
   by_action (Frees other) is written windows tests = frees other is

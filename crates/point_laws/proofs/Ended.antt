@@ -299,7 +299,8 @@ module _ (script : Script) (run : Run) (formed : IsWellFormed script) (lawful : 
         ∙ get_at (until_access ++ front) (back ++ drop y.id.index log) item in
         let taken : take (length (until_access ++ front)) log ≡ until_access ++ front =
         ap (take (length (until_access ++ front))) whole
-        ∙ take_at (until_access ++ front) (item ∷ (back ++ drop y.id.index log)) (length (until_access ++ front)) refl in
+        ∙ take_at (until_access ++ front) (item ∷ (back ++ drop y.id.index log)) (length (until_access ++ front))
+        refl in
         let sync_is : synchronisation_of call ≡ Some Completes = sync ∙ ap Some (complete_is s completes) in
         let within = within_logs run.logs rank z item logged in
         let one = synchronised_at script run formed lawful rank z number call Completes

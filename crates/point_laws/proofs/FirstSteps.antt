@@ -114,7 +114,8 @@ module _ (script : Script) (run : Run) where
   first_in_logs p rank [] y z found m passes same = elim m [ ]
   first_in_logs p rank (log ∷ logs) y z found m passes same =
       let split = logs_split rank log logs in
-      elim (found_in_parts p (steps_from rank 0 log) (steps_of_logs (rank + 1) logs) y (sym (ap (find p) split) ∙ found)) [
+      let at = sym (ap (find p) split) ∙ found in
+      elim (found_in_parts p (steps_from rank 0 log) (steps_of_logs (rank + 1) logs) y at) [
         | inl early ↦ elim (append_in (steps_from rank 0 log) (subst (In z) split m)) [
           | inl near ↦ first_in_log p rank 0 log y z early near passes
           | inr far ↦

@@ -1,5 +1,5 @@
--- What an RMA access in a start epoch tells: the group of the epoch has its target, and is that of the last start of its
--- rank on the window, which is not yet completed.
+-- What an RMA access in a start epoch tells: the group of the epoch has its target, and is that of the last start of
+-- its rank on the window, which is not yet completed.
 use Rattle.std.proofs.Common.{◌≡◌, ℕ, suc, ◌⊎◌, inl, inr, Bool, true, false, cond, List, []}
 use Rattle.std.proofs.Common.{◌∷◌, ◌++◌, length, take, drop, Option, Some, None, refl, ap, sym, ◌∙◌, subst}
 use Rattle.std.specs.Prelude.{slice_get, is_some, if◌then◌else◌, ℤ}
@@ -211,7 +211,8 @@ module _ (script : Script) (run : Run) (formed : IsWellFormed script) (lawful : 
         let both : a.issued.access ≡ access_on known.windows t on.0 = sym same ∙ access_same in
         let action = moves_it one.call t moves in
         let written = subst IsWrittenAction action
-        (each_get IsWrittenCall (calls_of script rank) number one.call (calls_written script rank formed) one.of_rank) in
+        (each_get IsWrittenCall (calls_of script rank) number one.call (calls_written script rank formed)
+        one.of_rank) in
         let fits = finished_fits here formed t.win written.name number one.before one.finished in
         let live = fits.live on.0 on.1 in
         let group = start_is (epochs_at known.epochs t.win).access start in

@@ -1,6 +1,7 @@
--- Where the complete of an access is before a wait of its target on the window, it leads to that wait or an earlier one.
-use Rattle.std.proofs.Common.{◌≡◌, ℕ, suc, ◌+◌, ◌<◌, ◌≤◌, inl, inr, Bool, true, false, cond, List, [], ◌∷◌, ◌++◌, length}
-use Rattle.std.proofs.Common.{take, Some, refl, ap, sym, ◌∙◌, subst, arith, append_assoc, length-append}
+-- Where the complete of an access is before a wait of its target on the window, it leads to that wait or to an earlier
+-- one.
+use Rattle.std.proofs.Common.{◌≡◌, ℕ, suc, ◌+◌, ◌<◌, ◌≤◌, inl, inr, Bool, true, false, cond, List, [], ◌∷◌, ◌++◌}
+use Rattle.std.proofs.Common.{length, take, Some, refl, ap, sym, ◌∙◌, subst, arith, append_assoc, length-append}
 use Rattle.std.specs.Prelude.{◌&&◌, ◌==◌, slice_index_or, reverse}
 use Rattle.std.specs.List.{count_by, flat_map}
 use Rattle.std.specs.Option.{option_map_or}
@@ -16,8 +17,8 @@ use Rattle.rma_record.specs.declared.items.Item.TheVariants.{Entry}
 use Rattle.rma_record.specs.declared.runs.Run.{Run}
 use Rattle.board_rules.specs.Edges.{are_on_one_window, is_edge_by, is_matched_one, is_waited_for_by, group_completed}
 use Rattle.board_rules.specs.Entries.{Row, acts, synchronisations, window_of}
-use Rattle.board_rules.specs.Posts.{group_of_post, group_of_start, is_complete, is_wait, naming, posts, starts, completes}
-use Rattle.board_rules.specs.Posts.{completed, last_posted}
+use Rattle.board_rules.specs.Posts.{group_of_post, group_of_start, is_complete, is_wait, naming, posts, starts}
+use Rattle.board_rules.specs.Posts.{completes, completed, last_posted}
 use Rattle.call_rules.specs.Actions.{Synchronisation, Fences, Posts, Starts, Completes, Waits, Locks, Unlocks, Flushes}
 use Rattle.call_rules.specs.Actions.{Syncs, synchronisation_of}
 use Rattle.call_rules.specs.Ranks.{is_member}

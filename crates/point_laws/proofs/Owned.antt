@@ -96,8 +96,8 @@ module _ (script : Script) (delay : Delay) (run : Run) (lawful : IsLawful script
   own_before : (done : List Item) (before rest pre post : List Row) (row : Row) →
       rows_of script run ≡ before ++ row ∷ rest → row.rank ≡ rank → rows_of script run ≡ pre ++ post →
       own rank pre ≡ rows_before done →
-      count_by (λ (row : Row). row.rank == rank) before ≡ count_by (λ (row : Row). row.rank == rank) (rows_before done) →
-      own rank before ≡ rows_before done
+      count_by (λ (row : Row). row.rank == rank) before ≡ count_by (λ (row : Row). row.rank == rank)
+      (rows_before done) → own rank before ≡ rows_before done
   own_before done before rest pre post row split is front owned counts =
       same_kept (λ (row : Row). row.rank == rank) before pre rest post row (sym split ∙ front)
       (eq-eqb row.rank rank is)

@@ -1,5 +1,5 @@
--- Where a rank completes a start, each member of its group has posted to the rank once more than the rank had started to
--- it before.
+-- Where a rank completes a start, each member of its group has posted to the rank once more than the rank had started
+-- to it before.
 use Rattle.std.proofs.Common.{◌≡◌, ℕ, ◌<◌, ◌≤◌, ◌⊎◌, inl, inr, Bool, true, false, List, [], ◌∷◌, ◌++◌, length}
 use Rattle.std.proofs.Common.{Option, Some, None, refl, ap, sym, ◌∙◌, subst, arith, append_assoc}
 use Rattle.std.specs.Prelude.{◌==◌, nat_lt, slice_get, ℤ}

@@ -1,8 +1,8 @@
 -- The epochs of a rank on a window, and the synchronisations that it has made on it: MPI 3.1, section 11.5.2, in this
 -- project's profile. Each start but that of an open epoch has its complete, and each post but that of an open epoch has
 -- its wait.
-use Rattle.std.proofs.Common.{◌≡◌, ℕ, ◌+◌, Bool, true, false, cond, not, List, [], ◌∷◌, ◌++◌, length, Option, Some, None}
-use Rattle.std.proofs.Common.{refl, ap, sym, ◌∙◌, subst, arith, length-append}
+use Rattle.std.proofs.Common.{◌≡◌, ℕ, ◌+◌, Bool, true, false, cond, not, List, [], ◌∷◌, ◌++◌, length, Option, Some}
+use Rattle.std.proofs.Common.{None, refl, ap, sym, ◌∙◌, subst, arith, length-append}
 use Rattle.std.specs.Prelude.{◌||◌, ◌==◌, is_some, ℤ, if◌then◌else◌}
 use Rattle.std.specs.List.{count_by, flat_map, filter}
 use Rattle.std.proofs.lemmas.Bool.{and_parts}
