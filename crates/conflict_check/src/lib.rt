@@ -5,8 +5,11 @@
 ghost use Rattle.conflict_check.specs.Alike.{AlikePointsAreEnough};
 
 mod accesses;
+mod calls;
 mod pairs;
+mod points;
 mod run_findings;
+mod searches;
 #[cfg(test)]
 mod tests;
 
