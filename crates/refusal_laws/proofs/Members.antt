@@ -1,5 +1,5 @@
 -- Members of lists.
-use Rattle.std.proofs.Common.{◌≡◌, ℕ, zero, suc, ◌⊎◌, inl, inr, Bool, true, false, List, [], ◌∷◌, ◌++◌, subst, arith}
+use Rattle.std.proofs.Common.{◌≡◌, zero, suc, ◌⊎◌, inl, inr, Bool, true, List, [], ◌∷◌, ◌++◌, subst, arith}
 use Rattle.std.proofs.Common.{refl}
 use Rattle.std.specs.Prelude.{Contains}
 use Rattle.std.specs.List.{filter, AllByRecursion}

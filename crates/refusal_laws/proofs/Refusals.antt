@@ -1,8 +1,8 @@
 -- In a lawful log a refused call has one item, and teaches nothing.
-use Rattle.std.proofs.Common.{◌≡◌, ℕ, zero, suc, ◌+◌, ◌<◌, ◌≤◌, ◌⊎◌, inl, inr, Bool, true, false, cond, List, [], ◌∷◌}
-use Rattle.std.proofs.Common.{◌++◌, length, Option, Some, None, refl, sym, ◌∙◌, ap, subst, arith, append-nil}
+use Rattle.std.proofs.Common.{◌≡◌, ℕ, zero, suc, ◌+◌, ◌<◌, ◌≤◌, ◌⊎◌, inl, inr, true, cond, List, [], ◌∷◌}
+use Rattle.std.proofs.Common.{◌++◌, Option, Some, None, refl, sym, ◌∙◌, ap, subst, arith, append-nil}
 use Rattle.std.proofs.Common.{append_assoc}
-use Rattle.std.specs.Prelude.{IsSomeAnd, ◌==◌, Contains, not, slice_get, take}
+use Rattle.std.specs.Prelude.{IsSomeAnd, ◌==◌, not, slice_get, take}
 use Rattle.std.specs.List.{filter, AllByRecursion}
 use Rattle.std.proofs.lemmas.List.Elements.{filter-append}
 use Rattle.std.proofs.lemmas.List.Sums.{fold_push}
@@ -18,13 +18,13 @@ use Rattle.rma_record.specs.declared.items.Item.TheVariants.{Ended}
 use Rattle.rma_record.specs.declared.runs.Run.{Run}
 use Rattle.rank_rules.specs.Knowledge.{own_class, learn}
 use Rattle.board_rules.specs.Board.{shared_class}
-use Rattle.lawful_runs.specs.BoardLaw.{IsLook, HasLawfulLooks, first_row}
+use Rattle.lawful_runs.specs.BoardLaw.{IsLook, first_row}
 use Rattle.lawful_runs.specs.CallItems.{AreItemsBy, AreFinished, StandsAt, EndsOrStands, HasItemsOfCalls, untouched}
-use Rattle.lawful_runs.specs.Items.{is_touch, belongs_to, number_in}
+use Rattle.lawful_runs.specs.Items.{is_touch, belongs_to}
 use Rattle.lawful_runs.specs.LawfulRun.{IsLawful, rank_in}
-use Rattle.lawful_runs.specs.Logs.{calls_of, log_of}
+use Rattle.lawful_runs.specs.Logs.{log_of}
 use Rattle.lawful_runs.specs.Stages.{RankOfRun, calls_here, first_knowledge, known_at, shapes_in}
-use Rattle.refusal_laws.proofs.CallItems.{Belongs, IsOneRefusal, in_call, one_refusal}
+use Rattle.refusal_laws.proofs.CallItems.{Belongs, in_call, one_refusal}
 use Rattle.refusal_laws.proofs.Members.{In, append_in, contains_in, in_filter, of_all, single}
 use Rattle.refusal_laws.specs.RefusalLaws.{ChangesNothing, IsNamedClass, RefusalsChangeNothing}
 

@@ -1,5 +1,5 @@
 -- Where a run has no findings, its reads are in order.
-use Rattle.std.proofs.Common.{◌≡◌, Bool, List, [], Result, Ok, Err, sym, ◌∙◌}
+use Rattle.std.proofs.Common.{◌≡◌, Bool, List, Result, Ok, Err, sym, ◌∙◌}
 use Rattle.std.specs.Prelude.{IfOk}
 use Rattle.rma_types.specs.declared.accesses.Id.{Id}
 use Rattle.rma_types.specs.declared.findings.Finding.{Finding}
