@@ -1,3 +1,7 @@
 -- Parts of lists.
-pub mod Parts
+
 pub mod Alikes
+pub mod Groups
+pub mod Least
+pub mod Parts
+pub mod Towards

@@ -1,2 +1,3 @@
 -- Findings of accesses with their points.
 pub mod Alike
+pub mod Reached

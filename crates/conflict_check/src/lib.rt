@@ -6,6 +6,7 @@ ghost use Rattle.conflict_check.specs.Alike.{AlikePointsAreEnough};
 
 mod accesses;
 mod pairs;
+mod reaches;
 mod run_findings;
 #[cfg(test)]
 mod tests;
