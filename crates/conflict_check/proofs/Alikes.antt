@@ -1,6 +1,7 @@
 -- Points that stand for others give the same findings.
-use Rattle.std.proofs.Common.{◌≡◌, Bool, List, [], ◌∷◌, ◌++◌, Some, None, refl, ap, subst, ◌∙◌, append_assoc}
-use Rattle.std.specs.Prelude.{Contains, ◌||◌, if◌then◌else◌}
+use Rattle.std.proofs.Common.{◌≡◌, Bool, List, [], ◌∷◌, ◌++◌, Some, None, refl, ap, sym, subst, ◌∙◌}
+use Rattle.std.proofs.Common.{append_assoc}
+use Rattle.std.specs.Prelude.{Contains, IsTrue, ◌||◌, if◌then◌else◌}
 use Rattle.std.specs.Option.{option_map_or}
 use Rattle.rma_types.specs.declared.accesses.Id.{Id}
 use Rattle.rma_types.specs.declared.findings.Model.{Model}
@@ -9,26 +10,32 @@ use Rattle.order_rules.specs.Ordered.{JudgedAccess, is_ordered, points_for, role
 use Rattle.order_rules.specs.Roles.{Role, RmaUpdate, RmaRead, Store, Load, role_of}
 use Rattle.order_rules.specs.Rules.{forbidden_kind}
 use Rattle.order_laws.proofs.Members.{In, here, there, in_append_left, in_append_right, in_contains}
+use Rattle.point_laws.specs.PointLaws.{is_rma}
 use Rattle.conflict_check.specs.Alike.{reaches, IsAlike, AreAlike, names_of}
 
 module _ (before : Id → Id → Bool) (ids : List Id) where
-  by_roles : (a b : JudgedAccess) → IsAlike before ids a b → (first second : Role) (id : Id) → Contains ids id →
-      reaches before (points_for a first second) id ≡ reaches before (points_for b first second) id
-  by_roles a b like RmaUpdate RmaUpdate id m = like.done id m
-  by_roles a b like RmaUpdate RmaRead id m = like.done id m
-  by_roles a b like RmaUpdate Store id m = like.visible id m
-  by_roles a b like RmaUpdate Load id m = like.visible id m
-  by_roles a b like RmaRead second id m = like.done id m
-  by_roles a b like Store RmaUpdate id m = like.visible id m
-  by_roles a b like Store RmaRead id m = like.visible id m
-  by_roles a b like Store Store id m = ap (λ i. reaches before (i ∷ []) id) like.named
-  by_roles a b like Store Load id m = ap (λ i. reaches before (i ∷ []) id) like.named
-  by_roles a b like Load second id m = ap (λ i. reaches before (i ∷ []) id) like.named
+  -- the done points are asked for of an RMA access alone
+  by_done : (a b : JudgedAccess) → IsAlike before ids a b → (first : Role) → role_in a ≡ first → IsTrue (is_rma first) →
+      (id : Id) → Contains ids id → reaches before a.done id ≡ reaches before b.done id
+  by_done a b like first is rma = like.done (subst (λ r. IsTrue (is_rma r)) (sym is) rma)
+
+  by_roles : (a b : JudgedAccess) → IsAlike before ids a b → (first second : Role) → role_in a ≡ first → (id : Id) →
+      Contains ids id → reaches before (points_for a first second) id ≡ reaches before (points_for b first second) id
+  by_roles a b like RmaUpdate RmaUpdate is id m = by_done a b like RmaUpdate is refl id m
+  by_roles a b like RmaUpdate RmaRead is id m = by_done a b like RmaUpdate is refl id m
+  by_roles a b like RmaUpdate Store is id m = like.visible id m
+  by_roles a b like RmaUpdate Load is id m = like.visible id m
+  by_roles a b like RmaRead second is id m = by_done a b like RmaRead is refl id m
+  by_roles a b like Store RmaUpdate is id m = like.visible id m
+  by_roles a b like Store RmaRead is id m = like.visible id m
+  by_roles a b like Store Store is id m = ap (λ i. reaches before (i ∷ []) id) like.named
+  by_roles a b like Store Load is id m = ap (λ i. reaches before (i ∷ []) id) like.named
+  by_roles a b like Load second is id m = ap (λ i. reaches before (i ∷ []) id) like.named
 
   ordered_alike : (a c b d : JudgedAccess) → IsAlike before ids a c → IsAlike before ids b d → Contains ids b.id →
       is_ordered before a b ≡ is_ordered before c d
   ordered_alike a c b d first second m =
-      by_roles a c first (role_in a) (role_in b) b.id m
+      by_roles a c first (role_in a) (role_in b) refl b.id m
       ∙ (λ i. reaches before (points_for c (role_of (first.reached i).kind) (role_of (second.reached i).kind))
       (second.named i))
 

@@ -5,9 +5,12 @@
 ghost use Rattle.conflict_check.specs.Alike.{AlikePointsAreEnough};
 
 mod accesses;
+mod calls;
 mod pairs;
+mod points;
 mod reaches;
 mod run_findings;
+mod searches;
 #[cfg(test)]
 mod tests;
 

@@ -1,6 +1,6 @@
 -- The steps and the accesses of a run as the code keeps them, each with what its rank knew of it: this project's record
 -- of a run.
-use Rattle.std.specs.Prelude.{ℕ, ◌≡◌, Unit, ⊥, List, [], ◌∷◌, Option, Some, None, map, slice_get}
+use Rattle.std.specs.Prelude.{ℕ, ◌≡◌, ◌+◌, List, [], ◌∷◌, Option, Some, None, slice_get}
 use Rattle.std.specs.List.{flat_map}
 use Rattle.std.specs.Option.{option_map, option_map_or}
 use Rattle.rma_types.specs.declared.scripts.Script.{Script}

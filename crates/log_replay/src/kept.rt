@@ -2,8 +2,8 @@
 
 use rma_types::{Access, Id, Items, Step};
 
-/// The access epoch of a rank on a window: none, that of a fence, that of a start, or one with passive targets (MPI 3.1,
-/// section 11.5).
+/// The access epoch of a rank on a window: none, that of a fence, that of a start, or one with passive targets
+/// (MPI 3.1, section 11.5).
 #[derive(Clone, Copy, Debug, PartialEq, Eq)]
 pub enum EpochKind {
     NoEpoch,

@@ -1,1 +1,22 @@
--- Which steps stand for the points of an access.
+-- What the theorems of this crate rest on.
+pub mod Accepted
+pub mod Arrivals
+pub mod Between
+pub mod Completes
+pub mod Ended
+pub mod FenceEdges
+pub mod Finished
+pub mod FirstSteps
+pub mod Fits
+pub mod Followed
+pub mod Found
+pub mod Issues
+pub mod Leading
+pub mod NumberedWaits
+pub mod Owned
+pub mod Placed
+pub mod Positions
+pub mod Posted
+pub mod Splits
+pub mod Ties
+pub mod Waiting

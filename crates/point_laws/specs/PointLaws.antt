@@ -1,6 +1,6 @@
 -- Which steps of calls stand for the done points of an access: MPI 3.1, sections 11.5 and 11.7, in this project's
 -- profile.
-use Rattle.std.specs.Prelude.{ℕ, ◌≡◌, ◌≢◌, ◌≤◌, Bool, true, false, IsTrue, Some, Contains, slice_get}
+use Rattle.std.specs.Prelude.{◌≡◌, ◌≢◌, ◌≤◌, Bool, true, false, IsTrue, Some, Contains, slice_get}
 use Rattle.std.specs.Option.{option_map_or}
 use Rattle.rma_types.specs.declared.accesses.Id.{Id}
 use Rattle.rma_types.specs.declared.schedules.Delay.TheVariants.{Seeded}

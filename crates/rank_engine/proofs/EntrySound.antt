@@ -34,7 +34,7 @@ use Rattle.rank_engine.specs.declared.asking.Answer.TheVariants.{Entered}
 use Rattle.rank_engine.specs.Learning.{HasParts}
 use Rattle.rank_engine.specs.RankStates.{RankState}
 use Rattle.rank_engine.specs.Sound.{AreSoundWindows, IsSound}
-use Rattle.rank_engine.proofs.EntryParts.{one_entry_makes_none, only_parts, Makes}
+use Rattle.rank_engine.proofs.EntryParts.{Makes, MakesNothing, MakesWindow, one_entry_makes_none, only_parts}
 
 -- ---- the windows after the call
 
