@@ -5,6 +5,7 @@ use Rattle.std.specs.Prelude.{IfSome, ◌||◌, nat_lt, ◌-◌, ◌^◌}
 use Rattle.std.proofs.Common.{length-append}
 use Rattle.std.specs.List.{list_any}
 use Rattle.std.proofs.lemmas.List.{append-nil}
+use Rattle.rma_types.specs.declared.findings.Finding.{Finding}
 use Rattle.rma_types.specs.declared.scripts.Script.{Script}
 use Rattle.rma_record.specs.declared.runs.Run.{Run}
 use Rattle.run_texts.specs.Report.{all_ended}
@@ -17,8 +18,8 @@ use Rattle.script_language.specs.Reading.{Reads}
 use Rattle.rma_runner.proofs.Texts.{text_is_short, is_no_text}
 use Rattle.command_words.specs.declared.options.Options.{Options}
 use Rattle.rma_runner.specs.declared.outcomes.Outcome.{Outcome}
-use Rattle.rma_runner.specs.Answers.{IsInput, ReadsAs, ReadsAsNone, IsRunOf, Reported, ReportedInPart, Refused}
-use Rattle.rma_runner.specs.Answers.{RefusedInPart, IsNoText, report_on}
+use Rattle.rma_runner.specs.Answers.{IsInput, ReadsAs, ReadsAsNone, IsJudged, IsRunOf, Reported, ReportedInPart}
+use Rattle.rma_runner.specs.Answers.{Refused, RefusedInPart, IsNoText, report_on}
 use Rattle.rma_runner.specs.Lines.{fault_line}
 use Rattle.rma_runner.specs.Statuses.{IsRunStatus, IsStepStatus}
 use Rattle.rma_runner.specs.Tops.{EndsFault, EndsScript, StepEnds}
@@ -29,8 +30,9 @@ status_by false bad = inr (inr refl)
 status_by true true = inr (inl refl)
 status_by true false = inl refl
 
-pub run_status : (run : Run) → IsRunStatus (status run [])
-run_status run = status_by (all_ended run) (nat_lt 0 0 || list_any (list_any is_refused) run.logs)
+pub run_status : (run : Run) (found : List Finding) → IsRunStatus (status run found)
+run_status run found =
+    status_by (all_ended run) (nat_lt 0 (length found) || list_any (list_any is_refused) run.logs)
 
 -- a run's status is none of the others
 apart : (code other : ℕ) → IsRunStatus code → code ≡ other → (0 ≡ other → ⊥) → (1 ≡ other → ⊥) → (7 ≡ other → ⊥) → ⊥
@@ -55,11 +57,14 @@ is_not_6 code is e = apart code 6 is e (λ h. omega arith) (λ h. omega arith) (
 -- a report was written whole; in part; a refusal was written whole; in part; a read failed; memory ran out
 pub data Case (options : Options) (left_before left_after before after : Option (List ℕ)) (outcome : Outcome) : Type 0
   where
-    Whole : (script : Script) (run : Run) → ReadsAs left_before left_after script → IsRunOf options script run →
-        outcome ≡ record { status = status run []; run = Some run } → Wrote before (report_on script run) after →
+    Whole : (script : Script) (run : Run) (found : List Finding) → ReadsAs left_before left_after script →
+        IsRunOf options script run → IsJudged script run found →
+        outcome ≡ record { status = status run found; run = Some run } →
+        Wrote before (report_on script run found) after →
         Case options left_before left_after before after outcome
-    Part : (script : Script) (run : Run) → ReadsAs left_before left_after script → IsRunOf options script run →
-        outcome ≡ record { status = 5; run = Some run } → WrotePrefix before (report_on script run) after →
+    Part : (script : Script) (run : Run) (found : List Finding) → ReadsAs left_before left_after script →
+        IsRunOf options script run → IsJudged script run found →
+        outcome ≡ record { status = 5; run = Some run } → WrotePrefix before (report_on script run found) after →
         Case options left_before left_after before after outcome
     NoScript : (fault : Fault) → ReadsAsNone left_before left_after fault →
         outcome ≡ record { status = 3; run = None } → Wrote before (fault_line fault) after →
@@ -75,11 +80,13 @@ pub data Case (options : Options) (left_before left_after before after : Option 
 by_script : (options : Options) (lb la before after : Option (List ℕ)) (outcome : Outcome) (script : Script) →
     ReadsAs lb la script → EndsScript options script before after outcome →
     Case options lb la before after outcome
-by_script options lb la before after outcome script reads (inl (run, is, inl whole)) = Whole script run reads is whole.0
-    whole.1
-by_script options lb la before after outcome script reads (inl (run, is, inr (inl part))) = Part script run reads is
-    part.0 part.1
-by_script options lb la before after outcome script reads (inl (run, is, inr (inr room))) = NoRoom room.0 room.1
+by_script options lb la before after outcome script reads (inl (run, is, inl (found, judged, inl whole))) =
+    Whole script run found reads is judged whole.0 whole.1
+by_script options lb la before after outcome script reads (inl (run, is, inl (found, judged, inr (inl part)))) =
+    Part script run found reads is judged part.0 part.1
+by_script options lb la before after outcome script reads (inl (run, is, inl (found, judged, inr (inr room)))) =
+    NoRoom room.0 room.1
+by_script options lb la before after outcome script reads (inl (run, is, inr room)) = NoRoom room.0 room.1
 by_script options lb la before after outcome script reads (inr room) = NoRoom room.0 room.1
 
 by_fault : (options : Options) (lb la before after : Option (List ℕ)) (outcome : Outcome) (fault : Fault) →
@@ -102,16 +109,18 @@ case_of options lb la before after outcome (inr (inr (inr room))) = NoRoom room.
 pub reported : (options : Options) (lb la before after : Option (List ℕ)) (outcome : Outcome) →
     Case options lb la before after outcome → IsRunStatus outcome.status →
     Reported options lb la before after outcome.status outcome.run
-reported options lb la before after outcome (Whole script run reads is e text) code = record {
+reported options lb la before after outcome (Whole script run found reads is judged e text) code = record {
   script = script;
   run = run;
+  found = found;
   reads = reads;
   is_run = is;
+  judged = judged;
   handed_back = ap (λ (o : Outcome). o.run) e;
   text = text;
   status_is = ap (λ (o : Outcome). o.status) e;
 }
-reported options lb la before after outcome (Part script run reads is e text) code = absurd
+reported options lb la before after outcome (Part script run found reads is judged e text) code = absurd
     (is_not_5 outcome.status code (ap (λ (o : Outcome). o.status) e))
 reported options lb la before after outcome (NoScript fault none e text) code = absurd
     (is_not_3 outcome.status code (ap (λ (o : Outcome). o.status) e))
@@ -127,9 +136,10 @@ HandedBy outcome = IfSome outcome.run (λ _. IsRunStatus outcome.status ⊎ (out
 
 pub handed : (options : Options) (lb la before after : Option (List ℕ)) (outcome : Outcome) →
     Case options lb la before after outcome → HandedBy outcome
-handed options lb la before after outcome (Whole script run reads is e text) = subst HandedBy (sym e)
-    (inl (run_status run))
-handed options lb la before after outcome (Part script run reads is e text) = subst HandedBy (sym e) (inr refl)
+handed options lb la before after outcome (Whole script run found reads is judged e text) = subst HandedBy (sym e)
+    (inl (run_status run found))
+handed options lb la before after outcome (Part script run found reads is judged e text) =
+    subst HandedBy (sym e) (inr refl)
 handed options lb la before after outcome (NoScript fault none e text) = subst HandedBy (sym e) tt
 handed options lb la before after outcome (NoScriptPart fault none e text) = subst HandedBy (sym e) tt
 handed options lb la before after outcome (NotRead e same) = subst HandedBy (sym e) tt
@@ -142,9 +152,10 @@ code_of outcome other code e h = sym (ap (λ (o : Outcome). o.status) e) ∙ h
 pub refused : (options : Options) (lb la before after : Option (List ℕ)) (outcome : Outcome) →
     Case options lb la before after outcome → outcome.status ≡ 3 →
     Refused lb la before after outcome.run
-refused options lb la before after outcome (Whole script run reads is e text) h = absurd
-    (is_not_3 (status run []) (run_status run) (code_of outcome _ 3 e h))
-refused options lb la before after outcome (Part script run reads is e text) h = let k = code_of outcome _ 3 e h in
+refused options lb la before after outcome (Whole script run found reads is judged e text) h = absurd
+    (is_not_3 (status run found) (run_status run found) (code_of outcome _ 3 e h))
+refused options lb la before after outcome (Part script run found reads is judged e text) h =
+    let k = code_of outcome _ 3 e h in
     absurd (omega arith)
 refused options lb la before after outcome (NoScript fault none e text) h = record
     { fault = fault; reads = none; none = ap (λ (o : Outcome). o.run) e; text = text }
@@ -156,9 +167,10 @@ refused options lb la before after outcome (NoRoom e same) h = let k = code_of o
 pub unread : (options : Options) (lb la before after : Option (List ℕ)) (outcome : Outcome) →
     Case options lb la before after outcome → outcome.status ≡ 4 →
     (after ≡ before) × (outcome.run ≡ None)
-unread options lb la before after outcome (Whole script run reads is e text) h = absurd
-    (is_not_4 (status run []) (run_status run) (code_of outcome _ 4 e h))
-unread options lb la before after outcome (Part script run reads is e text) h = let k = code_of outcome _ 4 e h in
+unread options lb la before after outcome (Whole script run found reads is judged e text) h = absurd
+    (is_not_4 (status run found) (run_status run found) (code_of outcome _ 4 e h))
+unread options lb la before after outcome (Part script run found reads is judged e text) h =
+    let k = code_of outcome _ 4 e h in
     absurd (omega arith)
 unread options lb la before after outcome (NoScript fault none e text) h = let k = code_of outcome _ 4 e h in absurd
     (omega arith)
@@ -170,9 +182,10 @@ unread options lb la before after outcome (NoRoom e same) h = let k = code_of ou
 pub no_memory : (options : Options) (lb la before after : Option (List ℕ)) (outcome : Outcome) →
     Case options lb la before after outcome → outcome.status ≡ 6 →
     (after ≡ before) × (outcome.run ≡ None)
-no_memory options lb la before after outcome (Whole script run reads is e text) h = absurd
-    (is_not_6 (status run []) (run_status run) (code_of outcome _ 6 e h))
-no_memory options lb la before after outcome (Part script run reads is e text) h = let k = code_of outcome _ 6 e h in
+no_memory options lb la before after outcome (Whole script run found reads is judged e text) h = absurd
+    (is_not_6 (status run found) (run_status run found) (code_of outcome _ 6 e h))
+no_memory options lb la before after outcome (Part script run found reads is judged e text) h =
+    let k = code_of outcome _ 6 e h in
     absurd (omega arith)
 no_memory options lb la before after outcome (NoScript fault none e text) h = let k = code_of outcome _ 6 e h in absurd
     (omega arith)
@@ -185,14 +198,16 @@ no_memory options lb la before after outcome (NoRoom e same) h = (same, ap (λ (
 pub cut : (options : Options) (lb la before after : Option (List ℕ)) (outcome : Outcome) →
     Case options lb la before after outcome → outcome.status ≡ 5 →
     ReportedInPart options lb la before after outcome.run ⊎ RefusedInPart lb la before after outcome.run
-cut options lb la before after outcome (Whole script run reads is e text) h = absurd
-    (is_not_5 (status run []) (run_status run) (code_of outcome _ 5 e h))
-cut options lb la before after outcome (Part script run reads is e text) h =
+cut options lb la before after outcome (Whole script run found reads is judged e text) h = absurd
+    (is_not_5 (status run found) (run_status run found) (code_of outcome _ 5 e h))
+cut options lb la before after outcome (Part script run found reads is judged e text) h =
     inl (record {
       script = script;
       run = run;
+      found = found;
       reads = reads;
       is_run = is;
+      judged = judged;
       handed_back = ap (λ (o : Outcome). o.run) e;
       text = text;
     })
@@ -205,9 +220,9 @@ cut options lb la before after outcome (NoRoom e same) h = let k = code_of outco
 
 pub statuses : (options : Options) (lb la before after : Option (List ℕ)) (outcome : Outcome) →
     Case options lb la before after outcome → IsStepStatus outcome.status
-statuses options lb la before after outcome (Whole script run reads is e text) = inl
-    (subst IsRunStatus (sym (ap (λ (o : Outcome). o.status) e)) (run_status run))
-statuses options lb la before after outcome (Part script run reads is e text) = inr
+statuses options lb la before after outcome (Whole script run found reads is judged e text) = inl
+    (subst IsRunStatus (sym (ap (λ (o : Outcome). o.status) e)) (run_status run found))
+statuses options lb la before after outcome (Part script run found reads is judged e text) = inr
     (inr (inr (inl (ap (λ (o : Outcome). o.status) e))))
 statuses options lb la before after outcome (NoScript fault none e text) = inr (inl (ap (λ (o : Outcome). o.status) e))
 statuses options lb la before after outcome (NoScriptPart fault none e text) = inr
@@ -247,9 +262,11 @@ pub complete : (options : Options) (lb la before after : Option (List ℕ)) (out
     (text : List ℕ) (script : Script) → Reads text script → lb ≡ Some text → (outcome.status ≡ 4 → ⊥) →
     (outcome.status ≡ 5 → ⊥) →
     IsRunStatus outcome.status ⊎ (outcome.status ≡ 6)
-complete options lb la before after outcome (Whole s run reads is e t) text script is_text told no4 no5 = inl
-    (subst IsRunStatus (sym (ap (λ (o : Outcome). o.status) e)) (run_status run))
-complete options lb la before after outcome (Part s run reads is e t) text script is_text told no4 no5 = absurd
+complete options lb la before after outcome (Whole s run found reads is judged e t) text script is_text told no4 no5 =
+    inl
+    (subst IsRunStatus (sym (ap (λ (o : Outcome). o.status) e)) (run_status run found))
+complete options lb la before after outcome (Part s run found reads is judged e t) text script is_text told no4 no5 =
+    absurd
     (no5 (ap (λ (o : Outcome). o.status) e))
 complete options lb la before after outcome (NoScript fault none e t) text script is_text told no4 no5 =
     let bytes = input_is lb la none.bytes text told (let low = text_is_short text script is_text in omega arith)
@@ -273,9 +290,9 @@ pub refuses : (options : Options) (lb la before after : Option (List ℕ)) (outc
     Case options lb la before after outcome →
     (text : List ℕ) → IsNoText text → lb ≡ Some text → (outcome.status ≡ 4 → ⊥) → (outcome.status ≡ 5 → ⊥) →
     (outcome.status ≡ 3) ⊎ (outcome.status ≡ 6)
-refuses options lb la before after outcome (Whole s run reads is e t) text none told no4 no5 = absurd
+refuses options lb la before after outcome (Whole s run found reads is judged e t) text none told no4 no5 = absurd
     (none.none s (read_is lb la text s told none.short reads))
-refuses options lb la before after outcome (Part s run reads is e t) text none told no4 no5 = absurd
+refuses options lb la before after outcome (Part s run found reads is judged e t) text none told no4 no5 = absurd
     (no5 (ap (λ (o : Outcome). o.status) e))
 refuses options lb la before after outcome (NoScript fault reads e t) text none told no4 no5 = inl
     (ap (λ (o : Outcome). o.status) e)

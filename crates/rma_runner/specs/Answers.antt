@@ -1,10 +1,14 @@
 -- What the top calls answer. A source and a sink tell their bytes or not: left and written are Options.
-use Rattle.std.specs.Prelude.{ℕ, ◌≡◌, ◌≤◌, ◌⊎◌, List, [], length, Option, Some, None}
+use Rattle.std.specs.Prelude.{ℕ, ◌≡◌, ◌≤◌, ◌⊎◌, List, length, Option, Some, None}
+use Rattle.rma_types.specs.declared.findings.Finding.{Finding}
+use Rattle.rma_types.specs.declared.findings.Model.TheVariants.{Separate}
 use Rattle.rma_types.specs.declared.scripts.Script.{Script}
 use Rattle.rma_record.specs.declared.runs.Run.{Run}
 use Rattle.lawful_runs.specs.LawfulRun.{IsLawful}
 use Rattle.step_runs.specs.StepRun.{step_run}
+use Rattle.order_rules.specs.Findings.{AreFindings}
 use Rattle.order_rules.specs.OrderedReads.{TouchesAgree}
+use Rattle.run_judge.specs.Judgements.{AreReadsOrderedIfNone}
 use Rattle.run_texts.specs.declared.modes.Mode.TheVariants.{Step}
 use Rattle.run_texts.specs.Report.{report}
 use Rattle.run_texts.specs.Status.{status}
@@ -38,30 +42,40 @@ pub record IsRunOf (options : Options) (script : Script) (run : Run) : Type 0 wh
   pub lawful : IsLawful script options.delay run
   pub agrees : TouchesAgree script run
 
--- the report on a run, without findings
-abbrev pub report_on : Script → Run → List ℕ
-report_on script run = report script run [] Step
+-- These are the findings of the run, in the separate model. Where there are none, each get and each load reads what the
+-- updates that are ordered before it leave.
+pub record IsJudged (script : Script) (run : Run) (found : List Finding) : Type 0 where
+  pub findings : AreFindings script run Separate found
+  pub reads : AreReadsOrderedIfNone script run found
 
--- a run is handed back, and its whole report was written; the status is that of the run
+-- the report on a run and its findings
+abbrev pub report_on : Script → Run → List Finding → List ℕ
+report_on script run found = report script run found Step
+
+-- a run is handed back, and its whole report was written; the status is that of the run and its findings
 pub record Reported (options : Options) (left_before left_after written_before written_after : Option (List ℕ))
     (answer : ℕ) (handed : Option Run) : Type 0 where
   pub script : Script
   pub run : Run
+  pub found : List Finding
   pub reads : ReadsAs left_before left_after script
   pub is_run : IsRunOf options script run
+  pub judged : IsJudged script run found
   pub handed_back : handed ≡ Some run
-  pub text : Wrote written_before (report_on script run) written_after
-  pub status_is : answer ≡ status run []
+  pub text : Wrote written_before (report_on script run found) written_after
+  pub status_is : answer ≡ status run found
 
 -- a run is handed back, and a front of its report was written
 pub record ReportedInPart (options : Options) (left_before left_after written_before written_after : Option (List ℕ))
     (handed : Option Run) : Type 0 where
   pub script : Script
   pub run : Run
+  pub found : List Finding
   pub reads : ReadsAs left_before left_after script
   pub is_run : IsRunOf options script run
+  pub judged : IsJudged script run found
   pub handed_back : handed ≡ Some run
-  pub text : WrotePrefix written_before (report_on script run) written_after
+  pub text : WrotePrefix written_before (report_on script run found) written_after
 
 -- the bytes taken are refused by their first fault, and its line was written
 pub record Refused (left_before left_after written_before written_after : Option (List ℕ)) (handed : Option Run) : Type

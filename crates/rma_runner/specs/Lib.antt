@@ -1,5 +1,6 @@
 -- What the top calls answer, and what they write.
 pub mod Answers
+pub mod Headline
 pub mod Inputs
 pub mod Lines
 pub mod Outputs

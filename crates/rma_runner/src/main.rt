@@ -3,6 +3,8 @@
 //! The script comes from standard input and the report goes to standard output. The exit status says how it ended.
 #![tactic(auto)]
 
+#[cfg(test)]
+mod findings_tests;
 mod inputs;
 mod outcomes;
 mod outputs;

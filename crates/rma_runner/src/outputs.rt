@@ -9,7 +9,7 @@ ghost use Rattle.rma_runner.specs.Outputs.{WritesOrStops};
 
 use rma_record::Run;
 use rma_streams::{Sink, write_output};
-use rma_types::{NoMemory, Script};
+use rma_types::{Finding, NoMemory, Script};
 use run_report::report_text;
 use run_texts::Mode;
 use script_reader::{Fault, FaultKind};
@@ -92,20 +92,21 @@ pub fn write_fault<K: Sink>(alloc: Global, fault: Fault, sink: &mut K) -> Result
     }
 }
 
-/// Writes the report on a run of a script, without findings.
+/// Writes the report on a run of a script and its findings.
 pub fn write_report<K: Sink>(
     alloc: Global,
     script: &Script,
     run: &Run,
+    found: &[Finding],
     sink: &mut K,
 ) -> Result<(), NoText>
     requires well_formed { IsWellFormed script.now }
-    ensures text { WritesOrStops (K.written sink.old) (K.written sink.new) (report_on script.now run.now) result }
+    ensures text { WritesOrStops (K.written sink.old) (K.written sink.new) (report_on script.now run.now found.now) result }
     ensures failed { result ≡ Err NoText.Failed → Rose (K.faults sink.old) (K.faults sink.new) }
     ensures no_fault { (result ≡ Err NoText.Failed → ⊥) → K.faults sink.new ≡ K.faults sink.old }
     ensures never_falls { K.faults sink.old ≤ K.faults sink.new }
 {
-    match report_text(alloc, script, run, &[], Mode::Step) {
+    match report_text(alloc, script, run, found, Mode::Step) {
         Ok(text) => write_text(sink, text.as_slice()),
         Err(NoMemory) => Err(NoText::NoMemory),
     }

@@ -54,7 +54,7 @@ fn words_from(alloc: Global, texts: &[&str]) -> Result<Vec<String>, AllocError> 
 }
 
 /// Runs the program on a text by words, and compares what it wrote and its status.
-fn gives_by(
+pub(crate) fn gives_by(
     rt: &impl Abort,
     alloc: Global,
     words: &[&str],
@@ -72,7 +72,7 @@ fn gives_by(
 }
 
 /// Runs the program on a text without words, and compares what it wrote and its status.
-fn gives(
+pub(crate) fn gives(
     rt: &impl Abort,
     alloc: Global,
     text: &str,
@@ -192,12 +192,12 @@ const LOAD_BESIDE_PUT: &str =
     "ranks 1\nrank 0\nallocate w0 4 4\nlock_all w0\nput w0 0 0 int32 5\nload w0 0 int32 1\nunlock_all w0\n";
 
 const LOAD_READS_5: &str =
-    "ended\n0:3 value 5\nmemory 0 0 0500000000000000\nsummary accesses 2 touches 2 entries 4 refused 0 findings 0\n";
+    "ended\n0:3 value 5\nmemory 0 0 0500000000000000\nfinding S1 0:2 0:3\nsummary accesses 2 touches 2 entries 4 refused 0 findings 1\n";
 
 const LOAD_READS_0: &str =
-    "ended\n0:3 value 0\nmemory 0 0 0500000000000000\nsummary accesses 2 touches 2 entries 4 refused 0 findings 0\n";
+    "ended\n0:3 value 0\nmemory 0 0 0500000000000000\nfinding S1 0:2 0:3\nsummary accesses 2 touches 2 entries 4 refused 0 findings 1\n";
 
-/// The delay decides whether the put is there when the load reads.
+/// The delay decides whether the put is there when the load reads: nothing orders the two, and so it is a finding.
 #[test]
 fn runs_with_each_delay(rt: HostRuntime) -> Result<(), Fail> {
     let alloc = rt.alloc();
@@ -206,7 +206,7 @@ fn runs_with_each_delay(rt: HostRuntime) -> Result<(), Fail> {
         alloc,
         &["--delay=none"],
         LOAD_BESIDE_PUT,
-        0,
+        1,
         LOAD_READS_5,
     )?;
     gives_by(
@@ -214,7 +214,7 @@ fn runs_with_each_delay(rt: HostRuntime) -> Result<(), Fail> {
         alloc,
         &["--delay=end"],
         LOAD_BESIDE_PUT,
-        0,
+        1,
         LOAD_READS_0,
     )?;
     gives_by(
@@ -222,7 +222,7 @@ fn runs_with_each_delay(rt: HostRuntime) -> Result<(), Fail> {
         alloc,
         &["--delay=seeded", "--seed=0"],
         LOAD_BESIDE_PUT,
-        0,
+        1,
         LOAD_READS_5,
     )?;
     gives_by(
@@ -230,7 +230,7 @@ fn runs_with_each_delay(rt: HostRuntime) -> Result<(), Fail> {
         alloc,
         &["--delay=seeded", "--seed=2"],
         LOAD_BESIDE_PUT,
-        0,
+        1,
         LOAD_READS_0,
     )?;
     Ok(())

@@ -3,15 +3,20 @@ ghost use Rattle.std.specs.Prelude.{◌≡◌, ◌≢◌, ◌≤◌, ◌<◌, �
 ghost use Rattle.std.specs.String.{string_bytes};
 ghost use Rattle.call_rules.specs.WellFormed.{IsWellFormed};
 ghost use Rattle.rma_types.specs.declared.scripts.Script.{Script as ScriptValue};
+ghost use Rattle.rma_types.specs.declared.schedules.Delay.TheVariants.{Seeded};
+ghost use Rattle.lawful_runs.specs.LawfulRun.{IsLawful};
+ghost use Rattle.order_rules.specs.OrderedReads.{TouchesAgree};
 ghost use Rattle.run_texts.specs.declared.modes.Mode.TheVariants.{Step as StepMode};
 ghost use Rattle.rma_streams.specs.Ends.{NoLateRead};
 ghost use Rattle.rma_streams.specs.Faults.{Rose};
 ghost use Rattle.rma_streams.specs.Moves.{Wrote, WrotePrefix};
 ghost use Rattle.script_language.specs.Reading.{Reads};
 ghost use Rattle.rma_runner.specs.Answers.{IsNoText, Refused, RefusedInPart, Reported, ReportedInPart};
+ghost use Rattle.rma_runner.specs.Headline.{CallsAreRefusedByClass, OfScript, PrintsFindings, ReadsAreOrdered};
+ghost use Rattle.rma_runner.specs.Headline.{RefusalsOfRunChangeNothing, TouchesReadStates, UpdatesStandOnce};
 ghost use Rattle.rma_runner.specs.Lines.{usage_line};
 ghost use Rattle.rma_runner.specs.Statuses.{IsRunStatus, IsStepStatus};
-ghost use Rattle.rma_runner.specs.Tops.{EndsFault, EndsRun, EndsScript, EndsUsage, StepEnds};
+ghost use Rattle.rma_runner.specs.Tops.{EndsFault, EndsJudged, EndsRun, EndsScript, EndsUsage, StepEnds};
 ghost use Rattle.rma_runner.specs.Words.{AreNoOptions, AreOptions, StandFor};
 
 use crate::inputs::{NoScript, read_script};
@@ -20,10 +25,13 @@ use crate::outcomes::{
 };
 use crate::outputs::{NoText, write_fault, write_report, write_usage};
 use command_words::{Options, WordsFault, read_words};
+use order_laws::order_of_a_run;
 use rank_runners::run_steps;
+use refusal_laws::refused_calls_change_nothing;
 use rma_record::Run;
 use rma_streams::{Sink, Source};
-use rma_types::{Gate, NoMemory, Script};
+use rma_types::{Finding, Gate, NoMemory, Script};
+use run_judge::judge;
 use run_report::status_of;
 use script_reader::Fault;
 use std::alloc::Global;
@@ -42,17 +50,23 @@ fn refuse_script<K: Sink>(alloc: Global, fault: Fault, sink: &mut K) -> Outcome
     }
 }
 
-/// Reports on a run, and hands it back.
-fn report_run<K: Sink>(alloc: Global, script: &Script, run: Run, sink: &mut K) -> Outcome
+/// Reports on a run and its findings, and hands the run back.
+fn report_run<K: Sink>(
+    alloc: Global,
+    script: &Script,
+    run: Run,
+    found: &[Finding],
+    sink: &mut K,
+) -> Outcome
     requires well_formed { IsWellFormed script.now }
-    ensures ends { EndsRun script.now run (K.written sink.old) (K.written sink.new) result }
+    ensures ends { EndsRun script.now run found.now (K.written sink.old) (K.written sink.new) result }
     ensures failed { result.status ≡ WRITE_FAILED → Rose (K.faults sink.old) (K.faults sink.new) }
     ensures no_fault { result.status ≢ WRITE_FAILED → K.faults sink.new ≡ K.faults sink.old }
     ensures never_falls { K.faults sink.old ≤ K.faults sink.new }
 {
-    match write_report(alloc, script, &run, sink) {
+    match write_report(alloc, script, &run, found, sink) {
         Ok(()) => Outcome {
-            status: status_of(&run, &[]),
+            status: status_of(&run, found),
             run: Some(run),
         },
         Err(NoText::Failed) => Outcome {
@@ -63,7 +77,23 @@ fn report_run<K: Sink>(alloc: Global, script: &Script, run: Run, sink: &mut K) -
     }
 }
 
-/// Runs a script by the options, and reports on the run.
+/// Judges a lawful run, and reports on it and its findings.
+fn judge_run<K: Sink>(alloc: Global, script: &Script, run: Run, sink: &mut K) -> Outcome
+    requires well_formed { IsWellFormed script.now }
+    requires lawful { IsLawful script.now Seeded run }
+    requires agrees { TouchesAgree script.now run }
+    ensures ends { EndsJudged script.now run (K.written sink.old) (K.written sink.new) result }
+    ensures failed { result.status ≡ WRITE_FAILED → Rose (K.faults sink.old) (K.faults sink.new) }
+    ensures no_fault { result.status ≢ WRITE_FAILED → K.faults sink.new ≡ K.faults sink.old }
+    ensures never_falls { K.faults sink.old ≤ K.faults sink.new }
+{
+    match judge(alloc, script, &run) {
+        Ok(found) => report_run(alloc, script, run, found.as_slice(), sink),
+        Err(NoMemory) => Outcome::without_run(OUT_OF_MEMORY),
+    }
+}
+
+/// Runs a script by the options, and judges and reports on the run.
 fn run_script<K: Sink>(alloc: Global, options: &Options, script: &Script, sink: &mut K) -> Outcome
     requires well_formed { IsWellFormed script.now }
     ensures ends { EndsScript options.now script.now (K.written sink.old) (K.written sink.new) result }
@@ -71,8 +101,9 @@ fn run_script<K: Sink>(alloc: Global, options: &Options, script: &Script, sink: 
     ensures no_fault { result.status ≢ WRITE_FAILED → K.faults sink.new ≡ K.faults sink.old }
     ensures never_falls { K.faults sink.old ≤ K.faults sink.new }
 {
+    order_of_a_run();
     match run_steps(alloc, script, options.order, options.delay, options.seed) {
-        Ok(run) => report_run(alloc, script, run, sink),
+        Ok(run) => judge_run(alloc, script, run, sink),
         Err(NoMemory) => Outcome::without_run(OUT_OF_MEMORY),
     }
 }
@@ -101,7 +132,8 @@ fn answer<S: Source, K: Sink>(
     }
 }
 
-/// Reads a script from a source, runs it on one thread, and writes the report on the run to a sink.
+/// Reads a script from a source, runs it on one thread, judges the run, and writes the report on it and its findings to
+/// a sink.
 ///
 /// It waits for nobody and returns. The status is that of the run, or 3 where the script is refused, 4 where a read
 /// failed, 5 where a write failed and 6 where memory ran out. The rules of the run are those of MPI 3.1, sections 11.2
@@ -116,11 +148,35 @@ pub fn step_main<S: Source, K: Sink>(
     requires source_count { S.faults source.old < 2 ^ 64 - 1 }
     requires sink_count { K.faults sink.old < 2 ^ 64 - 1 }
 
-    // The whole input says a script; its run on one thread is handed back, which is lawful, and its report was written.
+    // The whole input says a script; its run on one thread is handed back, which is lawful, and the report on it and
+    // its findings was written.
     ensures reported { IsRunStatus result.status
         → Reported options.now (S.left source.old) (S.left source.new) (K.written sink.old) (K.written sink.new) result.status result.run }
     // A run is handed back only with the status of a run, or where a write failed.
     ensures handed { IfSome result.run (λ _. IsRunStatus result.status ⊎ (result.status ≡ WRITE_FAILED)) }
+
+    // Of the run that is handed back: each recorded update stands once in its cell's one history.
+    ensures updates_stand_once { IfSome result.run
+        (OfScript options.now (S.left source.old) (S.left source.new) UpdatesStandOnce) }
+    // Every touch reads the state at its place.
+    ensures touches_read_states { IfSome result.run
+        (OfScript options.now (S.left source.old) (S.left source.new) TouchesReadStates) }
+    // A call is refused exactly by its named class.
+    ensures refused_by_class { IfSome result.run
+        (OfScript options.now (S.left source.old) (S.left source.new)
+        (CallsAreRefusedByClass options.now.delay)) }
+    // A refused call changes nothing.
+    ensures refusals_change_nothing { IfSome result.run
+        (OfScript options.now (S.left source.old) (S.left source.new)
+        (RefusalsOfRunChangeNothing options.now.delay)) }
+    // A finding is printed exactly where rules S1 to S3 forbid a pair of accesses that no recorded synchronisation
+    // orders.
+    ensures findings_printed { IfSome result.run
+        (OfScript options.now (S.left source.old) (S.left source.new)
+        (PrintsFindings (K.written sink.old) (K.written sink.new))) }
+    // Without findings, every get and load gives what the updates ordered before it left.
+    ensures reads_ordered { IfSome result.run
+        (OfScript options.now (S.left source.old) (S.left source.new) ReadsAreOrdered) }
 
     // The bytes taken are refused by their first fault.
     ensures refused { result.status ≡ SCRIPT_REFUSED
@@ -151,6 +207,7 @@ pub fn step_main<S: Source, K: Sink>(
         → S.faults source.new ≡ S.faults source.old → K.faults sink.new ≡ K.faults sink.old
         → (result.status ≡ SCRIPT_REFUSED) ⊎ (result.status ≡ OUT_OF_MEMORY) }
 {
+    refused_calls_change_nothing();
     answer(alloc, options, source, sink)
 }
 
@@ -187,6 +244,27 @@ pub fn rma_main<S: Source, K: Sink, G: Gate>(
         Reported options (S.left source.old) (S.left source.new) (K.written sink.old) (K.written sink.new) result.status result.run) }
     // A run is handed back only with the status of a run, or where a write failed.
     ensures handed { IfSome result.run (λ _. IsRunStatus result.status ⊎ (result.status ≡ WRITE_FAILED)) }
+
+    // Of the run that is handed back: each recorded update stands once in its cell's one history.
+    ensures updates_stand_once { IfSome result.run (λ run. StandFor (map string_bytes words.now) (λ options.
+        OfScript options (S.left source.old) (S.left source.new) UpdatesStandOnce run)) }
+    // Every touch reads the state at its place.
+    ensures touches_read_states { IfSome result.run (λ run. StandFor (map string_bytes words.now) (λ options.
+        OfScript options (S.left source.old) (S.left source.new) TouchesReadStates run)) }
+    // A call is refused exactly by its named class.
+    ensures refused_by_class { IfSome result.run (λ run. StandFor (map string_bytes words.now) (λ options.
+        OfScript options (S.left source.old) (S.left source.new) (CallsAreRefusedByClass options.delay) run)) }
+    // A refused call changes nothing.
+    ensures refusals_change_nothing { IfSome result.run (λ run. StandFor (map string_bytes words.now) (λ options.
+        OfScript options (S.left source.old) (S.left source.new) (RefusalsOfRunChangeNothing options.delay) run)) }
+    // A finding is printed exactly where rules S1 to S3 forbid a pair of accesses that no recorded synchronisation
+    // orders.
+    ensures findings_printed { IfSome result.run (λ run. StandFor (map string_bytes words.now) (λ options.
+        OfScript options (S.left source.old) (S.left source.new)
+        (PrintsFindings (K.written sink.old) (K.written sink.new)) run)) }
+    // Without findings, every get and load gives what the updates ordered before it left.
+    ensures reads_ordered { IfSome result.run (λ run. StandFor (map string_bytes words.now) (λ options.
+        OfScript options (S.left source.old) (S.left source.new) ReadsAreOrdered run)) }
 
     // The words stand for no options, and the line for that was written.
     ensures usage { result.status ≡ WORDS_REFUSED → AreNoOptions (map string_bytes words.now)

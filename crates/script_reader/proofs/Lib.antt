@@ -5,7 +5,9 @@ pub mod Charging
 pub mod Cuts
 pub mod Growing
 pub mod Keeping
+pub mod FormWords
 pub mod LineRanges
+pub mod Numbered
 pub mod TextLines
 pub mod TokenParts
 pub mod TokenRanges

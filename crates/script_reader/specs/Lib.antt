@@ -1,4 +1,5 @@
 -- What the parts of the reader give.
+pub mod Beginnings
 pub mod Lexing
 pub mod Answers
 pub mod Telling

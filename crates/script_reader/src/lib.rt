@@ -7,6 +7,7 @@
 mod calls;
 mod copies;
 mod errors;
+mod forms;
 mod integers;
 mod lexing;
 mod numerals;

@@ -1,60 +1,16 @@
 //! The words and names of a text.
-ghost use Rattle.std.specs.Prelude.{◌≡◌, ◌∷◌, ◌<◌};
+ghost use Rattle.std.specs.Prelude.{◌≡◌, ℕ, ◌∷◌, ◌<◌, ◌≤◌, ◌-◌, drop, min};
 ghost use Rattle.std.specs.Fmt.{decimal};
+ghost use Rattle.std.specs.List.{find, range_with_len};
 ghost use Rattle.std.specs.Str.{bytes_eq};
-ghost use Rattle.script_language.specs.Forms.{word_of_form, call_word};
 ghost use Rattle.script_language.specs.Words.{dtype_text, op_text, lock_text, assertion_text};
-ghost use Rattle.script_language.specs.Words.{form_named as the_form_named, dtype_named as the_dtype_named};
+ghost use Rattle.script_language.specs.Words.{dtype_named as the_dtype_named};
 ghost use Rattle.script_language.specs.Words.{op_named as the_op_named, lock_named as the_lock_named};
 ghost use Rattle.script_language.specs.Words.{assertion_named as the_assertion_named, window_named as the_window_named};
 ghost use Rattle.script_language.specs.Words.{request_named as the_request_named};
 
 use rma_types::{Dtype, Lock, Op};
-use script_language::{Assertion, CallForm, Form};
-
-const FORMS: [Form; 41] = [
-    Form::Ranks,
-    Form::Space,
-    Form::Rank,
-    Form::Repeat,
-    Form::End,
-    Form::Call(CallForm::Allocate),
-    Form::Call(CallForm::Create),
-    Form::Call(CallForm::Dynamic),
-    Form::Call(CallForm::Free),
-    Form::Call(CallForm::Attach),
-    Form::Call(CallForm::Detach),
-    Form::Call(CallForm::Fence),
-    Form::Call(CallForm::Post),
-    Form::Call(CallForm::Start),
-    Form::Call(CallForm::Complete),
-    Form::Call(CallForm::WaitWin),
-    Form::Call(CallForm::TestWin),
-    Form::Call(CallForm::LockOne),
-    Form::Call(CallForm::Unlock),
-    Form::Call(CallForm::LockAll),
-    Form::Call(CallForm::UnlockAll),
-    Form::Call(CallForm::Flush),
-    Form::Call(CallForm::FlushAll),
-    Form::Call(CallForm::FlushLocal),
-    Form::Call(CallForm::FlushLocalAll),
-    Form::Call(CallForm::Sync),
-    Form::Call(CallForm::Barrier),
-    Form::Call(CallForm::Put),
-    Form::Call(CallForm::RequestPut),
-    Form::Call(CallForm::Get),
-    Form::Call(CallForm::RequestGet),
-    Form::Call(CallForm::Acc),
-    Form::Call(CallForm::RequestAcc),
-    Form::Call(CallForm::GetAcc),
-    Form::Call(CallForm::RequestGetAcc),
-    Form::Call(CallForm::Fop),
-    Form::Call(CallForm::Cas),
-    Form::Call(CallForm::Load),
-    Form::Call(CallForm::Store),
-    Form::Call(CallForm::WaitReq),
-    Form::Call(CallForm::TestReq),
-];
+use script_language::Assertion;
 
 const DTYPES: [Dtype; 7] = [
     Dtype::Int8,
@@ -90,64 +46,6 @@ const ASSERTIONS: [Assertion; 5] = [
     Assertion::NoPrecede,
     Assertion::NoSucceed,
 ];
-
-/// The word of a call's form.
-fn call_text(form: CallForm) -> &'static str
-    ensures { result.now ≡ call_word form }
-{
-    match form {
-        CallForm::Allocate => "allocate",
-        CallForm::Create => "create",
-        CallForm::Dynamic => "dynamic",
-        CallForm::Free => "free",
-        CallForm::Attach => "attach",
-        CallForm::Detach => "detach",
-        CallForm::Fence => "fence",
-        CallForm::Post => "post",
-        CallForm::Start => "start",
-        CallForm::Complete => "complete",
-        CallForm::WaitWin => "wait",
-        CallForm::TestWin => "testwin",
-        CallForm::LockOne => "lock",
-        CallForm::Unlock => "unlock",
-        CallForm::LockAll => "lock_all",
-        CallForm::UnlockAll => "unlock_all",
-        CallForm::Flush => "flush",
-        CallForm::FlushAll => "flush_all",
-        CallForm::FlushLocal => "flush_local",
-        CallForm::FlushLocalAll => "flush_local_all",
-        CallForm::Sync => "sync",
-        CallForm::Barrier => "barrier",
-        CallForm::Put => "put",
-        CallForm::RequestPut => "rput",
-        CallForm::Get => "get",
-        CallForm::RequestGet => "rget",
-        CallForm::Acc => "acc",
-        CallForm::RequestAcc => "racc",
-        CallForm::GetAcc => "getacc",
-        CallForm::RequestGetAcc => "rgetacc",
-        CallForm::Fop => "fop",
-        CallForm::Cas => "cas",
-        CallForm::Load => "load",
-        CallForm::Store => "store",
-        CallForm::WaitReq => "waitreq",
-        CallForm::TestReq => "testreq",
-    }
-}
-
-/// The word that begins a line of a form.
-fn form_text(form: Form) -> &'static str
-    ensures { result.now ≡ word_of_form form }
-{
-    match form {
-        Form::Ranks => "ranks",
-        Form::Space => "space",
-        Form::Rank => "rank",
-        Form::Repeat => "repeat",
-        Form::End => "end",
-        Form::Call(call) => call_text(call),
-    }
-}
 
 /// The word of a datatype.
 fn dtype_word(x: Dtype) -> &'static str
@@ -214,15 +112,6 @@ pub fn is_text(text: &str, token: &[u8]) -> bool
     text.as_bytes() == token
 }
 
-pub fn form_named(token: &[u8]) -> Option<Form>
-    ensures { result ≡ the_form_named token.now }
-{
-    FORMS
-        .iter()
-        .copied()
-        .find(|x| is_text(form_text(*x), token))
-}
-
 pub fn dtype_named(token: &[u8]) -> Option<Dtype>
     ensures { result ≡ the_dtype_named token.now }
 {
@@ -274,16 +163,58 @@ fn is_token(text: &[u8], token: &[u8]) -> bool
     text == token
 }
 
+/// The digit that a byte writes. Any other byte counts as some digit too.
+fn digit(byte: u8) -> u8
+    ensures { result ≡ min (byte - 48) 9 }
+{
+    byte.saturating_sub(b'0').min(9)
+}
+
+/// The number below 100 that the digits write, where they write one without a leading zero.
+fn short_number(digits: &[u8]) -> u8
+    ensures number { (n : ℕ) → n < 100 → decimal n ≡ digits.now → result ≡ n }
+    ensures below { result < 100 }
+{
+    match digits {
+        [last] => digit(*last),
+        [first, last] => digit(*first) * 10 + digit(*last),
+        _ => 0,
+    }
+}
+
+/// The bytes behind the first.
+fn behind_first(token: &[u8]) -> &[u8]
+    ensures { result.now ≡ drop 1 token.now }
+{
+    match token {
+        [_, rest @ ..] => rest,
+        [] => token,
+    }
+}
+
+/// The number below the limit that follows the letter.
+fn numbered(letter: u8, limit: u8, token: &[u8]) -> Option<u8>
+    requires { limit ≤ 100 }
+    ensures { result ≡ find (λ n. bytes_eq (letter ∷ decimal n) token.now) (range_with_len 0 limit) }
+{
+    let number = short_number(behind_first(token));
+    if number < limit && is_name(letter, number, token) {
+        Some(number)
+    } else {
+        None
+    }
+}
+
 /// A window's name, from 0 to 31.
 pub fn window_named(token: &[u8]) -> Option<u8>
     ensures { result ≡ the_window_named token.now }
 {
-    (0..32u8).find(|number| is_name(b'w', *number, token))
+    numbered(b'w', 32, token)
 }
 
 /// A request's name, from 0 to 63.
 pub fn request_named(token: &[u8]) -> Option<u8>
     ensures { result ≡ the_request_named token.now }
 {
-    (0..64u8).find(|number| is_name(b'q', *number, token))
+    numbered(b'q', 64, token)
 }

@@ -1,6 +1,7 @@
 -- Each clause follows from how the call ends.
 use Rattle.std.proofs.Common.{◌≡◌, arith}
 use Rattle.rma_runner.proofs.Ending as ending
+use Rattle.rma_runner.proofs.Points as points
 use Rattle.rma_runner.proofs.tops.step_main.Goals as goal
 
 pub returns : goal.returns
@@ -19,6 +20,13 @@ returns g c =
     record {
       reported = ending.reported options lb la before after outcome case;
       handed = ending.handed options lb la before after outcome case;
+      updates_stand_once = points.updates_stand_once options lb la before after outcome case;
+      touches_read_states = points.touches_read_states options lb la before after outcome case;
+      refused_by_class = points.refused_by_class options lb la before after outcome case;
+      refusals_change_nothing = points.refusals_change_nothing c.refused_calls_change_nothing.ensures options lb la
+          before after outcome case;
+      findings_printed = points.findings_printed options lb la before after outcome case;
+      reads_ordered = points.reads_ordered options lb la before after outcome case;
       refused = ending.refused options lb la before after outcome case;
       unread = ending.unread options lb la before after outcome case;
       cut = ending.cut options lb la before after outcome case;

@@ -1,0 +1,2 @@
+-- Laws of refused calls.
+pub mod RefusalLaws

@@ -1,0 +1,2 @@
+-- What follows where a run has no findings.
+pub mod WithoutFindings

@@ -1,0 +1,2 @@
+-- What a judgement says of a run.
+pub mod Judgements
