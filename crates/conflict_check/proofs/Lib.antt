@@ -1,11 +1,14 @@
 -- Parts of lists, and points that stand for others.
-pub mod Parts
 pub mod Alikes
+pub mod DoneParts
 pub mod Finds
-pub mod RankSteps
+pub mod Groups
 pub mod KeptParts
+pub mod Least
 pub mod Parted
+pub mod Parts
+pub mod RankSteps
 pub mod SoughtSteps
 pub mod Stands
-pub mod DoneParts
+pub mod Towards
 pub mod VisibleParts

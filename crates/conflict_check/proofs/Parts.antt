@@ -10,7 +10,7 @@ use Rattle.order_rules.specs.Ordered.{JudgedAccess}
 use Rattle.conflict_check.specs.Alike.{judged_by}
 use Rattle.conflict_check.specs.declared.accesses.JudgedPoints.{JudgedPoints}
 
-drop_at : {X : Type 0} (xs : List X) (k : ℕ) (d : X) → k < length xs →
+pub drop_at : {X : Type 0} (xs : List X) (k : ℕ) (d : X) → k < length xs →
     drop k xs ≡ slice_index_or xs k d ∷ drop (suc k) xs
 drop_at [] k d within = absurd (omega arith)
 drop_at (x ∷ xs) zero d within = refl
@@ -21,6 +21,18 @@ take_at : {X : Type 0} (xs : List X) (k : ℕ) (d : X) → k < length xs → tak
 take_at [] k d within = absurd (omega arith)
 take_at (x ∷ xs) zero d within = refl
 take_at (x ∷ xs) (suc k) d within = ap (λ l. x ∷ l) (take_at xs k d (omega (arith, within)))
+
+-- one access more
+pub taken_more : (accesses : List JudgedPoints) (k : ℕ) (d : JudgedPoints) → k < length accesses →
+    map judged_by (take k accesses) ++ judged_by (slice_index_or accesses k d) ∷ []
+    ≡ map judged_by (take (k + 1) accesses)
+taken_more accesses k d within =
+    sym (map-append judged_by (take k accesses) (slice_index_or accesses k d ∷ []))
+    ∙ ap (map judged_by) (sym (take_at accesses k d within))
+    ∙ ap (λ n. map judged_by (take n accesses)) next
+  where
+    next : suc k ≡ k + 1
+    next = omega arith
 
 -- the finding of the next access, and what is left after it
 pub findings_step : (model : Model) (before : Id → Id → Bool) (accesses : List JudgedPoints) (k : ℕ)

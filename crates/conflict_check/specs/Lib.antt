@@ -1,3 +1,4 @@
 -- Findings of accesses with their points.
 pub mod Alike
 pub mod KeptPoints
+pub mod Reached

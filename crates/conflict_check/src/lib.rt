@@ -8,6 +8,7 @@ mod accesses;
 mod calls;
 mod pairs;
 mod points;
+mod reaches;
 mod run_findings;
 mod searches;
 #[cfg(test)]

@@ -115,7 +115,8 @@ fn answer<S: Source, K: Sink>(
     source: &mut S,
     sink: &mut K,
 ) -> Outcome
-    ensures ends { StepEnds options.now (S.left source.old) (S.left source.new) (K.written sink.old) (K.written sink.new) result }
+    ensures ends { StepEnds options.now (S.left source.old) (S.left source.new)
+        (K.written sink.old) (K.written sink.new) result }
     ensures read_failed { result.status ≡ READ_FAILED → Rose (S.faults source.old) (S.faults source.new) }
     ensures no_read_fault { result.status ≢ READ_FAILED → S.faults source.new ≡ S.faults source.old }
     ensures write_failed { result.status ≡ WRITE_FAILED → Rose (K.faults sink.old) (K.faults sink.new) }
@@ -151,7 +152,8 @@ pub fn step_main<S: Source, K: Sink>(
     // The whole input says a script; its run on one thread is handed back, which is lawful, and the report on it and
     // its findings was written.
     ensures reported { IsRunStatus result.status
-        → Reported options.now (S.left source.old) (S.left source.new) (K.written sink.old) (K.written sink.new) result.status result.run }
+        → Reported options.now (S.left source.old) (S.left source.new)
+        (K.written sink.old) (K.written sink.new) result.status result.run }
     // A run is handed back only with the status of a run, or where a write failed.
     ensures handed { IfSome result.run (λ _. IsRunStatus result.status ⊎ (result.status ≡ WRITE_FAILED)) }
 
@@ -185,9 +187,11 @@ pub fn step_main<S: Source, K: Sink>(
     ensures unread { result.status ≡ READ_FAILED → (K.written sink.new ≡ K.written sink.old) × (result.run ≡ None) }
     // A write failed, after a front of the text.
     ensures cut { result.status ≡ WRITE_FAILED
-        → ReportedInPart options.now (S.left source.old) (S.left source.new) (K.written sink.old) (K.written sink.new) result.run
+        → ReportedInPart options.now (S.left source.old) (S.left source.new)
+        (K.written sink.old) (K.written sink.new) result.run
         ⊎ RefusedInPart (S.left source.old) (S.left source.new) (K.written sink.old) (K.written sink.new) result.run }
-    ensures no_memory { result.status ≡ OUT_OF_MEMORY → (K.written sink.new ≡ K.written sink.old) × (result.run ≡ None) }
+    ensures no_memory { result.status ≡ OUT_OF_MEMORY → (K.written sink.new ≡ K.written sink.old) ×
+        (result.run ≡ None) }
     ensures statuses { IsStepStatus result.status }
 
     // The counts of faults rise exactly where the status says so.
@@ -241,7 +245,8 @@ pub fn rma_main<S: Source, K: Sink, G: Gate>(
     // The whole input says a script; its run by the options that the words stand for is handed back, which is lawful,
     // and its report was written.
     ensures reported { IsRunStatus result.status → StandFor (map string_bytes words.now) (λ options.
-        Reported options (S.left source.old) (S.left source.new) (K.written sink.old) (K.written sink.new) result.status result.run) }
+        Reported options (S.left source.old) (S.left source.new)
+        (K.written sink.old) (K.written sink.new) result.status result.run) }
     // A run is handed back only with the status of a run, or where a write failed.
     ensures handed { IfSome result.run (λ _. IsRunStatus result.status ⊎ (result.status ≡ WRITE_FAILED)) }
 
@@ -281,12 +286,14 @@ pub fn rma_main<S: Source, K: Sink, G: Gate>(
     ensures unread { result.status ≡ READ_FAILED → (K.written sink.new ≡ K.written sink.old) × (result.run ≡ None) }
     // A write failed, after a front of the text.
     ensures cut { AreOptions (map string_bytes words.now) → result.status ≡ WRITE_FAILED
-        → StandFor (map string_bytes words.now) (λ options. ReportedInPart options (S.left source.old) (S.left source.new)
+        → StandFor (map string_bytes words.now) (λ options. ReportedInPart options (S.left source.old)
+        (S.left source.new)
         (K.written sink.old) (K.written sink.new) result.run)
         ⊎ RefusedInPart (S.left source.old) (S.left source.new) (K.written sink.old) (K.written sink.new) result.run }
     ensures usage_cut { AreNoOptions (map string_bytes words.now) → result.status ≡ WRITE_FAILED
         → WrotePrefix (K.written sink.old) usage_line (K.written sink.new) × (result.run ≡ None) }
-    ensures no_memory { result.status ≡ OUT_OF_MEMORY → (K.written sink.new ≡ K.written sink.old) × (result.run ≡ None) }
+    ensures no_memory { result.status ≡ OUT_OF_MEMORY → (K.written sink.new ≡ K.written sink.old) ×
+        (result.run ≡ None) }
 
     // The counts of faults rise exactly where the status says so.
     ensures read_fault { result.status ≡ READ_FAILED → S.faults source.old < S.faults source.new }

@@ -61,8 +61,8 @@ pushed_at script delay rank first agent next rows call step formed inside at ent
 
 -- ---- the numbers of windows
 
-pub count_names : (win : ℕ) (xs ys : List ℕ) → count_by (λ name. name == win) (xs ++ ys) ≡ count_by (λ name. name == win)
-    xs + count_by (λ name. name == win) ys
+pub count_names : (win : ℕ) (xs ys : List ℕ) →
+    count_by (λ name. name == win) (xs ++ ys) ≡ count_by (λ name. name == win) xs + count_by (λ name. name == win) ys
 count_names win xs ys = sum_by-append (λ name. cond (name == win) 1 0) xs ys
 
 -- a call that begins to make a window of the name counts once

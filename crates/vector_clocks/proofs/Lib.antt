@@ -1,7 +1,9 @@
 -- Clocks keep their laws.
+
 pub mod Asks
 pub mod Chains
 pub mod Entered
+pub mod FirstCounts
 pub mod Gains
 pub mod Greater
 pub mod Insides

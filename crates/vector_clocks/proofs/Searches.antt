@@ -11,13 +11,13 @@ use Rattle.order_laws.proofs.Members.{In, here, there, any_in, in_any, in_contai
 use Rattle.vector_clocks.specs.Marks.{IsBelow, IsSorted, is_marked}
 use Rattle.vector_clocks.specs.declared.marks.Mark.{Mark}
 
-element_in : (marks : List Mark) (k : ℕ) (d : Mark) → k < length marks → In (slice_index_or marks k d) marks
+pub element_in : (marks : List Mark) (k : ℕ) (d : Mark) → k < length marks → In (slice_index_or marks k d) marks
 element_in [] k d within = absurd (omega arith)
 element_in (mark ∷ rest) zero d within = here
 element_in (mark ∷ rest) (suc k) d within = there (element_in rest k d (omega (arith, within)))
 
 -- of two marks, the earlier one is below the later one
-ordered : (marks : List Mark) → IsSorted marks → (i j : ℕ) (d : Mark) → i < j → j < length marks →
+pub ordered : (marks : List Mark) → IsSorted marks → (i j : ℕ) (d : Mark) → i < j → j < length marks →
     IsBelow (slice_index_or marks i d) (slice_index_or marks j d)
 ordered [] sorted i j d up within = absurd (omega arith)
 ordered (mark ∷ rest) sorted i zero d up within = absurd (omega arith)
@@ -39,7 +39,7 @@ parted marks index sorted i j d up within passes = elim (cases_lt i j) [
 ]
 
 -- where a member stands
-position_of : {mark : Mark} {marks : List Mark} → In mark marks →
+pub position_of : {mark : Mark} {marks : List Mark} → In mark marks →
     (k : ℕ) × (k < length marks) × ((d : Mark) → slice_index_or marks k d ≡ mark)
 position_of here = (0, omega arith, λ d. refl)
 position_of (there m) = let rest = position_of m in (suc rest.0, omega (arith, rest.1), λ d. rest.2 d)

@@ -4,3 +4,4 @@ pub mod Numbers
 pub mod Places
 pub mod Replays
 pub mod Wide
+pub mod Firsts

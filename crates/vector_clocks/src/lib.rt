@@ -2,6 +2,7 @@
 #![tactic(auto)]
 
 mod clocks;
+mod firsts;
 mod marks;
 mod places;
 mod replays;

@@ -1,39 +1,49 @@
 -- The first access that forms a pair is found.
-use Rattle.std.proofs.Common.{Some, ap, sym, ◌+◌, ◌∙◌}
-use Rattle.std.specs.Prelude.{drop, map}
+use Rattle.std.proofs.Common.{rules, ◌≡◌, ◌+◌, ◌≤◌, List, [], ◌∷◌, length, Option, Some, None, ap, sym, subst, ◌∙◌}
+use Rattle.std.specs.Prelude.{drop}
 use Rattle.std.specs.Option.{option_map_or}
-use Rattle.order_rules.specs.Findings.{first_finding}
+use Rattle.rma_types.specs.declared.findings.Rule.{Rule}
+use Rattle.order_rules.specs.Findings.{first_finding, forbidden}
+use Rattle.order_rules.specs.Ordered.{JudgedAccess}
 use Rattle.vector_clocks.specs.Marks.{before_in}
-use Rattle.conflict_check.specs.Alike.{judged_by}
-use Rattle.conflict_check.proofs.Parts.{first_step}
+use Rattle.conflict_check.specs.Reached.{IsReached}
+use Rattle.conflict_check.specs.declared.reaches.Reached.{Reached}
+use Rattle.conflict_check.proofs.Groups.{each_at, none_left}
 use Rattle.conflict_check.proofs.pairs.first_finding.Goals as goal
 
 pub returns-in-Some : goal.returns-in-Some
-returns-in-Some c =
-    ap (λ o. option_map_or (λ rule. Some (record {
-      first = c.a-item.result.id;
-      second = c.args.b.now.id;
-      rule =
-          rule;
-    })) o
-    (first_finding c.args.model (before_in c.args.clocks.now)
-    (map judged_by (drop (c.loop-a.a-index + 1) c.args.accesses.now)) (judged_by c.args.b.now)))
-    (sym c.in-Some.is ∙ c.forbidden.ensures)
-    ∙ first_step c.args.model (before_in c.args.clocks.now) (judged_by c.args.b.now) c.args.accesses.now
-    c.loop-a.a-index c.a-item.result c.loop-a-test.true c.a-item.is
-    ∙ c.loop-a.invariant
+returns-in-Some c earlier second all it =
+    let before = before_in c.args.clocks.now in
+    let a = c.a-item.result in
+    let one = each_at before c.args.accesses.now earlier c.loop-a.a-index a all c.loop-a-test.true in
+    let x = one.0 in
+    let first : IsReached before a x = subst (λ (r : Reached). IsReached before r x) (sym c.a-item.is) one.1 in
+    let rest = first_finding c.args.model before (drop (c.loop-a.a-index + 1) earlier) second in
+    (λ i. Some (record { first = (first.points i).id; second = (it.points i).id; rule = c.in-Some.rule }))
+    ∙ ap (λ (o : Option Rule). option_map_or
+    (λ rule. Some (record { first = x.id; second = second.id; rule = rule })) o rest)
+    (sym c.in-Some.is ∙ c.forbidden.ensures x second first it)
+    ∙ sym (ap (λ l. first_finding c.args.model before l second) one.2)
+    ∙ c.loop-a.invariant earlier second all it
 
 pub loop-a-preserved : goal.loop-a-preserved
-loop-a-preserved c =
-    ap (λ o. option_map_or (λ rule. Some (record {
-      first = c.a-item.result.id;
-      second = c.args.b.now.id;
-      rule =
-          rule;
-    })) o
-    (first_finding c.args.model (before_in c.args.clocks.now)
-    (map judged_by (drop (c.loop-a.a-index + 1) c.args.accesses.now)) (judged_by c.args.b.now)))
-    (sym c.in-None.is ∙ c.forbidden.ensures)
-    ∙ first_step c.args.model (before_in c.args.clocks.now) (judged_by c.args.b.now) c.args.accesses.now
-    c.loop-a.a-index c.a-item.result c.loop-a-test.true c.a-item.is
-    ∙ c.loop-a.invariant
+loop-a-preserved c earlier second all it =
+    let before = before_in c.args.clocks.now in
+    let a = c.a-item.result in
+    let one = each_at before c.args.accesses.now earlier c.loop-a.a-index a all c.loop-a-test.true in
+    let x = one.0 in
+    let first : IsReached before a x = subst (λ (r : Reached). IsReached before r x) (sym c.a-item.is) one.1 in
+    let rest = first_finding c.args.model before (drop (c.loop-a.a-index + 1) earlier) second in
+    ap (λ (o : Option Rule). option_map_or
+    (λ rule. Some (record { first = x.id; second = second.id; rule = rule })) o rest)
+    (sym c.in-None.is ∙ c.forbidden.ensures x second first it)
+    ∙ sym (ap (λ l. first_finding c.args.model before l second) one.2)
+    ∙ c.loop-a.invariant earlier second all it
+
+pub returns : goal.returns
+returns c earlier second all it =
+    let before = before_in c.args.clocks.now in
+    let end : length c.args.accesses.now ≤ c.loop-a.a-index = search rules in
+    ap (λ l. first_finding c.args.model before l second)
+    (sym (none_left before c.args.accesses.now earlier c.loop-a.a-index all end))
+    ∙ c.loop-a.invariant earlier second all it

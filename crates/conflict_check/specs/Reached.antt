@@ -1,0 +1,39 @@
+-- Accesses with the items that come after them: after MPI 3.1, section 11.7, in this project's profile.
+use Rattle.std.specs.Prelude.{ℕ, ◌≡◌, ◌<◌, ◌==◌, Bool, List, [], ◌∷◌, slice_index, slice_index_or}
+use Rattle.std.specs.List.{filter}
+use Rattle.rma_types.specs.declared.accesses.Id.{Id}
+use Rattle.order_rules.specs.Ordered.{JudgedAccess, points_for, role_in}
+use Rattle.order_rules.specs.Roles.{RmaUpdate, Load}
+use Rattle.rma_rules.specs.Same.{role_by}
+use Rattle.vector_clocks.specs.Firsts.{IsFirstOf, item_at}
+use Rattle.conflict_check.specs.Alike.{judged_by, reaches}
+use Rattle.conflict_check.specs.declared.reaches.Reached.{Reached}
+
+-- for each rank, the first index of its log from which on its items come after one of the points
+abbrev pub AreFirsts : (Id → Id → Bool) → List Id → List ℕ → Type 0
+AreFirsts before points firsts = (rank : ℕ) → rank < 16 →
+    IsFirstOf (λ index. reaches before points (item_at rank index)) (slice_index firsts rank)
+
+-- the access with what comes after it: RMA accesses, and loads and stores
+pub record IsReached (before : Id → Id → Bool) (r : Reached) (a : JudgedAccess) : Type 0 where
+  pub points : judged_by r.points.now ≡ a
+  pub part : role_by r.part ≡ role_in a
+  pub rma : AreFirsts before (points_for a (role_in a) RmaUpdate) r.towards_rma
+  pub local : AreFirsts before (points_for a (role_in a) Load) r.towards_local
+
+abbrev pub AreReached : (Id → Id → Bool) → List Reached → List JudgedAccess → Type 0
+AreReached before [] [] = Unit {0}
+AreReached before [] (a ∷ accesses) = ⊥
+AreReached before (r ∷ rest) [] = ⊥
+AreReached before (r ∷ rest) (a ∷ accesses) = IsReached before r a × AreReached before rest accesses
+
+-- ---- by target
+
+-- the accesses that reach the memory of this rank
+abbrev pub at_target : ℕ → List JudgedAccess → List JudgedAccess
+at_target target accesses = filter (λ (a : JudgedAccess). a.access.target == target) accesses
+
+-- for each rank, the accesses that reach its memory
+abbrev pub AreGroups : (Id → Id → Bool) → List (List Reached) → List JudgedAccess → Type 0
+AreGroups before groups accesses = (target : ℕ) → target < 256 →
+    AreReached before (slice_index_or groups target []) (at_target target accesses)
