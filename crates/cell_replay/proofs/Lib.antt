@@ -1,0 +1,6 @@
+-- What the folds of updates ask, and lists that are gone through.
+pub mod Fitting
+pub mod Making
+pub mod Naming
+pub mod Reading
+pub mod Steps

@@ -1,0 +1,2 @@
+-- The touches of a run as the code keeps them.
+pub mod Kept
