@@ -31,7 +31,8 @@ impl Model for PlainMemory {
 
     ghost view = { λ memory. record { cells = memory.cells.items; share = memory.share; moves = memory.moves } };
 
-    ghost invariant = { λ memory. AllByRecursion (λ (cell : Cell). cell.place + memory.share ≤ 4294967295) memory.cells.items };
+    ghost invariant = { λ memory.
+        AllByRecursion (λ (cell : Cell). cell.place + memory.share ≤ 4294967295) memory.cells.items };
 }
 
 impl PlainMemory {
@@ -40,7 +41,8 @@ impl PlainMemory {
 
     /// One cell for each number of `init`, with these bits, at place 0.
     pub fn new(alloc: Global, init: &[u32]) -> Result<PlainMemory, NoMemory>
-        ensures cells { IfOk result (λ memory. memory.cells ≡ map (λ (bits : ℕ). record { bits = bits; place = 0 }) init.now) }
+        ensures cells { IfOk result (λ memory.
+            memory.cells ≡ map (λ (bits : ℕ). record { bits = bits; place = 0 }) init.now) }
         ensures share { IfOk result (λ memory. memory.share ≡ 4294967295) }
         ensures moves { IfOk result (λ memory. memory.moves ≡ 0) }
     {

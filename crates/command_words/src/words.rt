@@ -61,7 +61,8 @@ fn text_of<'a>(matches: &ArgMatches<'a>, name: &str) -> Option<&'a str>
 }
 
 fn mode_given(matches: &ArgMatches) -> Option<Mode>
-    ensures { result ≡ rules.value_or (DEFAULT_OPTIONS.mode) mode_of (first_of (codes "mode") (rows_of (found_of matches.now))) }
+    ensures { result ≡ rules.value_or (DEFAULT_OPTIONS.mode) mode_of
+        (first_of (codes "mode") (rows_of (found_of matches.now))) }
 {
     match text_of(matches, "mode") {
         Some(text) => mode_in(text),
@@ -70,7 +71,8 @@ fn mode_given(matches: &ArgMatches) -> Option<Mode>
 }
 
 fn order_given(matches: &ArgMatches) -> Option<Order>
-    ensures { result ≡ rules.value_or (DEFAULT_OPTIONS.order) order_of (first_of (codes "order") (rows_of (found_of matches.now))) }
+    ensures { result ≡ rules.value_or (DEFAULT_OPTIONS.order) order_of
+        (first_of (codes "order") (rows_of (found_of matches.now))) }
 {
     match text_of(matches, "order") {
         Some(text) => order_in(text),
@@ -79,7 +81,8 @@ fn order_given(matches: &ArgMatches) -> Option<Order>
 }
 
 fn workers_given(matches: &ArgMatches) -> Option<u8>
-    ensures { result ≡ rules.value_or (DEFAULT_OPTIONS.workers) workers_of (first_of (codes "workers") (rows_of (found_of matches.now))) }
+    ensures { result ≡ rules.value_or (DEFAULT_OPTIONS.workers) workers_of
+        (first_of (codes "workers") (rows_of (found_of matches.now))) }
 {
     match text_of(matches, "workers") {
         Some(text) => workers_in(text),
@@ -88,7 +91,8 @@ fn workers_given(matches: &ArgMatches) -> Option<u8>
 }
 
 fn delay_given(matches: &ArgMatches) -> Option<Delay>
-    ensures { result ≡ rules.value_or (DEFAULT_OPTIONS.delay) delay_of (first_of (codes "delay") (rows_of (found_of matches.now))) }
+    ensures { result ≡ rules.value_or (DEFAULT_OPTIONS.delay) delay_of
+        (first_of (codes "delay") (rows_of (found_of matches.now))) }
 {
     match text_of(matches, "delay") {
         Some(text) => delay_in(text),
@@ -97,7 +101,8 @@ fn delay_given(matches: &ArgMatches) -> Option<Delay>
 }
 
 fn seed_given(matches: &ArgMatches) -> Option<u32>
-    ensures { result ≡ rules.value_or (DEFAULT_OPTIONS.seed) seed_of (first_of (codes "seed") (rows_of (found_of matches.now))) }
+    ensures { result ≡ rules.value_or (DEFAULT_OPTIONS.seed) seed_of
+        (first_of (codes "seed") (rows_of (found_of matches.now))) }
 {
     match text_of(matches, "seed") {
         Some(text) => seed_in(text),
@@ -132,8 +137,10 @@ fn why_none(error: &Error) -> WordsFault
 #[tactic(auto, using(crate::proofs::Matches::command_is_free, crate::proofs::Matches::command_is_simple, crate::proofs::Matches::some_kind))]
 fn matches_in<'a>(alloc: Global, words: &'a [String]) -> Result<ArgMatches<'a>, WordsFault>
     ensures taken { IfOk result (λ _. fault_of rules.command (map string_bytes words.entry.now) ≡ []) }
-    ensures rows { IfOk result (λ found. rows_of (found_of found) ≡ matches_of rules.command (map string_bytes words.entry.now)) }
-    ensures refused { IfErr result (λ why. why ≡ WordsFault.Usage → is_empty (fault_of rules.command (map string_bytes words.entry.now)) ≡ false) }
+    ensures rows { IfOk result (λ found.
+        rows_of (found_of found) ≡ matches_of rules.command (map string_bytes words.entry.now)) }
+    ensures refused { IfErr result (λ why. why ≡ WordsFault.Usage →
+        is_empty (fault_of rules.command (map string_bytes words.entry.now)) ≡ false) }
 {
     let Ok(command) = whole_command(alloc) else {
         return Err(WordsFault::NoMemory);
@@ -147,7 +154,8 @@ fn matches_in<'a>(alloc: Global, words: &'a [String]) -> Result<ArgMatches<'a>, 
 /// The options that the words of the command line stand for, by the definition of all lists of words (`options_of`).
 pub fn read_words(alloc: Global, words: &[String]) -> Result<Options, WordsFault>
     ensures ok { IfOk result (λ options. rules.options_of (map string_bytes words.now) ≡ Some options) }
-    ensures refused { IfErr result (λ why. why ≡ WordsFault.Usage → rules.options_of (map string_bytes words.now) ≡ None) }
+    ensures refused { IfErr result (λ why. why ≡ WordsFault.Usage →
+        rules.options_of (map string_bytes words.now) ≡ None) }
 {
     let matches = matches_in(alloc, words)?;
     match options_in(&matches) {

@@ -30,7 +30,8 @@ impl Target {
 
     /// A lock of some kind is held.
     pub(crate) fn is_held(&self) -> bool
-        ensures { (window target : ℕ) → result ≡ list_any (λ (_ : Held). true) (locks_at_target window target self.now) }
+        ensures { (window target : ℕ) →
+            result ≡ list_any (λ (_ : Held). true) (locks_at_target window target self.now) }
     {
         match *self {
             Target::Shared(holders) => holders != 0,
@@ -69,7 +70,8 @@ impl Target {
     pub(crate) fn without(self, rank: u8) -> Target
         requires { rank < 16 }
         ensures { (window target : ℕ) →
-            HasSameLocks (locks_at_target window target result) (kept rank window target (locks_at_target window target self)) }
+            HasSameLocks (locks_at_target window target result)
+            (kept rank window target (locks_at_target window target self)) }
     {
         match self {
             Target::Shared(holders) => Target::Shared(holders & !(1u16 << rank)),

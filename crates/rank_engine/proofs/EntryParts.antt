@@ -155,7 +155,8 @@ opened_sound s call step place log free home board face sound ready new opens lo
 
 -- ---- the entry that ends a call
 
-pub one_entry_makes_none : (known : RankWindows) (call : Call) → IsOneEntry (course_of known call) → creation_of call ≡ None
+pub one_entry_makes_none : (known : RankWindows) (call : Call) →
+    IsOneEntry (course_of known call) → creation_of call ≡ None
 one_entry_makes_none known call one = by_creation (creation_of call) refl
   where
     by_creation : (o : Option Creation) → creation_of call ≡ o → o ≡ None
@@ -174,7 +175,8 @@ only_created Meets made e = tt
 only_created (Moves t) made e = tt
 only_created (EndsRequest req) made e = tt
 
-pub only_parts : (shapes : ℕ → List Part) (known : RankWindows) (a : Action) (made : Option Shape) → creation_in a ≡ None →
+pub only_parts : (shapes : ℕ → List Part) (known : RankWindows) (a : Action) (made : Option Shape) →
+    creation_in a ≡ None →
     HasParts shapes known a made
 only_parts shapes known (Creates creation) made e = absurd (cc e)
 only_parts shapes known (Frees win) made e = tt

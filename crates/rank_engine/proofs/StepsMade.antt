@@ -46,15 +46,16 @@ pub steps_delivered : (before between after : RankState) (at : ℕ) (done : Bool
     IsDelivered (Some at) between after done face face_after knows →
     length after.agent.log ≤ length between.agent.log + 256 → after.free ≤ between.free →
     StepsOnMemory before after done face face_after knows
-steps_delivered before between after at done face face_after knows sound sound_between move delivered few free = record {
-  delivered = subst (λ o. IsDelivered o (moved before) after done face face_after knows) move.place_is
-      (subst (λ (s : RankState). IsDelivered (Some at) s after done face face_after knows) move.rank delivered);
-  few = let more = move_few before between (Some at) move in omega arith;
-  free = let less = move.below in omega arith;
-  share = let less = move_share before between (Some at) sound move in
-      let ahead = delivered_ahead between after at done face face_after knows sound_between delivered.0 delivered.1 in
-      omega arith;
-}
+steps_delivered before between after at done face face_after knows sound sound_between move delivered few free =
+    record {
+      delivered = subst (λ o. IsDelivered o (moved before) after done face face_after knows) move.place_is
+          (subst (λ (s : RankState). IsDelivered (Some at) s after done face face_after knows) move.rank delivered);
+      few = let more = move_few before between (Some at) move in omega arith;
+      free = let less = move.below in omega arith;
+      share = let less = move_share before between (Some at) sound move in
+          let ahead = delivered_ahead between after at done face face_after knows sound_between delivered.0 delivered.1 in
+          omega arith;
+    }
 
 -- the memory has room after the move
 pub room_after : (before between : RankState) (place : Option ℕ) (face : Face) → IsSound before →

@@ -21,7 +21,8 @@ pub fn synchronisation_class(
     has_wrong_assert: bool,
     is_allowed: bool,
 ) -> Option<Class>
-    ensures { result ≡ class_of_first ((names_wrong_rank, Rank) ∷ (has_wrong_assert, Assert) ∷ (not is_allowed, Sync) ∷ []) }
+    ensures { result ≡
+        class_of_first ((names_wrong_rank, Rank) ∷ (has_wrong_assert, Assert) ∷ (not is_allowed, Sync) ∷ []) }
 {
     first_class(&[
         (names_wrong_rank, Class::Rank),

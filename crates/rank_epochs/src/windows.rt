@@ -161,7 +161,8 @@ impl WindowEpochs {
     pub fn post(&mut self, group: &[i32])
         requires few { length group.now ≤ 16 }
         requires ranks { IsTrue (list_all (is_rank_of 16) group.now) }
-        ensures access { self.new.access ≡ (if rules.is_fence_unused self.old.access then rules.Idle else self.old.access) }
+        ensures access { self.new.access ≡
+            (if rules.is_fence_unused self.old.access then rules.Idle else self.old.access) }
         ensures exposure { self.new.exposure ≡ rules.PostTo (members group.now) }
     {
         if self.access.is_fence_unused() {

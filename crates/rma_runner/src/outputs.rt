@@ -101,7 +101,8 @@ pub fn write_report<K: Sink>(
     sink: &mut K,
 ) -> Result<(), NoText>
     requires well_formed { IsWellFormed script.now }
-    ensures text { WritesOrStops (K.written sink.old) (K.written sink.new) (report_on script.now run.now found.now) result }
+    ensures text { WritesOrStops (K.written sink.old) (K.written sink.new)
+        (report_on script.now run.now found.now) result }
     ensures failed { result ≡ Err NoText.Failed → Rose (K.faults sink.old) (K.faults sink.new) }
     ensures no_fault { (result ≡ Err NoText.Failed → ⊥) → K.faults sink.new ≡ K.faults sink.old }
     ensures never_falls { K.faults sink.old ≤ K.faults sink.new }

@@ -1,5 +1,6 @@
 -- A word is among the words that begin with its first byte.
-use Rattle.std.proofs.Common.{◌≡◌, ℕ, Bool, true, false, cond, List, [], ◌∷◌, filter, Some, refl, subst, sym, arith, ◌≤◌, length}
+use Rattle.std.proofs.Common.{◌≡◌, ℕ, Bool, true, false, cond, List, [], ◌∷◌, filter, Some, refl, subst, sym, arith}
+use Rattle.std.proofs.Common.{◌≤◌, length}
 use Rattle.std.specs.Prelude.{slice_index}
 use Rattle.std.specs.List.{find}
 use Rattle.std.specs.Str.{bytes_eq}

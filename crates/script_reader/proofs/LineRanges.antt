@@ -72,7 +72,8 @@ typed_from : (places : List Place) (token : List ℕ) → is_typed_first places 
     is_typed_first (places_from places token) ≡ true
 typed_from [] token h = refl
 typed_from (place ∷ places) token h =
-    elim (is_group place && not (begins_number token)) as (λ b. is_typed_first (cond b places (place ∷ places)) ≡ true) [
+    elim (is_group place && not (begins_number token)) as
+    (λ b. is_typed_first (cond b places (place ∷ places)) ≡ true) [
       | true ↦ (both_true (not (needs_type place && names_type (place ∷ places))) (is_typed_first places) h).1
       | false ↦ h
     ]

@@ -91,7 +91,8 @@ pub fn strip_comment(line: &[u8]) -> &[u8]
 
 /// The first token of a line without a comment, and the line behind it.
 pub fn next_token(line: &[u8]) -> Option<(&[u8], &[u8])>
-    ensures tokens { MatchOption result (tokens_in line.now ≡ []) (λ x. tokens_in line.now ≡ x.0.now ∷ tokens_in x.1.now) }
+    ensures tokens { MatchOption result (tokens_in line.now ≡ [])
+        (λ x. tokens_in line.now ≡ x.0.now ∷ tokens_in x.1.now) }
     ensures shorter { MatchOption result ⊤ (λ x. length x.1.now < length line.now) }
 {
     let (_, rest) = line.split_at(token_start(line));

@@ -74,7 +74,8 @@ pub fn parse(alloc: Global, text: &[u8]) -> Result<Script, Fault>
     // A script that a text says keeps the ranges of the language.
     ensures well_formed { IfOk result IsWellFormed }
     // A text that says a script is refused for want of memory alone.
-    ensures only { (script : Script) → Reads text.now script → MatchResult result (λ found. found ≡ script) (λ fault. fault ≡ memory_fault) }
+    ensures only { (script : Script) → Reads text.now script →
+        MatchResult result (λ found. found ≡ script) (λ fault. fault ≡ memory_fault) }
 {
     if text.len() > MOST_BYTES {
         return Err(Fault {
