@@ -1,5 +1,5 @@
 //! What a call does to each of its elements.
-ghost use Rattle.std.specs.Prelude.{◌≡◌, ◌<◌, ◌^◌, length, slice_index, Option, Some, None};
+ghost use Rattle.std.specs.Prelude.{◌≡◌, ◌<◌, ◌^◌, [], ◌∷◌, slice_index, Option, Some, None};
 ghost use Rattle.std.specs.List.{AllByRecursion};
 ghost use Rattle.call_rules.specs.Numbers.{patterns_of};
 ghost use Rattle.call_rules.specs.WellFormed.{IsWrittenCall};
@@ -9,20 +9,30 @@ ghost use Rattle.access_steps.specs.Plans.{element_count, element_size, change_b
 use call_rules::Change;
 use rma_types::{Bits, Call, Dtype, Op};
 
-/// The operand of an element.
+/// The operand of an element; 0 where the call has none for it.
 fn operand_at(values: &Bits, element: u32, dtype: Dtype) -> u32
-    requires patterns { AllByRecursion (λ pattern. pattern < patterns_of dtype) values.now }
-    requires element { element < length values.now }
+    requires { AllByRecursion (λ pattern. pattern < patterns_of dtype) values.now }
     ensures { result ≡ slice_index values.now element }
 {
-    values.as_slice()[element as usize] as u32
+    match values.get(element as usize) {
+        Some(value) => *value as u32,
+        None => 0,
+    }
+}
+
+/// The one operand of a call that moves one element.
+fn single_at(value: u64, element: u32) -> u32
+    requires { value < 2 ^ 32 }
+    ensures { result ≡ slice_index (value ∷ []) element }
+{
+    if element == 0 { value as u32 } else { 0 }
 }
 
 /// The change that a call makes to one of its elements, which lies at `first_byte` of its cell; `None` where the call
-/// only reads, as a get, a load and a NO_OP do.
+/// only reads, as a get, a load and a NO_OP do. Behind its last element a call has operands of 0 (MPI 3.1, sections
+/// 11.3.1, 11.3.2 and 11.3.4).
 pub fn change_of(call: &Call, element: u32, first_byte: u8) -> Option<Change>
-    requires call { IsWrittenCall call.now }
-    requires element { element < element_count call.now }
+    requires { IsWrittenCall call.now }
     ensures { result ≡ change_by call.now element first_byte }
 {
     let (dtype, op, operand, compare) = match call {
@@ -51,13 +61,20 @@ pub fn change_of(call: &Call, element: u32, first_byte: u8) -> Option<Change>
             op,
             value,
             ..
-        } => (*dtype, *op, *value as u32, None),
+        } => (*dtype, *op, single_at(*value, element), None),
         Call::Cas {
             dtype,
             compare,
             new,
             ..
-        } => (*dtype, Op::Replace, *new as u32, Some(*compare as u32)),
+        } => {
+            (
+                *dtype,
+                Op::Replace,
+                single_at(*new, element),
+                Some(*compare as u32),
+            )
+        }
         _ => return None,
     };
     if op == Op::NoOp {

@@ -8,4 +8,4 @@ mod tests;
 mod touches;
 
 pub use changes::{change_of, size_of};
-pub use touches::{Progress, touch_on};
+pub use touches::{Progress, first_cell_of, touch_on};

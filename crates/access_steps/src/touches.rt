@@ -77,7 +77,7 @@ fn touch_cell<M: Memory>(mem: &mut M, cell: u32, change: Option<Change>) -> Resu
 }
 
 /// The first cell of a rank's memory.
-fn first_cell_of(layout: &Layout, rank: u8) -> u32
+pub fn first_cell_of(layout: &Layout, rank: u8) -> u32
     ensures { result ≡ first_cell layout.now rank }
 {
     match layout.parts.get(usize::from(rank)) {

@@ -23,8 +23,8 @@ fn weight(first_byte: u8) -> u64
     }
 }
 
-/// The bit pattern of the element at this byte.
-fn element_in(bits: u32, first_byte: u8, dtype: Dtype) -> u32
+/// The bit pattern of the element that begins at this byte of a cell, 0 to 3.
+pub fn element_in(bits: u32, first_byte: u8, dtype: Dtype) -> u32
     requires { first_byte < 4 }
     ensures { result ≡ element_of bits first_byte dtype }
 {

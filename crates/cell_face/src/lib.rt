@@ -14,7 +14,7 @@ mod tests;
 mod tokens;
 
 pub use call_rules::{Cell as Seen, Change};
-pub use elements::next_bits;
+pub use elements::{element_in, next_bits};
 pub use fronts::Front;
 pub use memories::{Memory, Moved};
 pub use plain::PlainMemory;

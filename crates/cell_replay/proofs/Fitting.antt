@@ -18,7 +18,7 @@ use Rattle.call_rules.specs.Layout.{layout}
 use Rattle.call_rules.specs.Numbers.{patterns_of}
 use Rattle.call_rules.specs.Transfers.{change_of, is_no_op}
 use Rattle.call_rules.specs.WellFormed.{IsWellFormed, IsWrittenAction, IsWrittenCall, IsWrittenTransfer}
-use Rattle.lawful_runs.specs.Accesses.{Touching, all_touches, is_on_cell, is_update, on_cell, transfer_at, updates_in}
+use Rattle.lawful_runs.specs.Accesses.{Touching, all_touches, is_on_cell, is_update, on_cell, transfer_at}
 use Rattle.lawful_runs.specs.LawfulRun.{IsLawful}
 use Rattle.lawful_runs.specs.Logs.{calls_of}
 use Rattle.order_laws.proofs.Members.{In, here, there, filter_in}

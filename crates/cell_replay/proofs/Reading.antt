@@ -1,6 +1,6 @@
 -- The ordered read of the access that the item of a name issues.
-use Rattle.std.proofs.Common.{◌≡◌, ℕ, ◌≤◌, inl, inr, true, false, cond, List, [], ◌∷◌, ◌++◌, Option, Some, None, refl}
-use Rattle.std.proofs.Common.{ap, sym, ◌∙◌, arith}
+use Rattle.std.proofs.Common.{◌≡◌, ℕ, inl, inr, true, false, cond, List, [], ◌∷◌, ◌++◌, Option, Some, None, refl}
+use Rattle.std.proofs.Common.{ap, sym, ◌∙◌}
 use Rattle.std.specs.Prelude.{map, slice_get, nat_lt, Bool}
 use Rattle.std.specs.List.{flat_map}
 use Rattle.std.specs.Option.{option_map_or}
@@ -14,13 +14,12 @@ use Rattle.rma_record.specs.declared.items.Item.{Item}
 use Rattle.rma_record.specs.declared.items.Item.TheVariants.{Issue, Null, Touch, Flush, Request, Entry, Tested, Refused}
 use Rattle.rma_record.specs.declared.items.Item.TheVariants.{Ended}
 use Rattle.rma_record.specs.declared.runs.Run.{Run}
-use Rattle.call_rules.specs.declared.elements.Piece.{Piece}
 use Rattle.call_rules.specs.Actions.{Transfer}
 use Rattle.call_rules.specs.Layout.{layout}
 use Rattle.call_rules.specs.Pieces.{pieces}
 use Rattle.lawful_runs.specs.Accesses.{all_touches, issued_by, transfer_at}
 use Rattle.lawful_runs.specs.Logs.{calls_of, log_of}
-use Rattle.order_rules.specs.CallSteps.{IssuedAccess, accesses_named, issued_access}
+use Rattle.order_rules.specs.CallSteps.{issued_access}
 use Rattle.order_rules.specs.OrderedReads.{ordered_read, ordered_read_of}
 use Rattle.rank_rules.specs.declared.pending.PendingAccess.{PendingAccess}
 use Rattle.cell_replay.specs.Kept.{access_by, access_named, element_left}

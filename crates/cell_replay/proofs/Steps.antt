@@ -4,12 +4,11 @@ use Rattle.std.proofs.Common.{◌≤◌, append_assoc, arith}
 use Rattle.std.specs.Prelude.{drop, slice_index_or}
 use Rattle.std.specs.List.{flat_map}
 use Rattle.std.proofs.lemmas.List.Concat.{flat_map-cons}
-use Rattle.rma_types.specs.declared.accesses.Id.{Id}
 use Rattle.rma_types.specs.declared.calls.Call.{Call}
 use Rattle.rma_types.specs.declared.scripts.Layout.{Layout}
 use Rattle.rma_record.specs.declared.items.Item.{Item}
 use Rattle.call_rules.specs.Pieces.{numbers_from}
-use Rattle.lawful_runs.specs.Accesses.{Touching, touches_among, touching_by}
+use Rattle.lawful_runs.specs.Accesses.{touches_among, touching_by}
 use Rattle.lawful_runs.specs.Logs.{Named, named_from}
 
 drop_at : {X : Type 0} (xs : List X) (k : ℕ) (d : X) → k < length xs →

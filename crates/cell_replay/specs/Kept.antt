@@ -16,7 +16,7 @@ use Rattle.call_rules.specs.declared.elements.Change.{Change}
 use Rattle.call_rules.specs.Actions.{Transfer, transfer_of}
 use Rattle.call_rules.specs.declared.elements.Piece.{Piece}
 use Rattle.call_rules.specs.Elements.{Fits, element_in}
-use Rattle.call_rules.specs.Transfers.{change_of}
+use Rattle.access_steps.specs.Plans.{change_by}
 use Rattle.lawful_runs.specs.Accesses.{Touching, on_cell, transfer_at, updates_in}
 use Rattle.lawful_runs.specs.Logs.{calls_of, log_of}
 use Rattle.order_rules.specs.OrderedReads.{left_before}
@@ -45,11 +45,6 @@ DoFit touches = AllByRecursion (λ (touch : Touching). IfSome touch.change Fits)
 -- the datatype of the elements that a call moves
 abbrev pub dtype_of : Call → Option Dtype
 dtype_of call = option_map_or (λ (t : Transfer). Some t.dtype) (transfer_of call) None
-
--- the change that a call makes to an element at a first byte
-abbrev pub change_by : Call → ℕ → ℕ → Option Change
-change_by call element first_byte =
-    option_map_or (λ (t : Transfer). change_of t element first_byte) (transfer_of call) None
 
 -- where the element of an access begins in its cell
 abbrev pub first_byte_at : Access → Dtype → ℕ → ℕ

@@ -1,9 +1,8 @@
 //! Ordered reads.
-ghost use Rattle.std.specs.Prelude.{◌≡◌, ◌<◌, ◌/◌, ◌+◌, IfOk, IfSome, map};
+ghost use Rattle.std.specs.Prelude.{◌≡◌, ◌/◌, ◌+◌, IfOk, IfSome, map};
 ghost use Rattle.std.specs.List.{filter};
 ghost use Rattle.rma_types.specs.declared.schedules.Delay.TheVariants.{Seeded};
-ghost use Rattle.call_rules.specs.Elements.{element_in as element_of};
-ghost use Rattle.call_rules.specs.Pieces.{element_address, first_cell, piece_at, pieces};
+ghost use Rattle.call_rules.specs.Pieces.{element_address, piece_at, pieces};
 ghost use Rattle.call_rules.specs.WellFormed.{IsWellFormed};
 ghost use Rattle.lawful_runs.specs.Accesses.{Touching, on_cell, updates_in};
 ghost use Rattle.lawful_runs.specs.LawfulRun.{IsLawful};
@@ -15,6 +14,8 @@ ghost use Rattle.cell_replay.specs.Kept.{access_by as access_of_item, access_nam
 use crate::changes::dtype_of;
 use crate::states::state_of;
 use crate::touches::{CellTouch, calls_at, log_at, touches_in, updates_on};
+use access_steps::first_cell_of;
+use cell_face::element_in;
 use rma_record::{Item, Run};
 use rma_types::{Access, Bits, Call, Dtype, Id, Items, Layout, NoMemory, Script};
 use script_layout::layout_of;
@@ -59,34 +60,6 @@ fn left_before(
     Ok(state_of(earlier.as_slice(), updates.len()))
 }
 
-/// The bit pattern of the element that begins at this byte of a cell.
-fn element_in(bits: u32, first_byte: u8, dtype: Dtype) -> u64
-    requires { first_byte < 4 }
-    ensures { result ≡ element_of bits first_byte dtype }
-{
-    let above = match first_byte {
-        0 => bits,
-        1 => bits / 0x100,
-        2 => bits / 0x1_0000,
-        _ => bits / 0x100_0000,
-    };
-    match dtype.size() {
-        1 => u64::from(above % 0x100),
-        2 => u64::from(above % 0x1_0000),
-        _ => u64::from(above),
-    }
-}
-
-/// The first cell of a rank's memory.
-fn first_cell_of(layout: &Layout, rank: u8) -> u32
-    ensures { result ≡ first_cell layout.now rank }
-{
-    match layout.parts.get(usize::from(rank)) {
-        Some(part) => part.first_cell,
-        None => 0,
-    }
-}
-
 /// An element of an access, as the updates before the item leave it.
 fn read_element(
     alloc: Global,
@@ -106,7 +79,7 @@ fn read_element(
     let address = u64::from(access.lo) + u64::from(element) * u64::from(dtype.size());
     let cell = u64::from(first_cell_of(layout, access.target)) + address / 4;
     let bits = left_before(alloc, touches, clocks, id, cell)?;
-    Ok(element_in(bits, (address % 4) as u8, dtype))
+    Ok(u64::from(element_in(bits, (address % 4) as u8, dtype)))
 }
 
 /// The elements of an access, as the updates before the item leave them.

@@ -10,4 +10,5 @@ pub mod LineRanges
 pub mod Numbered
 pub mod TextLines
 pub mod TokenParts
+pub mod TokenMembers
 pub mod TokenRanges

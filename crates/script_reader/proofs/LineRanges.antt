@@ -1,40 +1,19 @@
 -- What a line that reads says is within its ranges.
-use Rattle.std.proofs.Common.{◌≡◌, ℕ, zero, suc, ◌+◌, ◌-◌, ◌<◌, ◌≤◌, Bool, true, false, ◌&&◌, ◌||◌, not, cond, ltb}
-use Rattle.std.proofs.Common.{List, [], ◌∷◌, ◌++◌, length, Option, Some, None, Ok, Err, Result, ℤ, pos, negsuc, refl}
-use Rattle.std.proofs.Common.{ap, sym, ◌∙◌, subst, arith, length-append, get_or}
-use Rattle.std.specs.Prelude.{IfSome, int_le, find, codes, is_some}
-use Rattle.std.specs.List.{AllByRecursion, range_with_len, list_all}
-use Rattle.std.specs.Str.{bytes_eq}
-use Rattle.std.proofs.lemmas.Bool.{leb-true, ltb-true}
-use Rattle.rma_types.specs.declared.calls.Lock.{Lock}
-use Rattle.rma_types.specs.declared.dtypes.Dtype.{Dtype}
-use Rattle.rma_types.specs.declared.dtypes.Dtype.TheVariants.{Int8, Int16, Int32, Uint8, Uint16, Uint32, Byte}
-use Rattle.rma_types.specs.declared.ops.Op.{Op as Operator}
-use Rattle.call_rules.specs.Numbers.{patterns_of, pattern_of}
-use Rattle.call_rules.specs.Ranks.{natural, is_member}
-use Rattle.call_rules.specs.WellFormed.{IsNumber, IsUpTo, IsWindowName, IsRequestName, IsWrittenGroup}
+use Rattle.std.proofs.Common.{◌≡◌, ℕ, ◌-◌, ◌<◌, ◌≤◌, Bool, true, false, ◌&&◌, ◌||◌, not, cond}
+use Rattle.std.proofs.Common.{List, [], ◌∷◌, Option, Some, None, Ok, Err, refl}
+use Rattle.std.proofs.Common.{sym, ◌∙◌, subst, arith, get_or}
+use Rattle.std.specs.Prelude.{is_some}
+use Rattle.std.specs.List.{list_all}
 use Rattle.script_language.specs.declared.drafts.Draft.{Draft}
-use Rattle.script_language.specs.declared.faults.FaultKind.{FaultKind}
-use Rattle.script_language.specs.declared.faults.FaultKind.TheVariants.{Word, Datatype, Op as NoOperation, Name, Shape}
-use Rattle.script_language.specs.declared.faults.FaultKind.TheVariants.{Limit}
+use Rattle.script_language.specs.declared.faults.FaultKind.TheVariants.{Word, Shape}
 use Rattle.script_language.specs.declared.fields.Fields.{Fields}
-use Rattle.script_language.specs.declared.places.Assertion.{Assertion}
 use Rattle.script_language.specs.declared.places.Place.{Place}
-use Rattle.script_language.specs.declared.places.Place.TheVariants.{Ranks, Owner, Room, Member, Members, Times, Request}
-use Rattle.script_language.specs.declared.places.Place.TheVariants.{Window, Base, Size, Unit as UnitPlace, LockKind}
-use Rattle.script_language.specs.declared.places.Place.TheVariants.{Peer, Group, Assertions, Target, Displacement}
-use Rattle.script_language.specs.declared.places.Place.TheVariants.{ElementType, Operation, Count, Compare, Value}
-use Rattle.script_language.specs.declared.places.Place.TheVariants.{Values}
-use Rattle.script_language.specs.Answers.{◌>>=◌, found_or}
+use Rattle.script_language.specs.declared.places.Place.TheVariants.{Owner, Room}
 use Rattle.script_language.specs.Forms.{is_group, is_many, call_places, places_of}
-use Rattle.script_language.specs.Integers.{integer_of, integer_within, integer_up_to, plain_integer, lowest, least_of}
-use Rattle.script_language.specs.Integers.{greatest_of}
 use Rattle.script_language.specs.Lines.{is_printable}
-use Rattle.script_language.specs.Tokens.{natural_within, rank_read, owner_read, members_read, group_read, pattern_read}
-use Rattle.script_language.specs.Tokens.{values_read, target_read, with_assertion, token_read, begins_number}
+use Rattle.script_language.specs.Tokens.{natural_within, rank_read, owner_read}
+use Rattle.script_language.specs.Tokens.{token_read, begins_number}
 use Rattle.script_language.specs.Tokens.{places_from, places_behind, Told, read_at, next_read, tokens_read}
-use Rattle.script_language.specs.Words.{window_text, request_text, dtype_named, op_named, lock_named, assertion_named}
-use Rattle.script_language.specs.Words.{window_named, request_named}
 use Rattle.script_language.specs.declared.forms.CallForm.{CallForm}
 use Rattle.script_language.specs.declared.forms.CallForm.TheVariants.{Allocate, Create, Dynamic, Free, Attach, Detach}
 use Rattle.script_language.specs.declared.forms.CallForm.TheVariants.{Fence, Post, Start, Complete, WaitWin, TestWin}
@@ -46,10 +25,11 @@ use Rattle.script_language.specs.declared.forms.CallForm.TheVariants.{Store, Wai
 use Rattle.script_language.specs.declared.forms.Form.{Form}
 use Rattle.script_language.specs.declared.forms.Form.TheVariants.{Ranks as RanksForm, Space, Rank, Repeat, End, Call}
 use Rattle.script_language.specs.Calls.{no_fields}
-use Rattle.script_reader.specs.Sound.{IsSoundLine, IsNewSpace, AreSoundElements}
+use Rattle.script_reader.specs.Sound.{IsSoundLine, IsNewSpace}
 use Rattle.script_reader.proofs.Charging.{ok_from_if, both_true}
 use Rattle.script_reader.proofs.TokenParts.{bind_ok, ok_same, chosen_ok, refused_ok, natural_most, bound, is_type}
-use Rattle.script_reader.proofs.TokenRanges.{IsFresh, token_sound}
+use Rattle.script_reader.proofs.TokenMembers.{IsFresh}
+use Rattle.script_reader.proofs.TokenRanges.{token_sound}
 use Rattle.script_reader.proofs.TokenParts.{needs_type}
 
 -- ---- all tokens of a line

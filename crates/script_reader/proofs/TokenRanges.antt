@@ -1,5 +1,5 @@
 -- What a token that is read gives keeps the ranges of a script.
-use Rattle.std.proofs.Common.{◌≡◌, ℕ, true, false, List, [], Option, Ok, ℤ, refl, subst, arith}
+use Rattle.std.proofs.Common.{◌≡◌, ℕ, true, false, List, Option, Ok, ℤ, refl, subst}
 use Rattle.rma_types.specs.declared.calls.Lock.{Lock}
 use Rattle.rma_types.specs.declared.dtypes.Dtype.{Dtype}
 use Rattle.rma_types.specs.declared.ops.Op.{Op as Operator}
@@ -15,22 +15,14 @@ use Rattle.script_language.specs.declared.places.Place.TheVariants.{ElementType,
 use Rattle.script_language.specs.declared.places.Place.TheVariants.{Values}
 use Rattle.script_language.specs.Answers.{found_or}
 use Rattle.script_language.specs.Integers.{integer_up_to, plain_integer}
-use Rattle.script_language.specs.Tokens.{natural_within, owner_read, members_read, group_read, pattern_read}
+use Rattle.script_language.specs.Tokens.{natural_within, owner_read, group_read, pattern_read}
 use Rattle.script_language.specs.Tokens.{values_read, target_read, with_assertion, token_read}
 use Rattle.script_language.specs.Words.{dtype_named, op_named, lock_named, assertion_named, window_named, request_named}
-use Rattle.script_reader.specs.Sound.{IsSoundLine, AreSoundElements}
+use Rattle.script_reader.specs.Sound.{IsSoundLine}
 use Rattle.script_reader.proofs.TokenParts.{bind_ok, ok_same, found_is, up_to, natural_most, window_below}
-use Rattle.script_reader.proofs.TokenParts.{request_below, some_patterns, pattern_below, more_values, bound}
-use Rattle.script_reader.proofs.TokenParts.{members_below, group_written, target_number, is_type, needs_type}
-
-abbrev pub IsFresh : Fields → Type 0
-IsFresh fields = (fields.values ≡ []) × (fields.compare ≡ 0) × (fields.value ≡ 0)
-
-typed_elements : (dtype : Dtype) (fields : Fields) → IsFresh fields →
-    AreSoundElements dtype fields.values fields.compare fields.value
-typed_elements dtype fields fresh =
-    let some = some_patterns dtype in
-    rw (fresh.0, fresh.1, fresh.2) (record { amount = omega arith; patterns = tt; compared = some; stored = some })
+use Rattle.script_reader.proofs.TokenParts.{request_below, pattern_below, more_values, bound}
+use Rattle.script_reader.proofs.TokenParts.{group_written, target_number, is_type, needs_type}
+use Rattle.script_reader.proofs.TokenMembers.{IsFresh, typed_elements, members_sound}
 
 pub token_sound : (draft : Draft) (fields told : Fields) (place : Place) (token : List ℕ) →
     (is_type place ≡ true → IsFresh fields) → IsSoundLine (bound draft) fields →
@@ -85,42 +77,8 @@ token_sound draft fields told Room token typed s h =
       elements = s.elements;
     } in
     (subst (IsSoundLine (bound draft)) (ok_same b.2) sound, λ _. λ fresh. subst IsFresh (ok_same b.2) fresh)
-token_sound draft fields told Member token typed s h =
-    let b = bind_ok (members_read draft fields.members token)
-    (λ (ranks : List ℕ). Ok (record fields { members = ranks })) told h in
-    let sound : IsSoundLine (bound draft) (record fields { members = b.0 }) = record {
-      directive = record {
-        few = s.directive.few;
-        room = s.directive.room;
-        members = members_below draft
-            fields.members b.0 token s.directive.members b.1;
-      };
-      request = s.request;
-      window = s.window;
-      numbers = s.numbers;
-      group = s.group;
-      target = s.target;
-      elements = s.elements;
-    } in
-    (subst (IsSoundLine (bound draft)) (ok_same b.2) sound, λ _. λ fresh. subst IsFresh (ok_same b.2) fresh)
-token_sound draft fields told Members token typed s h =
-    let b = bind_ok (members_read draft fields.members token)
-    (λ (ranks : List ℕ). Ok (record fields { members = ranks })) told h in
-    let sound : IsSoundLine (bound draft) (record fields { members = b.0 }) = record {
-      directive = record {
-        few = s.directive.few;
-        room = s.directive.room;
-        members = members_below draft
-            fields.members b.0 token s.directive.members b.1;
-      };
-      request = s.request;
-      window = s.window;
-      numbers = s.numbers;
-      group = s.group;
-      target = s.target;
-      elements = s.elements;
-    } in
-    (subst (IsSoundLine (bound draft)) (ok_same b.2) sound, λ _. λ fresh. subst IsFresh (ok_same b.2) fresh)
+token_sound draft fields told Member token typed s h = members_sound draft fields told token s h
+token_sound draft fields told Members token typed s h = members_sound draft fields told token s h
 token_sound draft fields told Times token typed s h =
     let b = bind_ok (natural_within 1 65536 token) (λ (n : ℕ). Ok (record fields { times = n })) told h in
     let sound : IsSoundLine (bound draft) (record fields { times = b.0 }) = record {

@@ -1,5 +1,5 @@
 -- The access that the item issues is the one of its name.
-use Rattle.std.proofs.Common.{◌≡◌, List, ap, map, subst, sym, ◌∙◌}
+use Rattle.std.proofs.Common.{◌≡◌, ap, map, subst, sym, ◌∙◌}
 use Rattle.std.specs.Prelude.{IfOk}
 use Rattle.rma_types.specs.declared.schedules.Delay.TheVariants.{Seeded}
 use Rattle.call_rules.specs.Pieces.{pieces}

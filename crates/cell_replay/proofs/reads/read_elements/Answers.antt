@@ -1,5 +1,5 @@
 -- The next element is added.
-use Rattle.std.proofs.Common.{◌≡◌, ℕ, ◌+◌, ◌-◌, ◌/◌, ◌<◌, [], ◌∷◌, ap, map, subst, ◌∙◌}
+use Rattle.std.proofs.Common.{ℕ, ◌+◌, ◌-◌, ◌/◌, ◌<◌, [], ◌∷◌, ap, map, subst, ◌∙◌}
 use Rattle.rma_types.specs.Datatypes.{size_of}
 use Rattle.call_rules.specs.Pieces.{element_address, numbers_from, piece_at}
 use Rattle.call_rules.specs.declared.elements.Piece.{Piece}

@@ -1,5 +1,5 @@
 -- The touch of the next item is added.
-use Rattle.std.proofs.Common.{◌≡◌, ◌+◌, ap, arith, get_or, length, List, rules, subst, sym, ◌<◌, ◌∙◌, ◌∷◌, ◌++◌, []}
+use Rattle.std.proofs.Common.{◌≡◌, ◌+◌, ap, arith, get_or, length, rules, subst, ◌<◌, ◌∙◌, ◌∷◌, ◌++◌, []}
 use Rattle.std.specs.Prelude.{drop}
 use Rattle.std.specs.Option.{option_map_or}
 use Rattle.rma_types.specs.declared.accesses.Kind.TheVariants.{Get}

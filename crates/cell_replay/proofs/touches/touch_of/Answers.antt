@@ -1,5 +1,5 @@
 -- The change that is found is the one that the touch makes.
-use Rattle.std.proofs.Common.{◌≡◌, List, [], ◌∷◌, Option, ap, sym, ◌∙◌}
+use Rattle.std.proofs.Common.{List, [], ◌∷◌, Option, ap, sym, ◌∙◌}
 use Rattle.call_rules.specs.declared.elements.Change.{Change}
 use Rattle.lawful_runs.specs.Accesses.{Touching, touching_by}
 use Rattle.cell_replay.proofs.Making.{change_is_made}

@@ -1,8 +1,8 @@
-use Rattle.std.proofs.Common.{ℕ, ap, sym, ◌∙◌}
+use Rattle.std.proofs.Common.{ℕ, ap, ◌∙◌}
 use Rattle.std.specs.Prelude.{Option}
 use Rattle.std.specs.Option.{unwrap_or}
 use Rattle.std.proofs.lemmas.Option.{unwrap_or-slice_get}
-use Rattle.cell_replay.proofs.changes.operand_at.Goals as goal
+use Rattle.access_steps.proofs.changes.operand_at.Goals as goal
 
 pub returns-in-None : goal.returns-in-None
 returns-in-None c =
