@@ -1,6 +1,6 @@
 -- One slot more of a plan.
-use Rattle.std.proofs.Common.{◌≡◌, ℕ, zero, suc, ◌+◌, Bool, true, false, ◌||◌, cond, refl, ap, sym, ◌∙◌, arith, Option}
-use Rattle.std.proofs.Common.{Some, None}
+use Rattle.std.proofs.Common.{◌≡◌, ℕ, zero, suc, ◌+◌, ◌-◌, ◌<◌, ◌≤◌, Bool, true, false, ◌||◌, cond, refl, ap, sym}
+use Rattle.std.proofs.Common.{◌∙◌, arith, Option, Some, None}
 use Rattle.std.specs.List.{fold, list_any}
 use Rattle.call_rules.specs.Pieces.{numbers_from}
 use Rattle.kept_rows.specs.Gifts.{Front}
@@ -99,9 +99,65 @@ filled_none before after plan front at below here other =
     or_no true = refl
     or_no false = refl
 
+-- no index from the first on has a slot
+pub has_slot_to : (plan : Plan) (slot : Slot) (first count : ℕ) →
+    ((at : ℕ) → first ≤ at → at < first + count → plan_slot plan at ≡ None) →
+    has_slot_below (first + count) plan slot ≡ has_slot_below first plan slot
+unfolding has_slot_below
+has_slot_to plan slot first zero none =
+    let e : first + 0 ≡ first = omega arith in
+    ap (λ n. has_slot_below n plan slot) e
+has_slot_to plan slot first (suc count) none =
+    let e : first + suc count ≡ first + count + 1 = omega arith in
+    let here : plan_slot plan (first + count) ≡ None = none (first + count) (omega arith) (omega arith) in
+    ap (λ n. has_slot_below n plan slot) e
+    ∙ (any_to (λ at. is_slot slot (plan_slot plan at)) (first + count)
+    ∙ (ap (λ o. has_slot_below (first + count) plan slot || is_slot slot o) here
+    ∙ (or_no (has_slot_below (first + count) plan slot)
+    ∙ has_slot_to plan slot first count (λ at from below. none at from (omega arith)))))
+  where
+    or_no : (b : Bool) → (b || false) ≡ b
+    or_no true = refl
+    or_no false = refl
+
+-- what is filled up to the end of the plan is filled at all indices
+pub filled_whole : (before after : Slot → Option Front) (plan : Plan) (front : Front) (end : ℕ) → end ≤ 32 →
+    ((at : ℕ) → end ≤ at → at < 32 → plan_slot plan at ≡ None) →
+    IsFilledBelow end plan front before after → IsFilledBelow 32 plan front before after
+filled_whole before after plan front end most none filled slot =
+    let e : end + (32 - end) ≡ 32 = omega arith in
+    filled slot ∙ ap (λ b. joined (before slot) (cond b (Some front) None))
+    (sym (has_slot_to plan slot end (32 - end) (λ at from below. none at from (omega arith)))
+    ∙ ap (λ n. has_slot_below n plan slot) e)
+
 pub gained_next : (kept : Slot → Option Front) (slot_at : ℕ → Option Slot) (at : ℕ) →
     gained_below (at + 1) kept slot_at ≡ joined (gained_below at kept slot_at) (gained_at kept (slot_at at))
 gained_next kept slot_at at = fold_to (λ all at. joined all (gained_at kept (slot_at at))) None at
+
+-- no index from the first on has a slot
+pub gained_to : (kept : Slot → Option Front) (slot_at : ℕ → Option Slot) (first count : ℕ) →
+    ((at : ℕ) → first ≤ at → at < first + count → slot_at at ≡ None) →
+    gained_below (first + count) kept slot_at ≡ gained_below first kept slot_at
+gained_to kept slot_at first zero none =
+    let e : first + 0 ≡ first = omega arith in
+    ap (λ n. gained_below n kept slot_at) e
+gained_to kept slot_at first (suc count) none =
+    let e : first + suc count ≡ first + count + 1 = omega arith in
+    let here : slot_at (first + count) ≡ None = none (first + count) (omega arith) (omega arith) in
+    ap (λ n. gained_below n kept slot_at) e
+    ∙ (gained_next kept slot_at (first + count)
+    ∙ (ap (λ o. joined (gained_below (first + count) kept slot_at) (gained_at kept o)) here
+    ∙ (joined_none (gained_below (first + count) kept slot_at)
+    ∙ gained_to kept slot_at first count (λ at from below. none at from (omega arith)))))
+
+-- what the slots up to the end give is what all of them give
+pub gained_whole : (kept : Slot → Option Front) (slot_at : ℕ → Option Slot) (end : ℕ) → end ≤ 32 →
+    ((at : ℕ) → end ≤ at → at < 32 → slot_at at ≡ None) →
+    gained_below end kept slot_at ≡ gained_below 32 kept slot_at
+gained_whole kept slot_at end most none =
+    let e : end + (32 - end) ≡ 32 = omega arith in
+    sym (gained_to kept slot_at end (32 - end) (λ at from below. none at from (omega arith)))
+    ∙ ap (λ n. gained_below n kept slot_at) e
 
 pub gained_alike : (f g : Slot → Option Front) → ((slot : Slot) → f slot ≡ g slot) → (one : Option Slot) →
     gained_at f one ≡ gained_at g one

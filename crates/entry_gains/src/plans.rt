@@ -1,5 +1,5 @@
 //! Which slots one entry fills, and from which a next entry gains.
-ghost use Rattle.std.specs.Prelude.{◌≡◌, ◌<◌, ◌-◌};
+ghost use Rattle.std.specs.Prelude.{◌≡◌, ◌<◌, ◌≤◌, ◌-◌, ℕ, None};
 ghost use Rattle.entry_gains.specs.Plans.{plan_slot, unlock_slot_of};
 
 use crate::slots::Slot;
@@ -73,15 +73,32 @@ fn unlock_slot(window: u32, target: u8, exclusive: bool, held: Option<Lock>) -> 
 }
 
 impl Plan {
+    /// Up to which index there may be slots: no index from it on has one.
+    pub(crate) fn end(&self) -> u8
+        ensures most { result ≤ 32 }
+        ensures rest { (at : ℕ) → result ≤ at → at < 32 → plan_slot self.now at ≡ None }
+    {
+        match self {
+            Plan::Nothing => 0,
+            Plan::One(_) => 1,
+            Plan::Posts { .. } => 16,
+            Plan::Starts { .. } => 16,
+            Plan::Completes { .. } => 16,
+            Plan::Waits { .. } => 16,
+            Plan::Unlocks { .. } => 32,
+            Plan::Locks { end, .. } => (*end).min(32),
+        }
+    }
+
     /// The slot at an index.
     pub(crate) fn slot(&self, at: u8) -> Option<Slot>
         requires { at < 32 }
         ensures { result ≡ plan_slot self.now at }
     {
         let index = at as usize;
-        match *self {
+        match self {
             Plan::Nothing => None,
-            Plan::One(slot) => { if at == 0 { Some(slot) } else { None } }
+            Plan::One(slot) => { if at == 0 { Some(*slot) } else { None } }
             Plan::Posts {
                 window,
                 from,
@@ -91,8 +108,8 @@ impl Plan {
                 if at < 16 && named[index] {
                     let number = numbers[index];
                     Some(Slot::Post {
-                        window,
-                        from,
+                        window: *window,
+                        from: *from,
                         to: at,
                         number,
                     })
@@ -109,9 +126,9 @@ impl Plan {
                 if at < 16 && named[index] {
                     let number = numbers[index];
                     Some(Slot::Post {
-                        window,
+                        window: *window,
                         from: at,
-                        to,
+                        to: *to,
                         number,
                     })
                 } else {
@@ -126,8 +143,8 @@ impl Plan {
                 if at < 16 && numbers[index] > 0 {
                     let number = numbers[index];
                     Some(Slot::Complete {
-                        window,
-                        from,
+                        window: *window,
+                        from: *from,
                         to: at,
                         number,
                     })
@@ -144,9 +161,9 @@ impl Plan {
                 if at < 16 && named[index] {
                     let number = numbers[index];
                     Some(Slot::Complete {
-                        window,
+                        window: *window,
                         from: at,
-                        to,
+                        to: *to,
                         number,
                     })
                 } else {
@@ -155,9 +172,9 @@ impl Plan {
             }
             Plan::Unlocks { window, held } => {
                 if at < 16 {
-                    unlock_slot(window, at, false, held[index])
+                    unlock_slot(*window, at, false, held[index])
                 } else {
-                    unlock_slot(window, at - 16, true, held[index - 16])
+                    unlock_slot(*window, at - 16, true, held[index - 16])
                 }
             }
             Plan::Locks {
@@ -166,11 +183,11 @@ impl Plan {
                 end,
                 exclusive,
             } => {
-                if first <= at && at < end {
+                if *first <= at && at < *end {
                     Some(Slot::Unlock {
-                        window,
+                        window: *window,
                         target: at,
-                        exclusive,
+                        exclusive: *exclusive,
                     })
                 } else {
                     None

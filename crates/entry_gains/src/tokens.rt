@@ -72,7 +72,8 @@ fn fill_all<N: Token>(tokens: &mut HashMap<Slot, N>, plan: &Plan, gift: N)
     ensures from { AreFrom N.origin (N.origin gift) tokens.new }
 {
     let mut gift = gift;
-    for at in 0..32u8 {
+    let end = plan.end();
+    for at in 0..end {
         fill_at(tokens, plan, at, &mut gift);
     }
 }
@@ -146,7 +147,8 @@ pub(crate) fn gather<N: Token>(tokens: &mut HashMap<Slot, N>, plan: &Plan, root:
     ensures room { spare tokens.new ≡ spare tokens.old }
 {
     let mut all = None;
-    for at in 0..32u8 {
+    let end = plan.end();
+    for at in 0..end {
         all = gather_at(tokens, plan, at, all, root);
     }
     all

@@ -41,7 +41,8 @@ impl<N: Token> Model for Board<N> {
       entries = entries_in N.front board.list;
     } };
 
-    ghost invariant = { λ board. IsKept N.front N.origin board.ranks board.layout board.list board.state board.gains board.root };
+    ghost invariant = { λ board. IsKept N.front N.origin board.ranks board.layout board.list board.state board.gains
+        board.root };
 }
 
 /// The gift, and another token like it to keep.
@@ -104,7 +105,8 @@ impl<N: Token> Board<N> {
         requires after { IsAfter (rows_on self.old) asked.now }
         requires allowed { answer_to self.old.ranks (rows_on self.old) (row_asked asked.now) ≡ Allow }
         requires gift { IfSome gift (λ token. N.origin token ≡ self.old.name) }
-        ensures answer { IfOk result (λ answer. IsAnswer N.front N.origin self.old (row_asked asked.now) gift answer self.new) }
+        ensures answer { IfOk result (λ answer.
+            IsAnswer N.front N.origin self.old (row_asked asked.now) gift answer self.new) }
         ensures unchanged { OnErr result (self.new ≡ self.old) }
     {
         let mut gift = gift;

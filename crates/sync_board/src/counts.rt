@@ -38,7 +38,8 @@ pub(crate) fn add(counts: &mut Vec<u32>, at: usize, more: bool)
     requires room { at < length counts.old.items }
     requires small { slice_index counts.old.items at + 1 < 2 ^ 27 }
     ensures here { slice_index counts.new.items at ≡ slice_index counts.old.items at + (if more then 1 else 0) }
-    ensures others { (index : ℕ) → index ≢ at → slice_index counts.new.items index ≡ slice_index counts.old.items index }
+    ensures others { (index : ℕ) → index ≢ at →
+        slice_index counts.new.items index ≡ slice_index counts.old.items index }
 {
     if more {
         counts[at] += 1;

@@ -1,54 +1,25 @@
 //! What a next entry is answered, by what is kept of its window (MPI 3.1, section 11.5).
-ghost use Rattle.std.specs.Prelude.{◌≡◌, ◌≢◌, ℕ, ◌+◌, ◌^◌, ◌<◌, ◌≤◌, Bool, true, false, Some, None, List, ℤ, pos};
-ghost use Rattle.std.specs.Prelude.{length};
+ghost use Rattle.std.specs.Prelude.{◌≡◌, ℕ, ◌^◌, ◌<◌, ◌≤◌, Some};
 ghost use Rattle.rma_types.specs.declared.accesses.Step.TheVariants.{Arrive, Leave, One};
-ghost use Rattle.rma_types.specs.declared.classes.Class.TheVariants.{Range as RangeClass};
-ghost use Rattle.rma_types.specs.declared.calls.Lock.TheVariants.{Shared as SharedLock};
 ghost use Rattle.rma_types.specs.declared.scripts.Layout.{Layout};
-ghost use Rattle.call_rules.specs.Actions.{Creates, Creation, Fences, Locks, Moves, Posts, Starts, Synchronises};
-ghost use Rattle.call_rules.specs.Actions.{Transfer, Waits, action_of};
+ghost use Rattle.call_rules.specs.Actions.{Creates, Creation, Fences, Moves, Synchronises, Transfer, action_of};
 ghost use Rattle.call_rules.specs.Ranks.{natural as natural_of};
 ghost use Rattle.call_rules.specs.Transfers.{rank_reached};
-ghost use Rattle.board_rules.specs.AttachedRanges.{reaches_unattached};
-ghost use Rattle.board_rules.specs.Board.{decision, decision_by, meets_post, refuse_if};
+ghost use Rattle.board_rules.specs.Board.{decision};
 ghost use Rattle.board_rules.specs.Entries.{Barrier as BarrierCollective, collective_of};
-ghost use Rattle.board_rules.specs.Posts.{is_posted as is_posted_at};
 ghost use Rattle.board_rules.specs.Questions.{Question};
-ghost use Rattle.board_rules.specs.Rounds.{has_other_flavor};
-ghost use Rattle.rank_rules.specs.EpochTests.{is_wrong_group};
 ghost use Rattle.sync_board.specs.Asked.{IsQuestion, MayBeAsked, decision_of};
 ghost use Rattle.sync_board.specs.Rounds.{collective_by};
 ghost use Rattle.sync_board.specs.Windows.{KeepsBefore};
 
 use crate::asked::{Asked, Judged, rank_of, reached};
 use crate::layouts::KeptLayout;
-use crate::matches::{has_completes, has_posts};
 use crate::rounds::Kind;
-use crate::truths::{natural, truths_of};
+use crate::truths::natural;
 use crate::window_record::WindowRecord;
-use rma_types::{Asserts, Call, Class, Dtype, Flavor, Group, Lock, Step};
+use rma_types::{Asserts, Call, Class, Dtype, Flavor, Step};
 
 impl WindowRecord {
-    /// The rank is posted.
-    fn is_posted(&self, rank: u8) -> bool
-        ensures { (layout : Layout) (q : Question) → KeepsBefore layout q self.now → result ≡ is_posted_at q rank }
-    {
-        self.side_table.is_posted(rank as usize)
-    }
-
-    /// One of so many ranks is posted.
-    fn is_any_posted(&self, ranks: u8) -> bool
-        ensures { (layout : Layout) (q : Question) → q.ranks ≡ ranks → KeepsBefore layout q self.now →
-            result ≡ meets_post q None }
-    {
-        for rank in 0..ranks {
-            if self.is_posted(rank) {
-                return true;
-            }
-        }
-        false
-    }
-
     /// The answer to the arrival at a creation.
     fn judge_creation(&self, asked: &Asked, flavor: Flavor) -> Judged
         ensures { (layout : Layout) (q : Question) (creation : Creation) → IsQuestion q asked.now →
@@ -132,84 +103,6 @@ impl WindowRecord {
             .round_table
             .have_all_arrived(kind, asked.ranks as usize, asked.rank as usize)
         {
-            Judged::Allowed
-        } else {
-            Judged::NotYet
-        }
-    }
-
-    /// The answer to a post: a lock at the rank refuses it.
-    fn judge_post(&self, asked: &Asked) -> Judged
-        requires { asked.now.rank < 16 }
-        ensures { (layout : Layout) (q : Question) (win : ℕ) (group : List ℤ) (asserts : Asserts) → IsQuestion q asked.now →
-            action_of q.call ≡ Synchronises win (Posts group asserts) →
-            KeepsBefore layout q self.now → decision_of result ≡ decision q One }
-    {
-        if self.lock_state.is_locked(asked.rank) {
-            Judged::Refused(Class::Sync)
-        } else {
-            Judged::Allowed
-        }
-    }
-
-    /// The answer to a start: its group's posts must have come.
-    fn judge_start(&self, asked: &Asked, group: &Group) -> Judged
-        requires { asked.now.rank < 16 }
-        ensures { (layout : Layout) (q : Question) (win : ℕ) (asserts : Asserts) → IsQuestion q asked.now →
-            action_of q.call ≡ Synchronises win (Starts group.now asserts) →
-            q.ranks ≤ 16 → is_wrong_group q.ranks group.now ≡ false →
-            KeepsBefore layout q self.now → decision_of result ≡ decision q One }
-    {
-        let truths = truths_of(group);
-        if has_posts(&self.side_table, asked.rank as usize, &truths) {
-            Judged::Allowed
-        } else {
-            Judged::NotYet
-        }
-    }
-
-    /// The answer to a wait or a true testwin: the completes of the posts' group must have come.
-    fn judge_wait(&self, asked: &Asked) -> Judged
-        requires { asked.now.rank < 16 }
-        ensures { (layout : Layout) (q : Question) (win : ℕ) (tests : Bool) → IsQuestion q asked.now →
-            action_of q.call ≡ Synchronises win (Waits tests) →
-            KeepsBefore layout q self.now → decision_of result ≡ decision q One }
-    {
-        if has_completes(&self.side_table, asked.rank as usize) {
-            Judged::Allowed
-        } else {
-            Judged::NotYet
-        }
-    }
-
-    /// The answer to a lock: the post of its target refuses it, and a lock that excludes it has it wait.
-    fn judge_lock(&self, kind: Lock, target: u8) -> Judged
-        requires { target < 16 }
-        ensures { (layout : Layout) (q : Question) (win : ℕ) (named : ℤ) (asserts : Asserts) →
-            action_of q.call ≡ Synchronises win (Locks kind (Some named) asserts) → natural_of named ≡ target →
-            KeepsBefore layout q self.now → decision_of result ≡ decision q One }
-    {
-        if self.is_posted(target) {
-            return Judged::Refused(Class::Sync);
-        }
-        if self.lock_state.may_lock(kind, target) {
-            Judged::Allowed
-        } else {
-            Judged::NotYet
-        }
-    }
-
-    /// The answer to a lock_all: the post of any rank refuses it, and an exclusive lock has it wait.
-    fn judge_lock_all(&self, asked: &Asked) -> Judged
-        requires { asked.now.ranks ≤ 16 }
-        ensures { (layout : Layout) (q : Question) (win : ℕ) (asserts : Asserts) → IsQuestion q asked.now →
-            action_of q.call ≡ Synchronises win (Locks SharedLock None asserts) →
-            KeepsBefore layout q self.now → decision_of result ≡ decision q One }
-    {
-        if self.is_any_posted(asked.ranks) {
-            return Judged::Refused(Class::Sync);
-        }
-        if self.lock_state.may_lock_all(asked.ranks) {
             Judged::Allowed
         } else {
             Judged::NotYet

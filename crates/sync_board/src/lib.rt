@@ -7,6 +7,7 @@ mod asked;
 mod board;
 mod counts;
 mod entering;
+mod epoch_judges;
 mod grown;
 mod judges;
 mod layouts;

@@ -60,7 +60,8 @@ pub(crate) fn shape_made(
     windows: &Windows,
 ) -> Result<Option<Shape>, NoMemory>
     requires { asked.now.name < 32 }
-    ensures { IfOk result (λ made. (board : BoardState) → board.ranks ≡ asked.now.ranks → IsLayoutOf board.ranks board.layout →
+    ensures { IfOk result (λ made. (board : BoardState) → board.ranks ≡ asked.now.ranks →
+        IsLayoutOf board.ranks board.layout →
         window_of (rows_on board) (row_asked asked.now) ≡ window_number asked.now.round asked.now.name →
         KeepsWindows board.layout board.ranks (acts (rows_on board)) windows.now.names.items →
         IsMadeBy board (row_asked asked.now) asked.now.step made) }

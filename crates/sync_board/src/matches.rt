@@ -11,7 +11,8 @@ use crate::side_table::SideTable;
 fn has_post(table: &SideTable, rank: usize, member: usize) -> bool
     requires rank { rank < 16 }
     requires member { member < 16 }
-    ensures { (done_of : ℕ → Done) → KeepsSides done_of table.now.sides.items → result ≡ has_post_of done_of rank member }
+    ensures { (done_of : ℕ → Done) → KeepsSides done_of table.now.sides.items →
+        result ≡ has_post_of done_of rank member }
 {
     let started = table.started(rank, member);
     let posted = table.posted(member, rank);

@@ -71,8 +71,8 @@ impl NameRecord {
     ) -> Result<(), NoMemory>
         requires asked { MayBeAsked layout.now asked.now }
         requires small { round < 2 ^ 32 }
-        ensures ok { OnOk result ((q : Question) (name : ℕ) → IsQuestion q asked.now → q.window ≡ window_number round name →
-            is_allowed_now q asked.now.step ≡ true →
+        ensures ok { OnOk result ((q : Question) (name : ℕ) → IsQuestion q asked.now →
+            q.window ≡ window_number round name → is_allowed_now q asked.now.step ≡ true →
             KeepsName layout.now q.ranks name q.entries self.old.rounds.items →
             KeepsName layout.now q.ranks name (entries_after q asked.now.number asked.now.step) self.new.rounds.items) }
         ensures err { OnErr result ((q : Question) (name : ℕ) → IsQuestion q asked.now →

@@ -28,7 +28,8 @@ pub(crate) struct RegionTable {
 impl RegionTable {
     /// No rank has attached a range.
     pub(crate) fn new(alloc: Global) -> RegionTable
-        ensures { (done_of : ℕ → Done) → ((rank : ℕ) → (done_of rank).ranges ≡ []) → KeepsRegions done_of result.regions.items }
+        ensures { (done_of : ℕ → Done) → ((rank : ℕ) → (done_of rank).ranges ≡ []) →
+            KeepsRegions done_of result.regions.items }
     {
         RegionTable {
             regions: Vec::new(alloc),

@@ -25,7 +25,8 @@ pub(crate) struct RoundTable {
 impl RoundTable {
     /// No rank has arrived.
     pub(crate) fn new(alloc: Global) -> RoundTable
-        ensures { (done_of : ℕ → Done) → ((rank : ℕ) → HasNoRounds (done_of rank)) → KeepsRounds done_of result.rounds.items }
+        ensures { (done_of : ℕ → Done) → ((rank : ℕ) → HasNoRounds (done_of rank)) →
+            KeepsRounds done_of result.rounds.items }
     {
         RoundTable {
             rounds: Vec::new(alloc),
@@ -82,7 +83,8 @@ impl RoundTable {
 
     /// A rank has arrived at the next fence of this one with other assertions.
     pub(crate) fn has_other_fence(&self, ranks: usize, rank: usize, asserts: Asserts) -> bool
-        ensures { (q : Question) → q.rank ≡ rank → q.ranks ≡ ranks → collective_of q.call ≡ Some (collective_by Kind.Fence) →
+        ensures { (q : Question) → q.rank ≡ rank → q.ranks ≡ ranks →
+            collective_of q.call ≡ Some (collective_by Kind.Fence) →
             KeepsRounds (done_at q) self.now.rounds.items → result ≡ has_other_asserts q asserts }
     {
         let round = self.begun(Kind::Fence, rank);
@@ -96,7 +98,8 @@ impl RoundTable {
 
     /// A rank has arrived at this creation with another flavor.
     pub(crate) fn has_other_creation(&self, ranks: usize, rank: usize, flavor: Flavor) -> bool
-        ensures { (q : Question) → q.rank ≡ rank → q.ranks ≡ ranks → collective_of q.call ≡ Some (collective_by Kind.Creation) →
+        ensures { (q : Question) → q.rank ≡ rank → q.ranks ≡ ranks →
+            collective_of q.call ≡ Some (collective_by Kind.Creation) →
             KeepsRounds (done_at q) self.now.rounds.items → result ≡ has_other_flavor q flavor }
     {
         let round = self.begun(Kind::Creation, rank);

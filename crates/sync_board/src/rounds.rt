@@ -105,7 +105,8 @@ impl Rounds {
 
     /// One arrival more at a free.
     pub(crate) fn free(&mut self) -> Result<(), NoMemory>
-        ensures ok { OnOk result ((d : Done) (call : Call) → HasRounds d self.old → HasRounds (with_free d call) self.new) }
+        ensures ok { OnOk result ((d : Done) (call : Call) →
+            HasRounds d self.old → HasRounds (with_free d call) self.new) }
         ensures err { OnErr result ((d : Done) → HasRounds d self.old → HasRounds d self.new) }
     {
         self.freed = self.freed.checked_add(1).ok_or(NoMemory)?;

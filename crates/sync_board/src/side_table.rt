@@ -18,7 +18,8 @@ pub(crate) struct SideTable {
 impl SideTable {
     /// No rank has done anything.
     pub(crate) fn new(alloc: Global) -> SideTable
-        ensures { (done_of : ℕ → Done) → ((rank : ℕ) → HasNoSide (done_of rank)) → KeepsSides done_of result.sides.items }
+        ensures { (done_of : ℕ → Done) → ((rank : ℕ) → HasNoSide (done_of rank)) →
+            KeepsSides done_of result.sides.items }
     {
         SideTable {
             sides: Vec::new(alloc),

@@ -82,7 +82,8 @@ impl Side {
     /// before it.
     fn completed_with_start(&self, group: &[bool; 16]) -> Option<[u32; 16]>
         ensures { IfSome result (λ counts. (d : Done) (members : List ℕ) →
-            IsGroup group.now members → Keeps d self.now → CountsGroups counts (take d.completes (d.starts ++ members ∷ []))) }
+            IsGroup group.now members → Keeps d self.now →
+            CountsGroups counts (take d.completes (d.starts ++ members ∷ []))) }
     {
         if self.starts.len() < self.completes as usize {
             raised(&self.completed_to, group)

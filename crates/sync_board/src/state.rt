@@ -36,7 +36,8 @@ pub(crate) struct State {
 fn leaves_barrier(asked: &Asked) -> bool
     requires { is_step_of asked.now.step asked.now.call.now ≡ true }
     ensures leaves { result ≡ true → (asked.now.step ≡ Leave) × (asked.now.call.now ≡ BarrierCall) }
-    ensures other { result ≡ false → collective_of asked.now.call.now ≡ Some BarrierCollective → asked.now.step ≡ Arrive }
+    ensures other { result ≡ false → collective_of asked.now.call.now ≡ Some BarrierCollective →
+        asked.now.step ≡ Arrive }
 {
     match asked.step {
         Step::Arrive => false,

@@ -59,8 +59,8 @@ impl Idle for WindowRecord {
 impl WindowRecord {
     /// The rank has posted to a group.
     pub(crate) fn post(&mut self, alloc: Global, rank: u8, group: &Group) -> Result<(), NoMemory>
-        ensures ok { OnOk result ((layout : Layout) (q : Question) (number : ℕ) (step : Step) (win : ℕ) (asserts : Asserts) →
-            q.rank ≡ rank → action_of q.call ≡ Synchronises win (Posts group.now asserts) →
+        ensures ok { OnOk result ((layout : Layout) (q : Question) (number : ℕ) (step : Step) (win : ℕ)
+            (asserts : Asserts) → q.rank ≡ rank → action_of q.call ≡ Synchronises win (Posts group.now asserts) →
             q.ranks ≤ 16 → is_wrong_group q.ranks group.now ≡ false →
             KeepsBefore layout q self.old → KeepsAfter layout q number step self.new) }
         ensures err { OnErr result ((layout : Layout) (q : Question) →
@@ -72,8 +72,8 @@ impl WindowRecord {
 
     /// The rank has started to a group.
     pub(crate) fn start(&mut self, alloc: Global, rank: u8, group: &Group) -> Result<(), NoMemory>
-        ensures ok { OnOk result ((layout : Layout) (q : Question) (number : ℕ) (step : Step) (win : ℕ) (asserts : Asserts) →
-            q.rank ≡ rank → action_of q.call ≡ Synchronises win (Starts group.now asserts) →
+        ensures ok { OnOk result ((layout : Layout) (q : Question) (number : ℕ) (step : Step) (win : ℕ)
+            (asserts : Asserts) → q.rank ≡ rank → action_of q.call ≡ Synchronises win (Starts group.now asserts) →
             KeepsBefore layout q self.old → KeepsAfter layout q number step self.new) }
         ensures err { OnErr result ((layout : Layout) (q : Question) →
             KeepsBefore layout q self.old → KeepsBefore layout q self.new) }
@@ -160,8 +160,9 @@ impl WindowRecord {
     pub(crate) fn lock_one(&mut self, window: u32, rank: u8, kind: Lock, target: u8)
         requires rank { rank < 16 }
         requires target { target < 16 }
-        ensures { (layout : Layout) (q : Question) (number : ℕ) (step : Step) (win : ℕ) (asked : ℤ) (asserts : Asserts) →
-            q.rank ≡ rank → q.window ≡ window → action_of q.call ≡ Synchronises win (Locks kind (Some asked) asserts) →
+        ensures { (layout : Layout) (q : Question) (number : ℕ) (step : Step) (win : ℕ) (asked : ℤ)
+            (asserts : Asserts) → q.rank ≡ rank → q.window ≡ window →
+            action_of q.call ≡ Synchronises win (Locks kind (Some asked) asserts) →
             natural asked ≡ target → are_free q (locks_asked q kind (Some asked)) ≡ true →
             KeepsBefore layout q self.old → KeepsAfter layout q number step self.new }
     {
@@ -213,8 +214,9 @@ impl WindowRecord {
     ) -> Result<(), NoMemory>
         requires some { 0 < bytes }
         requires end { base + bytes < 2 ^ 32 }
-        ensures ok { OnOk result ((layout : Layout) (q : Question) (number : ℕ) (step : Step) (win : ℕ) (from size : ℤ) →
-            q.rank ≡ rank → action_of q.call ≡ Attaches win from size → natural from ≡ base → natural size ≡ bytes →
+        ensures ok { OnOk result ((layout : Layout) (q : Question) (number : ℕ) (step : Step) (win : ℕ)
+            (from size : ℤ) → q.rank ≡ rank → action_of q.call ≡ Attaches win from size →
+            natural from ≡ base → natural size ≡ bytes →
             base + bytes ≤ bytes_at layout rank →
             KeepsBefore layout q self.old → KeepsAfter layout q number step self.new) }
         ensures err { OnErr result ((layout : Layout) (q : Question) →

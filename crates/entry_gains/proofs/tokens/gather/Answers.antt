@@ -3,7 +3,7 @@ use Rattle.std.specs.Option.{option_map}
 use Rattle.entry_gains.specs.Kept.{gained_at, gained_below, gained_from}
 use Rattle.entry_gains.specs.Plans.{plan_slot}
 use Rattle.entry_gains.specs.Slots.{front_at, joined}
-use Rattle.entry_gains.proofs.PlanSteps.{gained_alike, gained_next}
+use Rattle.entry_gains.proofs.PlanSteps.{gained_alike, gained_next, gained_whole}
 use Rattle.entry_gains.proofs.tokens.gather.Goals as goal
 
 pub loop-at-preserved : goal.loop-at-preserved
@@ -25,6 +25,8 @@ loop-at-preserved g c = record {
 pub returns-clause-gathered : goal.returns-clause-gathered
 unfolding gained_from
 returns-clause-gathered g c =
-    let end : c.loop-at.at ≡ 32 = omega arith in
-    c.loop-at.invariant.gathered ∙ ap (λ n. gained_below n (front_at g.N.Token.front c.args.tokens.now)
+    let end : c.loop-at.at ≡ c.end-end.result = omega arith in
+    c.loop-at.invariant.gathered ∙ (ap (λ n. gained_below n (front_at g.N.Token.front c.args.tokens.now)
     (plan_slot c.args.plan.now)) end
+    ∙ gained_whole (front_at g.N.Token.front c.args.tokens.now) (plan_slot c.args.plan.now) c.end-end.result
+    c.end-end.ensures.most c.end-end.ensures.rest)
