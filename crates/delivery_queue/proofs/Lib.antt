@@ -1,4 +1,6 @@
 -- Lemmas of the queue.
-pub mod DroppedFront
+pub mod FirstFound
 pub mod GivenWays
+pub mod Joined
+pub mod NumberBits
 pub mod TouchCounts

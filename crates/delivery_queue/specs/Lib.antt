@@ -1,2 +1,5 @@
 -- What a queue of pending accesses is.
+pub mod Blocks
+pub mod Marked
 pub mod Queues
+pub mod Soughts

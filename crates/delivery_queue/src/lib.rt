@@ -2,8 +2,13 @@
 //! requests (MPI 3.1, sections 11.3.5 and 11.7).
 #![tactic(auto)]
 
+mod blocks;
 mod deliveries;
+mod marks;
+mod number_sets;
 mod queue;
+mod searches;
+mod sought;
 #[cfg(test)]
 mod tests;
 mod waits;

@@ -1,5 +1,5 @@
 //! A rank's pending accesses and live requests.
-ghost use Rattle.std.specs.Prelude.{◌≡◌, ◌<◌, ◌≤◌, ◌+◌, ◌++◌, [], length, slice_get, slice_index, true, false, Some};
+ghost use Rattle.std.specs.Prelude.{◌≡◌, ◌<◌, ◌≤◌, ◌+◌, ◌++◌, [], ◌∷◌, length, slice_get, slice_index, true, false, Some};
 ghost use Rattle.std.specs.Prelude.{IfSome, IfOk, OnOk, OnErr};
 ghost use Rattle.call_rules.specs.WellFormed.{IsWrittenCall};
 ghost use Rattle.delivery_queue.specs.Queues.{no_accesses, issued, with_access, with_touched, without_access, Delivers};
@@ -8,8 +8,10 @@ ghost use Rattle.cell_face.specs.Faces.{Rose, Keeps};
 ghost use Rattle.rank_rules.specs.Pending.{awaited, way as way_of};
 ghost use Rattle.rank_rules.specs.Requests.{is_live_request, with_request, without_request};
 
+use crate::blocks::Block;
 use crate::deliveries::touch_pending;
-use crate::waits::first_awaited;
+use crate::searches::{begun_at, first, push_to, remove_at, touch_at};
+use crate::waits::awaited_by;
 use crate::ways::way;
 use cell_face::Memory;
 use rank_rules::PendingAccess;
@@ -30,30 +32,28 @@ pub struct Delivery {
 /// requests, q0 to q63.
 #[derive(Debug, Drop)]
 pub struct Pending {
-    /// The accesses, after those at the front that were delivered.
-    accesses: Vec<PendingAccess>,
-    /// How many elements of each are touched.
-    touched: Vec<u32>,
-    /// How many at the front of both lists were delivered.
-    first: usize,
+    /// The accesses, one block after another.
+    blocks: Vec<Block>,
+    /// The number of accesses.
+    count: usize,
     /// The number of the call that made the live request of each name.
     requests: [Option<u32>; 64],
 }
 
 impl Model for Pending {
-    ghost use Rattle.std.specs.Prelude.{◌≡◌, ◌≤◌, drop, length};
+    ghost use Rattle.std.specs.Prelude.{◌≡◌, ◌<◌, ◌^◌, length};
+    ghost use Rattle.delivery_queue.specs.Blocks.{joined, accesses_of, touched_of};
     ghost use Rattle.delivery_queue.specs.Queues.{Queue};
 
     ghost Value = { Queue };
 
     ghost view = { λ it. record {
-      pending = drop it.first it.accesses.items;
-      touched = drop it.first it.touched.items;
+      pending = accesses_of (joined it.blocks.items);
+      touched = touched_of (joined it.blocks.items);
       requests = it.requests;
     } };
 
-    ghost invariant = { λ it.
-        (it.first ≤ length it.accesses.items) × (length it.touched.items ≡ length it.accesses.items) };
+    ghost invariant = { λ it. (length (joined it.blocks.items) ≡ it.count) × (it.count < 2 ^ 64) };
 }
 
 impl Pending {
@@ -62,9 +62,8 @@ impl Pending {
         ensures { IfOk result (λ pending. pending ≡ no_accesses) }
     {
         Ok(Pending {
-            accesses: Vec::new(alloc),
-            touched: Vec::new(alloc),
-            first: 0,
+            blocks: Vec::new(alloc),
+            count: 0,
             requests: [None; 64],
         })
     }
@@ -81,7 +80,7 @@ impl Pending {
     pub fn count(&self) -> usize
         ensures { result ≡ length self.now.pending }
     {
-        self.accesses.len() - self.first
+        self.count
     }
 
     /// The place of the access to which the one at a place gives way in the end, directly or through others; its own
@@ -91,7 +90,7 @@ impl Pending {
         ensures end { result ≡ way_of self.now.pending at }
         ensures not_after { result ≤ at }
     {
-        way(&self.accesses[self.first..], at)
+        way(&self.blocks, at)
     }
 
     /// Ends the live request of this name.
@@ -101,6 +100,23 @@ impl Pending {
         ensures { self.new ≡ record self.old { requests = without_request self.old.requests req } }
     {
         self.requests[usize::from(req)] = None;
+    }
+
+    /// An access stands at the end, and nothing of it is touched. `Err` changes nothing.
+    fn push(&mut self, one: PendingAccess) -> Result<(), NoMemory>
+        ensures added { OnOk result (self.new ≡ record {
+          pending = self.old.pending ++ one ∷ [];
+          touched = self.old.touched ++ 0 ∷ [];
+          requests = self.old.requests;
+        }) }
+        ensures unchanged { OnErr result (self.new ≡ self.old) }
+    {
+        if self.count == usize::MAX {
+            return Err(NoMemory);
+        }
+        push_to(&mut self.blocks, one)?;
+        self.count += 1;
+        Ok(())
     }
 
     /// An access is issued: it stands at the end, unless it has no bytes; `index` is that of its Issue item. Where a
@@ -125,10 +141,7 @@ impl Pending {
             fetches,
         };
         if 0 < one.access.len {
-            self.accesses.reserve(1).map_err(|_| NoMemory)?;
-            self.touched.reserve(1).map_err(|_| NoMemory)?;
-            self.accesses.push_reserved(one);
-            self.touched.push_reserved(0);
+            self.push(one)?;
         }
         if let Some(name) = req {
             self.requests[usize::from(name)] = Some(call);
@@ -143,7 +156,7 @@ impl Pending {
         ensures next { result ≡ awaited self.now.requests call.now self.now.pending }
         ensures within { IfSome result (λ at. at < length self.now.pending) }
     {
-        match first_awaited(&self.requests, call, &self.accesses[self.first..]) {
+        match first(&self.blocks, &awaited_by(&self.requests, call)) {
             Some(at) => Some(self.way(at)),
             None => None,
         }
@@ -154,12 +167,8 @@ impl Pending {
         requires { at < length self.old.pending }
         ensures { self.new ≡ without_access self.old at }
     {
-        if at == 0 {
-            self.first += 1;
-        } else {
-            self.accesses.remove(self.first + at);
-            self.touched.remove(self.first + at);
-        }
+        remove_at(&mut self.blocks, at);
+        self.count -= 1;
     }
 
     /// So many elements of the access at a place are touched.
@@ -167,8 +176,7 @@ impl Pending {
         requires { at < length self.old.pending }
         ensures { self.new ≡ with_touched self.old at count }
     {
-        let place = self.first + at;
-        self.touched[place] = count;
+        touch_at(&mut self.blocks, at, count);
     }
 
     /// The access at a place.
@@ -176,7 +184,7 @@ impl Pending {
         requires { at < length self.now.pending }
         ensures { slice_get self.now.pending at ≡ Some result }
     {
-        self.accesses[self.first + at]
+        begun_at(&self.blocks, at).access
     }
 
     /// How many elements of the access at a place are touched.
@@ -184,7 +192,7 @@ impl Pending {
         requires { at < length self.now.pending }
         ensures { result ≡ slice_index self.now.touched at }
     {
-        self.touched[self.first + at]
+        begun_at(&self.blocks, at).touched
     }
 
     /// Delivers the access at a place: it makes room for the touches that are left of it, and makes them in the order

@@ -1,47 +1,44 @@
 //! Which pending accesses a call must wait for (MPI 3.1, sections 11.3.5, 11.5 and 11.7).
-ghost use Rattle.std.specs.Prelude.{◌≡◌, ◌<◌, ◌%◌, ◌==◌, length, IfSome};
-ghost use Rattle.std.specs.List.{position};
+ghost use Rattle.std.specs.Prelude.{◌≡◌};
 ghost use Rattle.call_rules.specs.Ranks.{natural};
 ghost use Rattle.call_rules.specs.WellFormed.{IsWrittenCall};
-ghost use Rattle.rank_rules.specs.Pending.{is_on as is_on_window, must_wait as does_wait};
-ghost use Rattle.rank_rules.specs.Requests.{maker_of};
-ghost use Rattle.std.specs.Option.{option_map_or};
+ghost use Rattle.delivery_queue.specs.Soughts.{is_sought};
+ghost use Rattle.rank_rules.specs.declared.pending.PendingAccess.{PendingAccess as Access};
+ghost use Rattle.rank_rules.specs.Pending.{must_wait as does_wait};
 
-use rank_rules::PendingAccess;
+use crate::sought::Sought;
 use rma_types::Call;
 
-fn is_on(win: u8, one: &PendingAccess) -> bool
-    ensures { result ≡ is_on_window win one.now }
+/// The number of a rank; a negative number counts as rank 0.
+fn rank_of(target: i32) -> u32
+    ensures { result ≡ natural target }
 {
-    one.access.window % 32 == u32::from(win)
+    if target < 0 { 0 } else { target as u32 }
 }
 
-/// Whether the access reaches a rank; a negative number counts as rank 0.
-fn is_at(rank: i32, one: &PendingAccess) -> bool
-    ensures { result ≡ one.now.access.target == natural rank }
-{
-    u32::from(one.access.target) == if rank < 0 { 0 } else { rank as u32 }
-}
-
-/// Whether the call must wait for the pending access before its first item. `requests` has, for each name, the number
-/// of the call that made the live request of that name.
-fn must_wait(requests: &[Option<u32>; 64], call: &Call, one: &PendingAccess) -> bool
+/// The pending accesses that the call must wait for before its first item. `requests` has, for each name, the number of
+/// the call that made the live request of that name.
+pub(crate) fn awaited_by(requests: &[Option<u32>; 64], call: &Call) -> Sought
     requires { IsWrittenCall call.now }
-    ensures { result ≡ does_wait requests.now call.now one.now }
+    ensures { (one : Access) → is_sought result one ≡ does_wait requests.now call.now one }
 {
     match call {
         Call::Fence { win, .. }
         | Call::Complete { win }
         | Call::UnlockAll { win }
-        | Call::FlushAll { win } => is_on(*win, one),
-        Call::Unlock { win, target } | Call::Flush { win, target } => is_on(*win, one)
-            && is_at(*target, one),
-        Call::FlushLocal { win, target } => is_on(*win, one)
-            && (is_at(*target, one) && one.fetches),
-        Call::FlushLocalAll { win } => is_on(*win, one) && one.fetches,
-        Call::WaitReq { req } | Call::TestReq { req } => {
-            one.fetches && requests[usize::from(*req)] == Some(one.number)
-        }
+        | Call::FlushAll { win } => Sought::OnWindow { win: *win },
+        Call::Unlock { win, target } | Call::Flush { win, target } => Sought::AtTarget {
+            win: *win,
+            target: rank_of(*target),
+        },
+        Call::FlushLocal { win, target } => Sought::FetchAtTarget {
+            win: *win,
+            target: rank_of(*target),
+        },
+        Call::FlushLocalAll { win } => Sought::FetchOnWindow { win: *win },
+        Call::WaitReq { req } | Call::TestReq { req } => Sought::FetchOfCall {
+            maker: requests[usize::from(*req)],
+        },
         Call::Allocate { .. }
         | Call::Create { .. }
         | Call::Dynamic { .. }
@@ -63,21 +60,6 @@ fn must_wait(requests: &[Option<u32>; 64], call: &Call, one: &PendingAccess) -> 
         | Call::Fop { .. }
         | Call::Cas { .. }
         | Call::Load { .. }
-        | Call::Store { .. } => false,
+        | Call::Store { .. } => Sought::Nothing,
     }
-}
-
-/// The place of the first of some pending accesses that the call must wait for.
-pub fn first_awaited(
-    requests: &[Option<u32>; 64],
-    call: &Call,
-    pending: &[PendingAccess],
-) -> Option<usize>
-    requires { IsWrittenCall call.now }
-    ensures place { result ≡ position (does_wait requests.now call.now) pending.now }
-    ensures within { IfSome result (λ at. at < length pending.now) }
-{
-    pending
-        .iter()
-        .position(|one| must_wait(requests, call, one))
 }

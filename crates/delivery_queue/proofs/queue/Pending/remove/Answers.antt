@@ -1,26 +1,15 @@
-use Rattle.std.proofs.Common.{rules, ◌≡◌, refl}
-use Rattle.delivery_queue.proofs.DroppedFront.{drop_one_more, drop_remove}
+use Rattle.std.proofs.Common.{◌≡◌, refl}
+use Rattle.delivery_queue.specs.declared.blocks.Begun.{Begun}
+use Rattle.delivery_queue.specs.Blocks.{joined}
+use Rattle.delivery_queue.proofs.Joined.{map_remove}
 use Rattle.delivery_queue.proofs.queue.Pending.remove.Goals as goal
 
-pub returns-then-at-eq0 : goal.returns-then-at-eq0
-returns-then-at-eq0 c =
-    let first = c.self.inside.first in
-    let at_front : c.args.at ≡ 0 = search rules in
+pub returns : goal.returns
+returns c =
+    let ones = joined c.self.inside.blocks.items in
     rw (
       ← c.self.view_is,
-      at_front,
-      drop_one_more first c.self.inside.accesses.items,
-      drop_one_more first c.self.inside.touched.items,
-    ) refl
-
-pub returns-else-at-eq0 : goal.returns-else-at-eq0
-returns-else-at-eq0 c =
-    let first = c.self.inside.first in
-    let at = c.args.at in
-    rw (
-      ← c.self.view_is,
-      c.remove.ensures.items,
-      c.remove-else-at-eq0.ensures.items,
-      drop_remove first at c.self.inside.accesses.items,
-      drop_remove first at c.self.inside.touched.items,
+      c.remove_at.ensures,
+      map_remove (λ (one : Begun). one.access) ones c.args.at,
+      map_remove (λ (one : Begun). one.touched) ones c.args.at,
     ) refl

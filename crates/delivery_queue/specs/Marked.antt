@@ -1,0 +1,18 @@
+-- What the marks of a block say of its accesses.
+use Rattle.std.specs.Prelude.{ℕ, ◌≡◌, ◌%◌, Bool, true, ◌==◌}
+use Rattle.std.specs.Int.{bit_at}
+use Rattle.call_rules.specs.Transfers.{is_ordered_kind}
+use Rattle.rank_rules.specs.declared.pending.PendingAccess.{PendingAccess}
+use Rattle.delivery_queue.specs.declared.number_sets.NumberSet.{NumberSet}
+use Rattle.delivery_queue.specs.declared.marks.Marks.{Marks}
+
+-- the number, below 32, is in the set
+abbrev pub has : NumberSet → ℕ → Bool
+has set number = bit_at set.bits number == 1
+
+-- the access has each of its marks
+pub record IsMarked (marks : Marks) (one : PendingAccess) : Type 0 where
+  pub window : has marks.windows (one.access.window % 32) ≡ true
+  pub target : has marks.targets (one.access.target % 32) ≡ true
+  pub ordered : is_ordered_kind one.access.kind ≡ true → has marks.ordered (one.access.target % 32) ≡ true
+  pub fetches : one.fetches ≡ true → marks.fetches ≡ true
