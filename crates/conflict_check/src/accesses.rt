@@ -22,7 +22,7 @@ pub struct JudgedPoints {
 }
 
 /// One of the points is before the item, or is it.
-pub(crate) fn do_reach(clocks: &Clocks, points: &[Id], id: Id) -> bool
+pub fn do_reach(clocks: &Clocks, points: &[Id], id: Id) -> bool
     ensures { result ≡ reaches (before_in clocks.now) points.now id }
 {
     for point in points {

@@ -24,7 +24,7 @@ use vector_clocks::Clocks;
 /// What is looked for among the steps of a rank on the window of an access: the arrival at a fence, a complete, a wait,
 /// what completes the access at its target or at its origin, and what takes in RMA updates or gives out stores.
 #[derive(Clone, Copy, Debug, PartialEq, Eq)]
-pub(crate) enum Sought {
+pub enum Sought {
     FenceArrival,
     Complete,
     Wait,
@@ -69,7 +69,7 @@ fn is_on_window(access: &KeptAccess, step: &KeptStep) -> bool
 }
 
 /// The step is on the window of the access, and is what is looked for.
-fn is_sought(script: &Script, sought: Sought, access: &KeptAccess, step: &KeptStep) -> bool
+pub fn is_sought(script: &Script, sought: Sought, access: &KeptAccess, step: &KeptStep) -> bool
     ensures { result ≡ is_sought_by script.now sought access.now step.now }
 {
     is_on_window(access, step)
@@ -80,7 +80,7 @@ fn is_sought(script: &Script, sought: Sought, access: &KeptAccess, step: &KeptSt
 }
 
 /// The step ends the request of the access.
-fn ends_request(access: &KeptAccess, step: &KeptStep) -> bool
+pub fn ends_request(access: &KeptAccess, step: &KeptStep) -> bool
     ensures { result ≡ ends_request_of access.now step.now }
 {
     match step.maker {
@@ -150,7 +150,7 @@ fn steps_unreached(clocks: &Clocks, points: &[Id], steps: &[KeptStep]) -> usize
 }
 
 /// The first step of the origin after the access that is what is looked for on its window.
-pub(crate) fn first_after(
+pub fn first_after(
     script: &Script,
     records: &[RankRecord],
     sought: Sought,

@@ -11,3 +11,5 @@ mod tests;
 
 pub use clocks::clocks_of;
 pub use marks::{Clocks, Mark};
+pub use places::{Placed, entries_by_place};
+pub use replays::wide_layout;

@@ -11,11 +11,11 @@ use std::alloc::Global;
 
 /// An entry of the board as it stands in a log: its name, the number of its call, its place and its step.
 #[derive(Clone, Copy, Debug, PartialEq, Eq)]
-pub(crate) struct Placed {
-    pub(crate) id: Id,
-    pub(crate) call: u32,
-    pub(crate) place: u32,
-    pub(crate) step: Step,
+pub struct Placed {
+    pub id: Id,
+    pub call: u32,
+    pub place: u32,
+    pub step: Step,
 }
 
 fn is_some_entry(item: &Item) -> bool
@@ -106,7 +106,7 @@ fn put_logs(list: &mut [Placed], logs: &Logs) -> Result<(), NoMemory>
 }
 
 /// The entries of all logs, each at its place.
-pub(crate) fn entries_by_place(alloc: Global, logs: &Logs) -> Result<Vec<Placed>, NoMemory>
+pub fn entries_by_place(alloc: Global, logs: &Logs) -> Result<Vec<Placed>, NoMemory>
     requires { length logs.now ≤ 16 }
     ensures { IfOk result (λ list.
         list.items ≡ with_items (replicate (entries_in logs.now) no_entry) (named_logs 0 logs.now)) }

@@ -128,7 +128,7 @@ fn call_at<'s>(script: &'s Script, rank: u8, number: u32) -> Result<&'s Call, No
 }
 
 /// A layout in which each range of a run lies: the order of a run does not depend on where its memory is.
-pub(crate) fn wide_layout(alloc: Global, ranks: u8) -> Result<Layout, NoMemory>
+pub fn wide_layout(alloc: Global, ranks: u8) -> Result<Layout, NoMemory>
     ensures { IfOk result (λ layout. IsWide ranks layout) }
 {
     let mut parts: Items<MemoryPart> = Items::new(alloc);

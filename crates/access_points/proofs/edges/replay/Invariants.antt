@@ -1,0 +1,12 @@
+use Rattle.std.proofs.Common.{◌≡◌, []}
+use Rattle.vector_clocks.specs.Wide.{IsWide}
+use Rattle.access_points.specs.Edges.{Replayed}
+use Rattle.access_points.proofs.edges.replay.Given as goal
+
+abbrev pub invariant-loop-at : goal.invariant-loop-at
+invariant-loop-at l = record {
+  ranks : l.board.ranks ≡ l.script.ranks;
+  wide : IsWide l.script.ranks l.board.layout;
+  name : l.board.name ≡ [];
+  replayed : Replayed l.script l.run l.from l.at l.board.entries l.led;
+}

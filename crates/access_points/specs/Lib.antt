@@ -1,0 +1,3 @@
+-- The points of one access.
+pub mod Edges
+pub mod Points
