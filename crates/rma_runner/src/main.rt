@@ -9,6 +9,8 @@ mod inputs;
 mod outcomes;
 mod outputs;
 #[cfg(test)]
+mod run_tests;
+#[cfg(test)]
 mod tests;
 mod tops;
 mod words;
