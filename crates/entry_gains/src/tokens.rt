@@ -21,14 +21,12 @@ fn fill<N: Token>(tokens: &mut HashMap<Slot, N>, slot: Slot, gift: N)
     ensures from { AreFrom N.origin (N.origin gift) tokens.new }
     ensures room { spare tokens.old ≤ spare tokens.new + 1 }
 {
-    let kept = match tokens.remove(&slot) {
-        Some(mut kept) => {
-            kept.merge(gift);
-            kept
+    match tokens.get_mut(&slot) {
+        Some(kept) => kept.merge(gift),
+        None => {
+            let _ = tokens.insert(slot, gift);
         }
-        None => gift,
-    };
-    let _ = tokens.insert(slot, kept);
+    }
 }
 
 /// A token with what the slot keeps.
