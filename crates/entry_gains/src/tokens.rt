@@ -43,6 +43,7 @@ fn copy_of<N: Token>(tokens: &mut HashMap<Slot, N>, slot: Slot) -> Option<N>
 }
 
 /// The gift of an entry in the slot of its plan at an index.
+#[inline(always)]
 fn fill_at<N: Token>(tokens: &mut HashMap<Slot, N>, plan: &Plan, at: u8, gift: &mut N)
     requires index { at < 32 }
     requires room { 1 ≤ spare tokens.old }
@@ -112,6 +113,7 @@ fn merged<N: Token>(all: Option<N>, more: Option<N>, root: &N) -> Option<N>
 }
 
 /// What was gathered so far, and what the slot of the plan at an index keeps.
+#[inline(always)]
 fn gather_at<N: Token>(
     tokens: &mut HashMap<Slot, N>,
     plan: &Plan,
