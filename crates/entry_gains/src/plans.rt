@@ -53,6 +53,7 @@ pub(crate) enum Plan {
 }
 
 /// The slot of a lock that an unlock gives back.
+#[inline(always)]
 fn unlock_slot(window: u32, target: u8, exclusive: bool, held: Option<Lock>) -> Option<Slot>
     ensures { result ≡ unlock_slot_of window target exclusive held }
 {
@@ -91,6 +92,7 @@ impl Plan {
     }
 
     /// The slot at an index.
+    #[inline(always)]
     pub(crate) fn slot(&self, at: u8) -> Option<Slot>
         requires { at < 32 }
         ensures { result ≡ plan_slot self.now at }

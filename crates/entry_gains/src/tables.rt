@@ -73,8 +73,12 @@ pub(crate) fn arrive(rounds: &mut HashMap<RoundKey, u32>, key: RoundKey)
     ensures { (other : RoundKey) → begun_at rounds.new other ≡ cond (round_eq key other)
         (counted (begun_at rounds.old key)) (begun_at rounds.old other) }
 {
-    let count = begun(rounds, key).saturating_add(1);
-    let _ = rounds.insert(key, count);
+    match rounds.get_mut(&key) {
+        Some(count) => *count = count.saturating_add(1),
+        None => {
+            let _ = rounds.insert(key, 1);
+        }
+    }
 }
 
 /// What a rank has done on a window.

@@ -21,14 +21,12 @@ fn fill<N: Token>(tokens: &mut HashMap<Slot, N>, slot: Slot, gift: N)
     ensures from { AreFrom N.origin (N.origin gift) tokens.new }
     ensures room { spare tokens.old ≤ spare tokens.new + 1 }
 {
-    let kept = match tokens.remove(&slot) {
-        Some(mut kept) => {
-            kept.merge(gift);
-            kept
+    match tokens.get_mut(&slot) {
+        Some(kept) => kept.merge(gift),
+        None => {
+            let _ = tokens.insert(slot, gift);
         }
-        None => gift,
-    };
-    let _ = tokens.insert(slot, kept);
+    }
 }
 
 /// A token with what the slot keeps.
@@ -45,6 +43,7 @@ fn copy_of<N: Token>(tokens: &mut HashMap<Slot, N>, slot: Slot) -> Option<N>
 }
 
 /// The gift of an entry in the slot of its plan at an index.
+#[inline(always)]
 fn fill_at<N: Token>(tokens: &mut HashMap<Slot, N>, plan: &Plan, at: u8, gift: &mut N)
     requires index { at < 32 }
     requires room { 1 ≤ spare tokens.old }
@@ -114,6 +113,7 @@ fn merged<N: Token>(all: Option<N>, more: Option<N>, root: &N) -> Option<N>
 }
 
 /// What was gathered so far, and what the slot of the plan at an index keeps.
+#[inline(always)]
 fn gather_at<N: Token>(
     tokens: &mut HashMap<Slot, N>,
     plan: &Plan,
