@@ -1,5 +1,5 @@
 -- The least of two indexes.
-use Rattle.std.proofs.Common.{◌≡◌, ℕ, ◌≤◌, inl, inr, Bool, true, false, ap, sym, ◌∙◌, arith}
+use Rattle.std.proofs.Common.{◌≡◌, ℕ, inl, inr, Bool, true, false, ap, sym, ◌∙◌, arith}
 use Rattle.std.specs.Prelude.{◌||◌, min, nat_le}
 use Rattle.std.proofs.lemmas.Bool.{cases_Bool, le-leb, leb-false, leb-true, lt-leb}
 

@@ -5,10 +5,10 @@ pub mod Finds
 pub mod Groups
 pub mod KeptParts
 pub mod Least
+pub mod MayStand
 pub mod Parted
 pub mod Parts
 pub mod RankSteps
 pub mod SoughtSteps
 pub mod Stands
-pub mod Towards
 pub mod VisibleParts

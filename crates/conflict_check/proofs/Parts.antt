@@ -22,6 +22,13 @@ take_at [] k d within = absurd (omega arith)
 take_at (x ∷ xs) zero d within = refl
 take_at (x ∷ xs) (suc k) d within = ap (λ l. x ∷ l) (take_at xs k d (omega (arith, within)))
 
+-- a list that is written over the whole of another
+pub take_front : {X : Type 0} (xs ys : List X) (k : ℕ) → length xs ≡ k → take k (xs ++ ys) ≡ xs
+take_front [] ys zero long = refl
+take_front [] ys (suc k) long = absurd (omega (arith, long))
+take_front (x ∷ xs) ys zero long = absurd (omega (arith, long))
+take_front (x ∷ xs) ys (suc k) long = ap (λ l. x ∷ l) (take_front xs ys k (omega (arith, long)))
+
 -- one access more
 pub taken_more : (accesses : List JudgedPoints) (k : ℕ) (d : JudgedPoints) → k < length accesses →
     map judged_by (take k accesses) ++ judged_by (slice_index_or accesses k d) ∷ []

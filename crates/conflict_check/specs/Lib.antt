@@ -2,3 +2,4 @@
 pub mod Alike
 pub mod KeptPoints
 pub mod Reached
+pub mod Standing

@@ -1,8 +1,8 @@
 //! Accesses with their points, and which of two is ordered before the other (after MPI 3.1, section 11.7).
-ghost use Rattle.std.specs.Prelude.{◌≡◌, List};
+ghost use Rattle.std.specs.Prelude.{◌≡◌, ◌∷◌, []};
 ghost use Rattle.std.specs.List.{list_any};
 ghost use Rattle.rma_types.specs.declared.accesses.Id.{Id as IdValue};
-ghost use Rattle.order_rules.specs.Ordered.{is_ordered as is_ordered_by, points_for};
+ghost use Rattle.order_rules.specs.Ordered.{points_for, role_in};
 ghost use Rattle.order_rules.specs.Roles.{role_of};
 ghost use Rattle.vector_clocks.specs.Marks.{before_in};
 ghost use Rattle.rma_rules.specs.Same.{role_by};
@@ -33,16 +33,18 @@ pub fn do_reach(clocks: &Clocks, points: &[Id], id: Id) -> bool
     false
 }
 
-/// The first access is ordered before the second.
-pub(crate) fn is_ordered(clocks: &Clocks, a: &JudgedPoints, b: &JudgedPoints) -> bool
-    ensures { result ≡ is_ordered_by (before_in clocks.now) (judged_by a.now) (judged_by b.now) }
+/// The points of the first access one of which must be before the second, which is of this part (MPI 3.1, sections
+/// 11.4, 11.5 and 11.7, in this project's profile). `own` has the name of the first alone.
+pub(crate) fn points_towards<'a>(a: &'a JudgedPoints, own: &'a [Id], part: Part) -> &'a [Id]
+    requires { own.now ≡ a.now.id ∷ [] }
+    ensures { result.now ≡ points_for (judged_by a.now) (role_in (judged_by a.now)) (role_by part) }
 {
-    match (part_of(a.access.kind), part_of(b.access.kind)) {
-        (Part::Update, Part::Update | Part::Read) => do_reach(clocks, a.done.as_slice(), b.id),
-        (Part::Update, Part::Store | Part::Load) => do_reach(clocks, a.visible.as_slice(), b.id),
-        (Part::Read, _) => do_reach(clocks, a.done.as_slice(), b.id),
-        (Part::Store, Part::Update | Part::Read) => do_reach(clocks, a.visible.as_slice(), b.id),
-        (Part::Store, Part::Store | Part::Load) => clocks.before(a.id, b.id),
-        (Part::Load, _) => clocks.before(a.id, b.id),
+    match (part_of(a.access.kind), part) {
+        (Part::Update, Part::Update | Part::Read) => a.done.as_slice(),
+        (Part::Update, Part::Store | Part::Load) => a.visible.as_slice(),
+        (Part::Read, _) => a.done.as_slice(),
+        (Part::Store, Part::Update | Part::Read) => a.visible.as_slice(),
+        (Part::Store, Part::Store | Part::Load) => own,
+        (Part::Load, _) => own,
     }
 }

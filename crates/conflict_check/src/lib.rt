@@ -11,6 +11,7 @@ mod points;
 mod reaches;
 mod run_findings;
 mod searches;
+mod standing;
 #[cfg(test)]
 mod tests;
 

@@ -1,6 +1,6 @@
 -- One point more makes the first index the least of two.
-use Rattle.std.proofs.Common.{ℕ, suc, ◌+◌, ap, sym, ◌∙◌, arith, ◌≡◌}
-use Rattle.std.specs.Prelude.{◌||◌, drop, nat_le, slice_index_or}
+use Rattle.std.proofs.Common.{suc, ◌+◌, ap, sym, ◌∙◌, arith, ◌≡◌}
+use Rattle.std.specs.Prelude.{◌||◌, drop, nat_le}
 use Rattle.rma_types.specs.declared.accesses.Id.{Id}
 use Rattle.vector_clocks.specs.Firsts.{item_at}
 use Rattle.vector_clocks.specs.Marks.{before_in}
