@@ -2,9 +2,10 @@
 """Measures the program over the scripts of the benchmark.
 
 Of some runs the least processor time (user and system) and the least time from start to end, which a busy machine
-disturbs less; peak memory by GNU time.
+disturbs less; peak memory by GNU time. Then the programs that do one work at a board.
 
     measure.py [PROGRAM [RUNS]]     by default the program that rt ci leaves, 5 runs; run by hand, not by the gate
+    measure.py boards [RUNS]        only the programs of a board
 """
 import os
 import subprocess
@@ -31,10 +32,12 @@ CASES = [
     ("disjoint", (8000, 16000), ""),
     ("locked_puts", (8000, 16000), ""),
 ]
+# programs without words and without input, and the entries that each puts to a board
+BOARDS = [("board_barriers", 131072), ("board_windows", 131072)]
 
 
-def run(words, script, report):
-    """Runs the program once, and returns its processor time and its whole time in seconds."""
+def run(words, script, report, well=(0, 1)):
+    """Runs the program once, and returns its processor time, its whole time and its user time in seconds."""
     script.seek(0)
     report.seek(0)
     report.truncate()
@@ -42,9 +45,9 @@ def run(words, script, report):
     child = subprocess.Popen(words, stdin=script, stdout=report)
     _, status, used = os.wait4(child.pid, 0)
     end = time.perf_counter()
-    if os.WEXITSTATUS(status) not in (0, 1):
-        sys.exit("the program ended with %d" % status)
-    return used.ru_utime + used.ru_stime, end - begin
+    if os.waitstatus_to_exitcode(status) not in well:
+        sys.exit("%s ended with %d" % (words[0], os.waitstatus_to_exitcode(status)))
+    return used.ru_utime + used.ru_stime, end - begin, used.ru_utime
 
 
 def peak(program, words, script, report):
@@ -54,9 +57,31 @@ def peak(program, words, script, report):
         return int(told.read().split()[-1])
 
 
+def boards(runs):
+    """The programs of a board: the memory of an entry is the peak memory of the whole program by its entries."""
+    print("| program | entries | user time in ms | processor time in ms | peak memory in MB | bytes an entry |")
+    print("|---|---|---|---|---|---|")
+    for name, entries in BOARDS:
+        program = os.path.join(HERE, "../crates", name, "out", name)
+        with tempfile.TemporaryFile() as script, tempfile.TemporaryFile() as report:
+            took = [run([program], script, report, (0,)) for _ in range(runs)]
+            memory = peak(program, [], script, report)
+        print("| `%s` | %s | %.1f | %.1f | %.1f | %d |" % (
+            name, entries, 1000 * min(it[2] for it in took), 1000 * min(it[0] for it in took), memory / 1024,
+            1024 * memory / entries), flush=True)
+
+
 def main():
-    program = sys.argv[1] if len(sys.argv) > 1 else PROGRAM
     runs = int(sys.argv[2]) if len(sys.argv) > 2 else 5
+    if sys.argv[1:2] == ["boards"]:
+        return boards(runs)
+    program = sys.argv[1] if len(sys.argv) > 1 else PROGRAM
+    scripted(program, runs)
+    print()
+    boards(runs)
+
+
+def scripted(program, runs):
     print("| script | words | accesses | touches | entries | findings | processor time in ms | whole time in ms | peak memory in MB |")
     print("|---|---|---|---|---|---|---|---|---|")
     for name, sizes, words in CASES:

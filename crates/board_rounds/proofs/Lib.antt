@@ -1,0 +1,5 @@
+-- Sequences of entries, and timed work.
+pub mod AskedAlways
+pub mod SmallParts
+pub mod WrittenGroups
+pub mod ZeroBases

@@ -1,0 +1,3 @@
+-- Sequences of entries, and timed work.
+pub mod Layouts
+pub mod Sequences

@@ -1,0 +1,349 @@
+//! What the tests share: boards, calls, and entries with the answers that are wanted.
+ghost use Rattle.std.specs.Prelude.{◌<◌, ◌≤◌};
+
+use crate::{Answer, Made, Sequence};
+use cell_face::Front;
+use rma_types::{
+    Asserts, Bits, Call, CallBase, Class, Dtype, Flavor, Group, Items, Layout, Lock, MemoryPart,
+    NoMemory, Part, Step,
+};
+use std::alloc::Global;
+use std::process::Abort;
+use std::test::Fail;
+
+/// A rank, and the number of its call in its list.
+pub(crate) type At = (u8, u32);
+
+fn layout_of(alloc: Global, bytes: &[u32], bases: &[CallBase]) -> Result<Layout, NoMemory> {
+    let mut parts = Items::new(alloc);
+    let mut lists = Items::new(alloc);
+    for one in bytes {
+        let part = MemoryPart {
+            first_cell: 0,
+            bytes: *one,
+        };
+        parts.push(part).map_err(|_| NoMemory)?;
+        let list = Items::from_slice(alloc, bases).map_err(|_| NoMemory)?;
+        lists.push(list).map_err(|_| NoMemory)?;
+    }
+    Ok(Layout {
+        parts,
+        bases: lists,
+    })
+}
+
+/// A board without entries, of a rank for each number of bytes, whose calls of the pairs' numbers allocate memory at the
+/// pairs' addresses. The board never asks in which cells memory lies.
+pub(crate) fn board_of(
+    rt: &impl Abort,
+    alloc: Global,
+    bytes: &[u32],
+    bases: &[CallBase],
+) -> Sequence {
+    let count = bytes.len();
+    if count > 16 {
+        panic!(rt; "too many ranks");
+    }
+    match layout_of(alloc, bytes, bases) {
+        Ok(layout) => match Sequence::new(alloc, count as u8, layout) {
+            Ok(Some(board)) => board,
+            Ok(None) => panic!(rt; "no layout"),
+            Err(NoMemory) => panic!(rt; "no memory"),
+        },
+        Err(NoMemory) => panic!(rt; "no memory"),
+    }
+}
+
+pub(crate) fn no_asserts() -> Asserts {
+    Asserts {
+        nocheck: false,
+        nostore: false,
+        noput: false,
+        noprecede: false,
+        nosucceed: false,
+    }
+}
+
+pub(crate) fn asserted_fence(asserts: Asserts) -> Call {
+    Call::Fence { win: 0, asserts }
+}
+
+pub(crate) fn fence() -> Call {
+    asserted_fence(no_asserts())
+}
+
+pub(crate) fn lock(kind: Lock, target: i32) -> Call {
+    Call::LockOne {
+        win: 0,
+        kind,
+        target,
+        asserts: no_asserts(),
+    }
+}
+
+pub(crate) fn unlock(target: i32) -> Call {
+    Call::Unlock { win: 0, target }
+}
+
+pub(crate) fn lock_all() -> Call {
+    Call::LockAll {
+        win: 0,
+        asserts: no_asserts(),
+    }
+}
+
+fn group_of(rt: &impl Abort, alloc: Global, ranks: &[i32]) -> Group {
+    match Group::from_slice(alloc, ranks) {
+        Ok(group) => group,
+        Err(_) => panic!(rt; "no memory"),
+    }
+}
+
+pub(crate) fn post(rt: &impl Abort, alloc: Global, ranks: &[i32]) -> Call {
+    Call::Post {
+        win: 0,
+        group: group_of(rt, alloc, ranks),
+        asserts: no_asserts(),
+    }
+}
+
+pub(crate) fn start(rt: &impl Abort, alloc: Global, ranks: &[i32]) -> Call {
+    Call::Start {
+        win: 0,
+        group: group_of(rt, alloc, ranks),
+        asserts: no_asserts(),
+    }
+}
+
+/// A get of so many integers of 4 bytes at this address of rank 1.
+pub(crate) fn get(disp: i32, count: i32) -> Call {
+    Call::Get {
+        req: None,
+        win: 0,
+        target: Some(1),
+        disp,
+        dtype: Dtype::Int32,
+        count,
+    }
+}
+
+/// A put of integers of 4 bytes to this address of rank 1.
+pub(crate) fn put(rt: &impl Abort, alloc: Global, disp: i32, values: &[u64]) -> Call {
+    let Ok(values) = Bits::from_slice(alloc, values) else {
+        panic!(rt; "no memory");
+    };
+    Call::Put {
+        req: None,
+        win: 0,
+        target: Some(1),
+        disp,
+        dtype: Dtype::Int32,
+        values,
+    }
+}
+
+/// A front that has this place for the cell of this number, and 0 for the others.
+pub(crate) fn front(cell: usize, place: u32) -> Front
+    requires { cell < 16 }
+{
+    let mut places = [0; 16];
+    places[cell] = place;
+    Front { places }
+}
+
+/// The entry gains this, and stands at this place. It makes no window.
+pub(crate) fn gain(
+    rt: &impl Abort,
+    board: &mut Sequence,
+    at: At,
+    call: &Call,
+    step: Step,
+    gift: Option<Front>,
+    place: u32,
+    gained: Option<Front>,
+) {
+    let answer = Answer::Entered {
+        place,
+        gained,
+        made: None,
+    };
+    assert_eq!(rt; board.ask(at.0, at.1, call, step, gift), Ok(answer));
+}
+
+/// The entry stands at this place, with nothing given or gained.
+pub(crate) fn enter(
+    rt: &impl Abort,
+    board: &mut Sequence,
+    at: At,
+    call: &Call,
+    step: Step,
+    place: u32,
+) {
+    gain(rt, board, at, call, step, None, place, None);
+}
+
+/// The entry is not yet possible, and its gift comes back.
+pub(crate) fn wait(rt: &impl Abort, board: &mut Sequence, at: At, call: &Call, step: Step) {
+    let gift = Some(front(0, 7));
+    assert_eq!(rt;
+        board.ask(at.0, at.1, call, step, gift),
+        Ok(Answer::NotYet { gift })
+    );
+}
+
+/// The entry is refused by this class after so many entries, and its gift comes back.
+pub(crate) fn refuse(
+    rt: &impl Abort,
+    board: &mut Sequence,
+    at: At,
+    call: &Call,
+    step: Step,
+    class: Class,
+    seen: u32,
+) {
+    let gift = Some(front(15, 3));
+    let answer = Answer::Refused { class, seen, gift };
+    assert_eq!(rt; board.ask(at.0, at.1, call, step, gift), Ok(answer));
+}
+
+/// The Leave of a creation stands at this place, and makes this window.
+pub(crate) fn make(
+    rt: &impl Abort,
+    alloc: Global,
+    board: &mut Sequence,
+    at: At,
+    call: &Call,
+    place: u32,
+    flavor: Flavor,
+    parts: &[Part],
+) {
+    let Ok(parts) = Items::from_slice(alloc, parts) else {
+        panic!(rt; "no memory");
+    };
+    let answer = Answer::Entered {
+        place,
+        gained: None,
+        made: Some(Made { flavor, parts }),
+    };
+    assert_eq!(rt; board.ask(at.0, at.1, call, Step::Leave, None), Ok(answer));
+}
+
+/// Two ranks arrive at their barriers, the first entry at this place, and leave them.
+pub(crate) fn meet(rt: &impl Abort, board: &mut Sequence, one: At, other: At, place: u32)
+    requires { place ≤ 1000 }
+{
+    enter(rt, board, one, &Call::Barrier, Step::Arrive, place);
+    enter(rt, board, other, &Call::Barrier, Step::Arrive, place + 1);
+    enter(rt, board, other, &Call::Barrier, Step::Leave, place + 2);
+    enter(rt, board, one, &Call::Barrier, Step::Leave, place + 3);
+}
+
+/// Every rank creates a window, the first entry at this place, and its Leave makes these parts.
+fn create_all(
+    rt: &impl Abort,
+    alloc: Global,
+    board: &mut Sequence,
+    ranks: u8,
+    call: &Call,
+    number: u32,
+    place: u32,
+    flavor: Flavor,
+    part: Part,
+)
+    requires { place ≤ 1000 }
+{
+    let Ok(parts) = vec![in alloc; part; ranks as usize] else {
+        panic!(rt; "no memory");
+    };
+    let count = u32::from(ranks);
+    for rank in 0..ranks {
+        let next = place + u32::from(rank);
+        enter(rt, board, (rank, number), call, Step::Arrive, next);
+    }
+    for rank in 0..ranks {
+        let next = place + count + u32::from(rank);
+        let at = (rank, number);
+        make(rt, alloc, board, at, call, next, flavor, parts.as_slice());
+    }
+}
+
+/// Every rank creates a dynamic window by its call of this number, the first entry at this place.
+pub(crate) fn dynamic_all(
+    rt: &impl Abort,
+    alloc: Global,
+    board: &mut Sequence,
+    ranks: u8,
+    number: u32,
+    place: u32,
+)
+    requires { place ≤ 1000 }
+{
+    let part = Part {
+        base: 0,
+        bytes: 0,
+        unit: 1,
+    };
+    let call = Call::Dynamic { win: 0 };
+    create_all(
+        rt,
+        alloc,
+        board,
+        ranks,
+        &call,
+        number,
+        place,
+        Flavor::Dynamic,
+        part,
+    );
+}
+
+/// Every rank frees the window by its call of this number, the first entry at this place.
+pub(crate) fn free_all(rt: &impl Abort, board: &mut Sequence, ranks: u8, number: u32, place: u32)
+    requires { place ≤ 1000 }
+{
+    let call = Call::Free { win: 0 };
+    let count = u32::from(ranks);
+    for rank in 0..ranks {
+        let next = place + u32::from(rank);
+        enter(rt, board, (rank, number), &call, Step::Arrive, next);
+    }
+    for rank in 0..ranks {
+        let next = place + count + u32::from(rank);
+        enter(rt, board, (rank, number), &call, Step::Leave, next);
+    }
+}
+
+/// Every rank allocates 4 bytes at this base by its call of this number, the first entry at this place.
+pub(crate) fn allocate_all(
+    rt: &impl Abort,
+    alloc: Global,
+    board: &mut Sequence,
+    ranks: u8,
+    number: u32,
+    place: u32,
+    base: u32,
+)
+    requires { place ≤ 1000 }
+{
+    let call = Call::Allocate {
+        win: 0,
+        bytes: 4,
+        unit: 4,
+    };
+    let part = Part {
+        base,
+        bytes: 4,
+        unit: 4,
+    };
+    create_all(
+        rt,
+        alloc,
+        board,
+        ranks,
+        &call,
+        number,
+        place,
+        Flavor::Allocate,
+        part,
+    );
+}
