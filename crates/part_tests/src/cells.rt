@@ -1,5 +1,5 @@
 //! The cells that puts, stores and sums leave where the table of windows and the layout say that their elements lie.
-ghost use Rattle.std.specs.Prelude.{◌≡◌, ◌+◌, ◌/◌, ◌%◌, ◌<◌, ◌≤◌, length, IfOk};
+ghost use Rattle.std.specs.Prelude.{◌≡◌, ◌+◌, ◌/◌, ◌%◌, ◌<◌, length, IfOk};
 ghost use Rattle.rma_types.specs.declared.calls.Flavor.TheVariants.{Allocate};
 ghost use Rattle.rma_types.specs.Datatypes.{size_of};
 ghost use Rattle.call_rules.specs.Pieces.{first_cell};

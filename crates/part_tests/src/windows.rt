@@ -1,8 +1,6 @@
 //! The table of windows with memory enough: windows that are made and freed, ranges that are attached and detached.
-ghost use Rattle.std.specs.Prelude.{◌≡◌, ◌+◌, ◌<◌, ◌^◌, pos, None};
-ghost use Rattle.call_rules.specs.Actions.{Attaches};
+ghost use Rattle.std.specs.Prelude.{◌<◌};
 ghost use Rattle.call_rules.specs.WellFormed.{IsWrittenCall};
-ghost use Rattle.rank_rules.specs.WindowTests.{window_class};
 ghost use Rattle.window_regions.specs.Shapes.{IsShape};
 
 use rma_types::{Call, Class, Dtype, Flavor, Items, Part};
