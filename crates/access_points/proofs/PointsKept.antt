@@ -26,6 +26,7 @@ use Rattle.order_rules.specs.VisiblePoints.{is_given_out_at, is_taken_in_at, tak
 use Rattle.order_laws.specs.FindingLaws.{IsSmaller}
 use Rattle.order_laws.proofs.Ascending.{ascend}
 use Rattle.log_replay.specs.Kept.{AreRecordsFrom, EachKept, IsKeptAccess, IsKeptStep, kind_of_epoch}
+use Rattle.log_replay.specs.declared.kept.EpochKind.{EpochKind}
 use Rattle.log_replay.specs.declared.kept.KeptAccess.{KeptAccess}
 use Rattle.log_replay.specs.declared.kept.KeptStep.{KeptStep}
 use Rattle.log_replay.specs.declared.kept.RankRecord.{RankRecord}
@@ -140,11 +141,13 @@ module _ (script : Script) (run : Run) (records : List RankRecord) (recorded : I
       ∙ (λ i. leads_to (events_in script run) (same.named i) (step.named i))
       ∙ sym (ap (λ p. option_map_or (λ (y : CallStep). leads_to (events_in script run) y.id x.id) p false) is)
 
-  module _ (led : List Id)
-      (leads : (id : Id) → is_among led id ≡ leads_from script run (step_before script records kept.epoch kept) id) where
-    by_epoch : (epoch : AccessEpoch) →
-        ((id : Id) → is_among led id ≡ leads_from script run (step_before script records (kind_of_epoch epoch) kept) id)
-        → (k : KeptStep) (x : CallStep) → IsKeptStep script k x →
+  -- the names are those of the entries to which an edge leads from the step before, in an epoch of this kind
+  abbrev AreLedTo : List Id → EpochKind → Type 0
+  AreLedTo led epoch = (id : Id) → is_among led id ≡ leads_from script run (step_before script records epoch kept) id
+
+  module _ (led : List Id) (leads : AreLedTo led kept.epoch) where
+    by_epoch : (epoch : AccessEpoch) → AreLedTo led (kind_of_epoch epoch) → (k : KeptStep) (x : CallStep) →
+        IsKeptStep script k x →
         is_done_by script led kept (kind_of_epoch epoch) k ≡ is_done_by_epoch (timeline_of script run) a epoch x
     by_epoch Idle from k x step = refl
     by_epoch FenceUnused from k x step = from k.id

@@ -212,11 +212,11 @@ fn visible_of(
 }
 
 /// The done points of the RMA access of this name in a lawful run, in the order of their names: exactly those of the
-/// definitions (MPI 3.1, sections 11.3.5, 11.5 and 11.7, in this project's profile). Where no access has the name, there
-/// are none.
+/// definitions (MPI 3.1, sections 11.3.5, 11.5 and 11.7, in this project's profile). Where no access has the name,
+/// there are none.
 ///
-/// It goes once through all logs, and once through all entries. A run that is lawful with any delay is lawful with drawn
-/// ones (`order_laws`).
+/// It goes once through all logs, and once through all entries. A run that is lawful with any delay is lawful with
+/// drawn ones (`order_laws`).
 pub fn done_points(alloc: Global, script: &Script, run: &Run, id: Id) -> Result<Items<Id>, NoMemory>
     requires formed { IsWellFormed script.now }
     requires lawful { IsLawful script.now Seeded run.now }
