@@ -30,6 +30,7 @@ CASES = [
     ("one_cell", (8000, 16000), ""),
     ("disjoint", (8000, 16000), ""),
     ("locked_puts", (8000, 16000), ""),
+    ("past_others", (4000, 8000), "--delay end"),
 ]
 
 
