@@ -31,6 +31,7 @@ CASES = [
     ("one_cell", (8000, 16000), ""),
     ("disjoint", (8000, 16000), ""),
     ("locked_puts", (8000, 16000), ""),
+    ("past_others", (4000, 8000), "--delay end"),
 ]
 # programs without words and without input, and the entries that each puts to a board
 BOARDS = [("board_barriers", 131072), ("board_windows", 131072)]

@@ -23,6 +23,10 @@ CASES = [
     ("part_times", "epochs_1000"),
     ("part_times", "epochs_60000"),
     ("part_times", "covers"),
+    ("delivery_times", "one_cell_4000"),
+    ("delivery_times", "one_cell_8000"),
+    ("delivery_times", "past_others_4000"),
+    ("delivery_times", "past_others_8000"),
 ]
 
 

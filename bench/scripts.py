@@ -16,6 +16,7 @@ Each has 16 ranks. SIZE is about the number of calls of the kind that NAME says,
     puts          puts of one value to the next rank, each to its own cell, between two fences
     disjoint      puts of one value to rank 0, each to its own cell, under a lock_all
     locked_puts   a lock, a put and an unlock on one cell, SIZE times
+    past_others   half of them fetch-and-ops of rank 0 on a cell of rank 1, and half on one of rank 2, which is flushed
 """
 import sys
 
@@ -89,7 +90,14 @@ def locked_puts(size):
     return each(["allocate w0 4 4"] + repeated(size // RANKS, calls))
 
 
-FORMS = {form.__name__: form for form in (cells, one_cell, fences, barriers, locks, rounds, accumulates, puts, disjoint, locked_puts)}
+def past_others(size):
+    calls = repeated(size // 2, ["fop w0 1 0 int32 sum 1"]) + repeated(size // 2, ["fop w0 2 0 int32 sum 1"])
+    others = ["rank " + " ".join(str(rank) for rank in range(1, RANKS)), "allocate w0 4 4"]
+    return ["rank 0", "allocate w0 4 4", "lock_all w0"] + calls + ["flush w0 2", "unlock_all w0"] + others
+
+
+FORMS = {form.__name__: form for form in (cells, one_cell, fences, barriers, locks, rounds, accumulates, puts, disjoint,
+                                          locked_puts, past_others)}
 
 
 def text(name, size):

@@ -1,6 +1,6 @@
 -- The first of a list that passes a test.
-use Rattle.std.proofs.Common.{◌≡◌, ◌+◌, ◌<◌, ◌≤◌, ℕ, zero, suc, Bool, true, false, cond, List, [], ◌∷◌, ◌++◌, Option, Some, None}
-use Rattle.std.proofs.Common.{take, length, refl, ap, arith, slice_get, ◌∙◌, sym, subst}
+use Rattle.std.proofs.Common.{◌≡◌, ◌+◌, ◌<◌, ◌≤◌, ℕ, zero, suc, Bool, true, false, cond, List, [], ◌∷◌, ◌++◌}
+use Rattle.std.proofs.Common.{Option, Some, None, take, length, refl, ap, arith, slice_get, ◌∙◌, sym, subst}
 use Rattle.std.specs.Prelude.{nat_lt}
 use Rattle.std.specs.Option.{option_map_or}
 use Rattle.std.specs.List.{position, position_from, All}
@@ -52,6 +52,7 @@ from_take {X} p i (suc n) (x ∷ xs) = by (p x) (from_take p (i + 1) n xs)
   where
     e : i + 1 + n ≡ i + suc n
     e = omega arith
+
     by : (b : Bool) → position_from p (i + 1) (take n xs) ≡ before (i + 1 + n) (position_from p (i + 1) xs) →
         cond b (Some i) (position_from p (i + 1) (take n xs)) ≡
         before (i + suc n) (cond b (Some i) (position_from p (i + 1) xs))
@@ -83,6 +84,7 @@ found_from p begin j k (one ∷ block) rest e =
   where
     next : begin + (j + 1) ≡ begin + j + 1
     next = omega arith
+
     by : (b : Bool) → (position_from (λ (one : Begun). p one.access) (j + 1) block ≡ Some k →
         position_from p (begin + (j + 1)) (accesses_of (block ++ rest)) ≡ Some (begin + k)) →
         cond b (Some j) (position_from (λ (one : Begun). p one.access) (j + 1) block) ≡ Some k →
@@ -109,6 +111,7 @@ not_from p begin j (one ∷ block) rest e =
   where
     next : begin + 1 + length block ≡ begin + suc (length block)
     next = omega arith
+
     by : (b : Bool) → (position_from (λ (one : Begun). p one.access) (j + 1) block ≡ None →
         position_from p (begin + 1) (accesses_of (block ++ rest)) ≡
         position_from p (begin + 1 + length block) (accesses_of rest)) →

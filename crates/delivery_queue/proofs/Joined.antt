@@ -1,6 +1,6 @@
 -- A block among those of a queue.
-use Rattle.std.proofs.Common.{◌≡◌, ◌+◌, ◌-◌, ◌<◌, ◌≤◌, ℕ, zero, suc, List, [], ◌∷◌, ◌++◌, take, drop, length, map, refl, ap}
-use Rattle.std.proofs.Common.{arith, slice_get, Option, Some, None, get_or, set, length-append, append_assoc, ◌∙◌, sym}
+use Rattle.std.proofs.Common.{◌≡◌, ◌+◌, ◌-◌, ◌<◌, ◌≤◌, ℕ, zero, suc, List, [], ◌∷◌, ◌++◌, take, drop, length, map}
+use Rattle.std.proofs.Common.{refl, ap, arith, slice_get, Option, Some, None, get_or, set, length-append, append_assoc, ◌∙◌, sym}
 use Rattle.std.specs.List.{remove, All}
 use Rattle.std.specs.Option.{option_map}
 use Rattle.std.proofs.lemmas.Option.{slice_get-map}

@@ -1,6 +1,5 @@
 //! Pending accesses in blocks, each with the marks of its accesses, so that a search passes over most blocks.
-ghost use Rattle.std.specs.Prelude.{◌≡◌, ◌<◌, ◌≤◌, ◌+◌, ◌++◌, [], ◌∷◌, length, slice_get, slice_set, Some, IfSome, OnOk};
-ghost use Rattle.std.specs.Prelude.{OnErr, take};
+ghost use Rattle.std.specs.Prelude.{◌≡◌, ◌<◌, ◌++◌, [], ◌∷◌, length, slice_get, slice_set, Some, IfSome, OnOk, OnErr};
 ghost use Rattle.std.specs.List.{position, remove, All};
 ghost use Rattle.delivery_queue.specs.declared.blocks.Begun.{Begun as BegunOne};
 ghost use Rattle.delivery_queue.specs.Marked.{IsMarked};

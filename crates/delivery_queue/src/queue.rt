@@ -1,6 +1,6 @@
 //! A rank's pending accesses and live requests.
-ghost use Rattle.std.specs.Prelude.{◌≡◌, ◌<◌, ◌≤◌, ◌+◌, ◌++◌, [], ◌∷◌, length, slice_get, slice_index, true, false, Some};
-ghost use Rattle.std.specs.Prelude.{IfSome, IfOk, OnOk, OnErr};
+ghost use Rattle.std.specs.Prelude.{◌≡◌, ◌<◌, ◌≤◌, ◌+◌, ◌++◌, [], ◌∷◌, length, slice_get, slice_index, true, false};
+ghost use Rattle.std.specs.Prelude.{Some, IfSome, IfOk, OnOk, OnErr};
 ghost use Rattle.call_rules.specs.WellFormed.{IsWrittenCall};
 ghost use Rattle.delivery_queue.specs.Queues.{no_accesses, issued, with_access, with_touched, without_access, Delivers};
 ghost use Rattle.delivery_queue.specs.Queues.{DeliversWhole, IsDeliverable};
@@ -8,7 +8,7 @@ ghost use Rattle.cell_face.specs.Faces.{Rose, Keeps};
 ghost use Rattle.rank_rules.specs.Pending.{awaited, way as way_of};
 ghost use Rattle.rank_rules.specs.Requests.{is_live_request, with_request, without_request};
 
-use crate::blocks::Block;
+use crate::blocks::{Begun, Block};
 use crate::deliveries::touch_pending;
 use crate::searches::{begun_at, first, push_to, remove_at, touch_at};
 use crate::waits::awaited_by;
@@ -163,7 +163,7 @@ impl Pending {
     }
 
     /// The access at a place is pending no more.
-    fn remove(&mut self, at: usize)
+    pub(crate) fn remove(&mut self, at: usize)
         requires { at < length self.old.pending }
         ensures { self.new ≡ without_access self.old at }
     {
@@ -179,12 +179,21 @@ impl Pending {
         touch_at(&mut self.blocks, at, count);
     }
 
+    /// The access at a place, and how many of its elements are touched.
+    fn begun(&self, at: usize) -> Begun
+        requires { at < length self.now.pending }
+        ensures access { slice_get self.now.pending at ≡ Some result.access }
+        ensures touched { result.touched ≡ slice_index self.now.touched at }
+    {
+        begun_at(&self.blocks, at)
+    }
+
     /// The access at a place.
     pub fn access_at(&self, at: usize) -> PendingAccess
         requires { at < length self.now.pending }
         ensures { slice_get self.now.pending at ≡ Some result }
     {
-        begun_at(&self.blocks, at).access
+        self.begun(at).access
     }
 
     /// How many elements of the access at a place are touched.
@@ -192,7 +201,7 @@ impl Pending {
         requires { at < length self.now.pending }
         ensures { result ≡ slice_index self.now.touched at }
     {
-        begun_at(&self.blocks, at).touched
+        self.begun(at).touched
     }
 
     /// Delivers the access at a place: it makes room for the touches that are left of it, and makes them in the order
@@ -216,7 +225,8 @@ impl Pending {
         ensures told { IfOk result (λ delivery. IfSome (M.face mem.old).told (λ cells.
             (delivery.done ≡ true) × DeliversWhole self.old at layout.now calls.now cells
             (M.face mem.new).told (L.kept log.old) (L.kept log.new))) }
-        ensures moved { IfOk result (λ delivery. delivery.done ≡ false → Rose (M.face mem.old).moves (M.face mem.new).moves) }
+        ensures moved { IfOk result (λ delivery.
+            delivery.done ≡ false → Rose (M.face mem.old).moves (M.face mem.new).moves) }
         ensures known { Keeps (M.knows mem.old) (M.knows mem.new) }
         ensures free_below { L.free log.new ≤ L.free log.old }
         ensures home { L.home log.new ≡ L.home log.old }
@@ -224,8 +234,10 @@ impl Pending {
         ensures kept { OnErr result (L.kept log.new ≡ L.kept log.old) }
         ensures unwritten { OnErr result (mem.new ≡ mem.old) }
     {
-        let one = self.access_at(at);
-        let from = self.touched_at(at);
+        let Begun {
+            access: one,
+            touched: from,
+        } = self.begun(at);
         let Some(call) = calls.get(one.number as usize) else {
             unreachable!()
         };

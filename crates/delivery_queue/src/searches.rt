@@ -1,5 +1,6 @@
 //! Places among the accesses of blocks, one block after another.
-ghost use Rattle.std.specs.Prelude.{◌≡◌, ◌<◌, ◌^◌, ◌++◌, [], ◌∷◌, length, slice_get, slice_set, Some, IfSome, OnOk, OnErr};
+ghost use Rattle.std.specs.Prelude.{◌≡◌, ◌<◌, ◌^◌, ◌++◌, [], ◌∷◌, length, slice_get, slice_set, Some, IfSome, OnOk};
+ghost use Rattle.std.specs.Prelude.{OnErr};
 ghost use Rattle.std.specs.List.{position, remove};
 ghost use Rattle.delivery_queue.specs.declared.blocks.Begun.{Begun as BegunOne};
 ghost use Rattle.delivery_queue.specs.Blocks.{joined, accesses_of, IsPlace};
@@ -24,6 +25,9 @@ pub(crate) fn first(blocks: &[Block], sought: &Sought) -> Option<usize>
     ensures place { result ≡ position (is_sought sought.now) (accesses_of (joined blocks.now)) }
     ensures within { IfSome result (λ at. at < length (joined blocks.now)) }
 {
+    if let Sought::Nothing = sought {
+        return None;
+    }
     let mut before = 0usize;
     for block in blocks {
         match block.first(sought) {
@@ -62,7 +66,8 @@ pub(crate) fn begun_at(blocks: &[Block], at: usize) -> Begun
 pub(crate) fn touch_at(blocks: &mut Vec<Block>, at: usize, count: u32)
     requires { at < length (joined blocks.old.items) }
     ensures { (one : BegunOne) → slice_get (joined blocks.old.items) at ≡ Some one →
-        joined blocks.new.items ≡ slice_set (joined blocks.old.items) at (record { access = one.access; touched = count }) }
+        joined blocks.new.items ≡
+        slice_set (joined blocks.old.items) at (record { access = one.access; touched = count }) }
 {
     let place = place_of(blocks, at);
     blocks[place.block].touch(place.offset, count);

@@ -1,5 +1,5 @@
 //! Queues worked out by hand.
-ghost use Rattle.std.specs.Prelude.{◌≡◌, ◌≤◌, [], ◌∷◌, length, None, true, false, IfOk};
+ghost use Rattle.std.specs.Prelude.{◌≡◌, ◌<◌, ◌≤◌, [], ◌∷◌, length, None, true, false, IfOk};
 ghost use Rattle.rma_types.specs.declared.accesses.Kind.TheVariants.{Acc, Put};
 ghost use Rattle.rma_types.specs.declared.dtypes.Dtype.TheVariants.{Int32};
 ghost use Rattle.rma_types.specs.declared.ops.Op.TheVariants.{Sum};
@@ -176,5 +176,129 @@ fn a_delivery_touches_the_cells_of_its_access(rt: HostRuntime) -> Result<(), Fai
     assert_eq!(rt; queue.count(), 1);
     assert_eq!(rt; queue.next_for(&Call::FlushAll { win: 3 }), Some(0));
     assert_eq!(rt; queue.way(0), 0);
+    Ok(())
+}
+
+/// Access `i` of two hundred, by call `i`: 70 puts to rank 1, and 60 sums to rank 2, each on a cell of its own; then in
+/// turn a put to rank 1, and a fetch and sum on the first cell of rank 3.
+fn access_of(i: u32) -> Access
+    requires { i < 200 }
+{
+    match i {
+        0..=69 => access_to(1, 4 * i, 4, Kind::Put),
+        70..=129 => access_to(2, 4 * i, 4, SUM),
+        _ if i % 2 == 0 => access_to(1, 4 * i, 4, Kind::Put),
+        _ => access_to(3, 0, 4, SUM),
+    }
+}
+
+/// Issues access `i`, the fetch of 195 with request q7.
+fn issue_of(queue: &mut Pending, i: u32) -> Result<(), NoMemory>
+    requires { i < 200 }
+{
+    let fetches = 130 <= i && i % 2 == 1;
+    if i == 195 && !queue.is_live(7) {
+        queue.issue(i, 1000 + i, &access_of(i), fetches, Some(7))
+    } else {
+        queue.issue(i, 1000 + i, &access_of(i), fetches, None)
+    }
+}
+
+/// The number of the call of the access at a place.
+fn number_at(queue: &Pending, at: usize) -> Option<u32> {
+    if at < queue.count() {
+        Some(queue.access_at(at).number)
+    } else {
+        None
+    }
+}
+
+/// Removes the access at a place, as a delivery does.
+fn take(queue: &mut Pending, at: usize) {
+    if at < queue.count() {
+        queue.remove(at);
+    }
+}
+
+fn two_hundred(alloc: Global) -> Result<Pending, NoMemory> {
+    let mut queue = Pending::new(alloc)?;
+    for i in 0..200 {
+        issue_of(&mut queue, i)?;
+    }
+    Ok(queue)
+}
+
+/// The first fetch is that of 131. Each fetch gives way to it, and nothing else gives way.
+#[test]
+fn a_search_passes_over_many_accesses(rt: HostRuntime) -> Result<(), Fail> {
+    let queue = two_hundred(rt.alloc())?;
+    assert_eq!(rt; queue.count(), 200);
+    assert_eq!(rt; queue.next_for(&Call::Flush { win: 3, target: 1 }), Some(0));
+    assert_eq!(rt;
+        queue.next_for(&Call::Flush { win: 3, target: 2 }),
+        Some(70)
+    );
+    assert_eq!(rt;
+        queue.next_for(&Call::Flush { win: 3, target: 3 }),
+        Some(131)
+    );
+    assert_eq!(rt; queue.next_for(&Call::Flush { win: 3, target: 4 }), None);
+    assert_eq!(rt;
+        queue.next_for(&Call::FlushLocal { win: 3, target: 1 }),
+        None
+    );
+    assert_eq!(rt; queue.next_for(&Call::FlushLocalAll { win: 3 }), Some(131));
+    assert_eq!(rt; queue.next_for(&Call::FlushAll { win: 3 }), Some(0));
+    assert_eq!(rt; queue.next_for(&Call::FlushAll { win: 4 }), None);
+    assert_eq!(rt; queue.next_for(&Call::WaitReq { req: 7 }), Some(131));
+    assert_eq!(rt; queue.way(128), 128);
+    assert_eq!(rt; queue.way(198), 198);
+    assert_eq!(rt; queue.way(199), 131);
+    Ok(())
+}
+
+/// Before the fetch of 195 its 32 forerunners are delivered, which stood at each second place from 131 on: each stands
+/// one place behind the one before. The 60 sums to rank 2 then stand at 70. Behind them are left 33 puts, and the calls
+/// from 196 to 199.
+#[test]
+fn accesses_are_delivered_from_the_middle(rt: HostRuntime) -> Result<(), Fail> {
+    let mut queue = two_hundred(rt.alloc())?;
+    for k in 0..33usize {
+        assert_eq!(rt; queue.next_for(&Call::WaitReq { req: 7 }), Some(131 + k));
+        assert_eq!(rt; number_at(&queue, 131 + k), Some(131 + 2 * k as u32));
+        take(&mut queue, 131 + k);
+    }
+    assert_eq!(rt; queue.next_for(&Call::WaitReq { req: 7 }), None);
+    assert_eq!(rt;
+        queue.next_for(&Call::Flush { win: 3, target: 3 }),
+        Some(164)
+    );
+    for k in 0..60u32 {
+        assert_eq!(rt;
+            queue.next_for(&Call::Flush { win: 3, target: 2 }),
+            Some(70)
+        );
+        assert_eq!(rt; number_at(&queue, 70), Some(70 + k));
+        take(&mut queue, 70);
+    }
+    assert_eq!(rt; queue.next_for(&Call::Flush { win: 3, target: 2 }), None);
+    assert_eq!(rt; queue.count(), 107);
+    assert_eq!(rt; number_at(&queue, 69), Some(69));
+    assert_eq!(rt; number_at(&queue, 70), Some(130));
+    assert_eq!(rt; number_at(&queue, 103), Some(196));
+    assert_eq!(rt;
+        queue.next_for(&Call::Flush { win: 3, target: 3 }),
+        Some(104)
+    );
+    assert_eq!(rt; number_at(&queue, 106), Some(199));
+    assert_eq!(rt; number_at(&queue, 107), None);
+    take(&mut queue, 65);
+    assert_eq!(rt; number_at(&queue, 65), Some(66));
+    assert_eq!(rt; queue.next_for(&Call::FlushLocalAll { win: 3 }), Some(103));
+    queue.issue(200, 2000, &access_to(4, 0, 4, Kind::Get), true, None)?;
+    assert_eq!(rt;
+        queue.next_for(&Call::Flush { win: 3, target: 4 }),
+        Some(106)
+    );
     Ok(())
 }

@@ -29,13 +29,7 @@ fn found_before(found: Option<usize>, at: usize) -> Option<usize>
     ensures earlier { IfSome result (λ other. other < at) }
 {
     match found {
-        Some(other) => {
-            if other < at {
-                Some(other)
-            } else {
-                None
-            }
-        }
+        Some(other) => { if other < at { Some(other) } else { None } }
         None => None,
     }
 }

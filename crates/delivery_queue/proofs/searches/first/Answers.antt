@@ -1,14 +1,21 @@
-use Rattle.std.proofs.Common.{◌≡◌, ◌+◌, ◌<◌, ◌∙◌, sym, ap, refl, ℕ, List, ◌∷◌, ◌++◌, get_or, drop, length, arith, Option, Some}
+use Rattle.std.proofs.Common.{◌≡◌, ◌+◌, ◌<◌, ◌∙◌, sym, ap, refl, ℕ, List, ◌∷◌, ◌++◌, get_or, drop, length, arith}
+use Rattle.std.proofs.Common.{Option, Some}
 use Rattle.std.proofs.Common.{length-append}
 use Rattle.std.specs.List.{position, position_from}
 use Rattle.std.proofs.lemmas.Iterator.Adapters.{position_from-zero}
 use Rattle.std.proofs.lemmas.List.{drop_more}
 use Rattle.delivery_queue.specs.declared.blocks.Begun.{Begun}
+use Rattle.delivery_queue.specs.declared.sought.Sought.TheVariants.{Nothing}
 use Rattle.delivery_queue.specs.Blocks.{joined, accesses_of}
 use Rattle.delivery_queue.specs.Soughts.{is_sought}
-use Rattle.delivery_queue.proofs.FirstFound.{found_in_block, not_in_block}
+use Rattle.delivery_queue.proofs.FirstFound.{none_found, found_in_block, not_in_block}
 use Rattle.delivery_queue.proofs.Joined.{parted_next}
 use Rattle.delivery_queue.proofs.searches.first.Goals as goal
+
+pub returns-in-Nothing-clause-place : goal.returns-in-Nothing-clause-place
+returns-in-Nothing-clause-place c =
+    let pending = accesses_of (joined c.args.blocks.now) in
+    rw c.in-Nothing.is (sym (none_found (is_sought Nothing) pending (λ k d l. refl)))
 
 pub loop-block-init : goal.loop-block-init
 loop-block-init c = record {

@@ -16,7 +16,7 @@ loop-block-preserved c =
     let taken : joined (take (at + 1) c.args.blocks.now) ≡ joined (take at c.args.blocks.now) ++ block =
     taken_next c.args.blocks.now at block (omega arith) c.index-blocks-block.is in
     let passed : length (joined (take (at + 1) c.args.blocks.now)) ≡
-        length (joined (take at c.args.blocks.now)) + length block =
+    length (joined (take at c.args.blocks.now)) + length block =
     ap length taken ∙ length-append (joined (take at c.args.blocks.now)) block in
     let long : c.len-len.result ≡ length block = c.len-len.ensures in
     let begins = c.loop-block.invariant.begins in
