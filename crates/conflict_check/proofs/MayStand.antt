@@ -2,6 +2,7 @@
 use Rattle.std.proofs.Common.{◌≡◌, Bool, true, false, not, Option, Some, None, refl, ap, sym, ◌∙◌}
 use Rattle.std.specs.Prelude.{◌&&◌, ◌||◌, ◌==◌, nat_lt, if◌then◌else◌, ◌+◌}
 use Rattle.std.specs.Option.{option_map_or}
+use Rattle.std.proofs.lemmas.Bool.{eq-eqb}
 use Rattle.rma_types.specs.declared.accesses.Access.{Access}
 use Rattle.rma_types.specs.declared.accesses.Id.{Id}
 use Rattle.rma_types.specs.declared.accesses.Kind.{Kind}
@@ -9,13 +10,16 @@ use Rattle.rma_types.specs.declared.accesses.Kind.TheVariants.{Get, Put, Acc, Ca
 use Rattle.rma_types.specs.declared.findings.Model.{Model}
 use Rattle.rma_types.specs.declared.findings.Rule.{Rule}
 use Rattle.rma_types.specs.declared.findings.Rule.TheVariants.{S1, S2}
+use Rattle.rma_types.specs.declared.dtypes.Dtype.{Dtype}
+use Rattle.rma_types.specs.declared.ops.Op.{Op}
+use Rattle.call_rules.specs.Sameness.{is_same_dtype, is_same_op}
 use Rattle.call_rules.specs.Transfers.{is_no_op}
 use Rattle.order_rules.specs.Findings.{forbidden, unless_ordered}
-use Rattle.order_rules.specs.Ordered.{JudgedAccess, is_ordered, role_in}
+use Rattle.order_rules.specs.Ordered.{JudgedAccess, is_ordered}
 use Rattle.order_rules.specs.Roles.{Role, RmaUpdate, RmaRead, Store, Load, role_of}
-use Rattle.order_rules.specs.Rules.{Pair, accumulation_of, are_alike, are_excepted, forbidden_kind, pair_of}
-use Rattle.order_rules.specs.Rules.{rma_rule, rule_for, rule_if}
-use Rattle.conflict_check.specs.Standing.{MayStand, is_store}
+use Rattle.order_rules.specs.Rules.{Pair, accumulation_of, are_alike, forbidden_kind, pair_of, rma_rule, rule_for}
+use Rattle.order_rules.specs.Rules.{rule_if}
+use Rattle.conflict_check.specs.Standing.{MayStand, are_repeated, is_store}
 
 -- ---- by the rule of their roles
 
@@ -23,15 +27,12 @@ none_either : (c : Bool) (o : Option Rule) → o ≡ None → (if c then o else 
 none_either true o none = none
 none_either false o none = refl
 
--- what the rule asks of the two
-abbrev asked : Model → JudgedAccess → JudgedAccess → Pair
-asked model x y = pair_of model x.access y.access (x.id.rank == y.id.rank)
-
-by_rule : (x y : JudgedAccess) → ((model : Model) → rule_for (asked model x y) (role_in x) (role_in y) ≡ None) →
-    MayStand x y
-by_rule x y none model =
-    none_either (x.access.target == y.access.target && nat_lt 0 x.access.len && nat_lt 0 y.access.len)
-    (rule_for (asked model x y) (role_in x) (role_in y)) (none model)
+by_rule : (a b : Access) → ((one : Bool) (model : Model) → rule_for (pair_of model a b one) (role_of a.kind)
+    (role_of b.kind) ≡ None) → MayStand a b
+by_rule a b none origin_a origin_b model =
+    none_either (a.target == b.target && nat_lt 0 a.len && nat_lt 0 b.len)
+    (rule_for (pair_of model a b (origin_a == origin_b)) (role_of a.kind) (role_of b.kind))
+    (none (origin_a == origin_b) model)
 
 -- ---- bytes that don't meet
 
@@ -63,11 +64,11 @@ no_common false q x y none = refl
 abbrev pub meet : Access → Access → Bool
 meet a b = nat_lt a.lo (b.lo + b.len) && nat_lt b.lo (a.lo + a.len)
 
-pub apart : (x y : JudgedAccess) → meet x.access y.access ≡ false → is_store (role_in x) ≡ false →
-    is_store (role_in y) ≡ false → MayStand x y
-apart x y none one other = by_rule x y (λ model. apart_rule (asked model x y) (role_in x) (role_in y)
-    (no_common (nat_lt 0 x.access.len) (nat_lt 0 y.access.len)
-    (nat_lt x.access.lo (y.access.lo + y.access.len)) (nat_lt y.access.lo (x.access.lo + x.access.len)) none) one other)
+pub apart : (a b : Access) → meet a b ≡ false →
+    is_store (role_of a.kind) ≡ false → is_store (role_of b.kind) ≡ false → MayStand a b
+apart a b none one other = by_rule a b (λ same model. apart_rule (pair_of model a b same) (role_of a.kind)
+    (role_of b.kind) (no_common (nat_lt 0 a.len) (nat_lt 0 b.len) (nat_lt a.lo (b.lo + b.len))
+    (nat_lt b.lo (a.lo + a.len)) none) one other)
 
 -- ---- accumulates that may overlap
 
@@ -85,6 +86,10 @@ updates pair true false both = excepted_none pair both
 updates pair false true both = excepted_none pair both
 updates pair false false both = excepted_none pair both
 
+left : (x y : Bool) → (x && y) ≡ true → x ≡ true
+left true y both = refl
+left false y both = both
+
 right : (x y : Bool) → (x && y) ≡ true → y ≡ true
 right true y both = both
 right false y both = absurd (cc both)
@@ -94,42 +99,52 @@ abbrev combine : Kind → Kind → Bool → Bool
 combine a b one = option_map_or (λ x. option_map_or (are_alike one x) (accumulation_of b) false) (accumulation_of a)
     false
 
-combined : (pair : Pair) (a b : Kind) (one : Bool) → combine a b one ≡ true → pair.is_excepted ≡ true →
-    rule_for pair (role_of a) (role_of b) ≡ None
-combined pair Get b one alike both = absurd (cc alike)
-combined pair Put b one alike both = absurd (cc alike)
-combined pair (Acc op dtype) Get one alike both = absurd (cc alike)
-combined pair (Acc op dtype) Put one alike both = absurd (cc alike)
-combined pair (Acc op dtype) (Acc other second) one alike both = updates pair (is_no_op op) (is_no_op other) both
-combined pair (Acc op dtype) (Cas second) one alike both = updates pair (is_no_op op) false both
-combined pair (Acc op dtype) LoadKind one alike both = absurd (cc alike)
-combined pair (Acc op dtype) StoreKind one alike both = absurd (cc alike)
-combined pair (Cas dtype) Get one alike both = absurd (cc alike)
-combined pair (Cas dtype) Put one alike both = absurd (cc alike)
-combined pair (Cas dtype) (Acc other second) one alike both = updates pair false (is_no_op other) both
-combined pair (Cas dtype) (Cas second) one alike both = updates pair false false both
-combined pair (Cas dtype) LoadKind one alike both = absurd (cc alike)
-combined pair (Cas dtype) StoreKind one alike both = absurd (cc alike)
-combined pair LoadKind b one alike both = absurd (cc alike)
-combined pair StoreKind b one alike both = absurd (cc alike)
+sums : (pair : Pair) (op other : Op) (dtype second : Dtype) (one : Bool) →
+    (is_same_dtype dtype second && is_same_op op other) ≡ true →
+    (combine (Acc op dtype) (Acc other second) one ≡ true → pair.is_excepted ≡ true) →
+    rule_for pair (role_of (Acc op dtype)) (role_of (Acc other second)) ≡ None
+sums pair op other dtype second one same both = updates pair (is_no_op op) (is_no_op other) (both (
+    ap (λ x. x && (is_same_op op other || is_no_op op || is_no_op other || one))
+    (left (is_same_dtype dtype second) (is_same_op op other) same)
+    ∙ ap (λ x. x || is_no_op op || is_no_op other || one)
+    (right (is_same_dtype dtype second) (is_same_op op other) same)
+    ))
 
-pub excepted : (x y : JudgedAccess) → are_excepted x.access y.access (x.id.rank == y.id.rank) ≡ true → MayStand x y
-excepted x y both = by_rule x y (λ model. combined (asked model x y) x.access.kind y.access.kind
-    (x.id.rank == y.id.rank) (right (x.access.window == y.access.window)
-    (combine x.access.kind y.access.kind (x.id.rank == y.id.rank)) both) both)
+repeated_rule : (pair : Pair) (a b : Kind) (one : Bool) → are_repeated a b ≡ true →
+    (combine a b one ≡ true → pair.is_excepted ≡ true) → rule_for pair (role_of a) (role_of b) ≡ None
+repeated_rule pair Get b one same both = absurd (cc same)
+repeated_rule pair Put b one same both = absurd (cc same)
+repeated_rule pair (Acc op dtype) Get one same both = absurd (cc same)
+repeated_rule pair (Acc op dtype) Put one same both = absurd (cc same)
+repeated_rule pair (Acc op dtype) (Acc other second) one same both = sums pair op other dtype second one same both
+repeated_rule pair (Acc op dtype) (Cas second) one same both = absurd (cc same)
+repeated_rule pair (Acc op dtype) LoadKind one same both = absurd (cc same)
+repeated_rule pair (Acc op dtype) StoreKind one same both = absurd (cc same)
+repeated_rule pair (Cas dtype) Get one same both = absurd (cc same)
+repeated_rule pair (Cas dtype) Put one same both = absurd (cc same)
+repeated_rule pair (Cas dtype) (Acc other second) one same both = absurd (cc same)
+repeated_rule pair (Cas dtype) (Cas second) one same both = excepted_none pair (both (ap (λ x. x && true) same))
+repeated_rule pair (Cas dtype) LoadKind one same both = absurd (cc same)
+repeated_rule pair (Cas dtype) StoreKind one same both = absurd (cc same)
+repeated_rule pair LoadKind b one same both = absurd (cc same)
+repeated_rule pair StoreKind b one same both = absurd (cc same)
+
+pub repeated : (a b : Access) → a.window ≡ b.window → are_repeated a.kind b.kind ≡ true → MayStand a b
+repeated a b window same = by_rule a b (λ one model. repeated_rule (pair_of model a b one) a.kind b.kind one same
+    (λ both. ap (λ w. w && combine a.kind b.kind one) (eq-eqb a.window b.window window) ∙ both))
 
 -- ---- by their parts alone
 
-pub quiet : (x y : JudgedAccess) (first second : Role) → first ≡ role_in x → second ≡ role_in y →
-    ((pair : Pair) → rule_for pair first second ≡ None) → MayStand x y
-quiet x y first second one other none = by_rule x y (λ model.
-    (λ i. rule_for (asked model x y) (sym one i) (sym other i)) ∙ none (asked model x y))
+pub quiet : (a b : Access) (x y : Role) → x ≡ role_of a.kind → y ≡ role_of b.kind →
+    ((pair : Pair) → rule_for pair x y ≡ None) → MayStand a b
+quiet a b x y first second none = by_rule a b (λ one model.
+    (λ i. rule_for (pair_of model a b one) (sym first i) (sym second i)) ∙ none (pair_of model a b one))
 
 -- ---- pairs that are not forbidden
 
 module _ (model : Model) (before : Id → Id → Bool) (x y : JudgedAccess) where
-  pub stands : MayStand x y → forbidden model before x y ≡ None
-  stands none = ap (λ o. option_map_or (unless_ordered before x y) o None) (none model)
+  pub stands : MayStand x.access y.access → forbidden model before x y ≡ None
+  stands none = ap (λ o. option_map_or (unless_ordered before x y) o None) (none x.id.rank y.id.rank model)
 
   ordered : (o : Option Rule) (first second : Bool) → (first || second) ≡ true →
       option_map_or (λ rule. if first || second then None else Some rule) o None ≡ None

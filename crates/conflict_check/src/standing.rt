@@ -1,15 +1,17 @@
 //! Pairs of accesses that no rule forbids, told by a few comparisons (after MPI 3.1, section 11.7).
 ghost use Rattle.std.specs.Prelude.{◌≡◌, ◌+◌, ◌&&◌, None, ℕ, Bool, IsTrue, nat_lt};
 ghost use Rattle.rma_types.specs.declared.accesses.Id.{Id as IdValue};
+ghost use Rattle.call_rules.specs.Sameness.{is_same_dtype, is_same_op};
 ghost use Rattle.order_rules.specs.Ordered.{JudgedAccess};
 ghost use Rattle.order_rules.specs.Rules.{Pair, rule_for};
 ghost use Rattle.rma_rules.specs.Same.{role_by};
 ghost use Rattle.conflict_check.specs.Reached.{IsReached, IsSeen};
-ghost use Rattle.conflict_check.specs.Standing.{MayStand, is_store as is_store_role};
+ghost use Rattle.conflict_check.specs.Standing.{MayStand, are_repeated as are_repeated_kinds};
+ghost use Rattle.conflict_check.specs.Standing.{is_store as is_store_role};
 
 use crate::reaches::{Reached, Seen};
-use rma_rules::{Part, are_alike};
-use rma_types::Access;
+use rma_rules::Part;
+use rma_types::{Access, Dtype, Kind, Op};
 
 /// Whether each of the accesses begins before the other's end.
 fn do_meet(a: &Access, b: &Access) -> bool
@@ -42,23 +44,54 @@ fn are_quiet(a: Part, b: Part) -> bool
     }
 }
 
-/// Whether no rule forbids the two accesses, even where their bytes meet: they are quiet, or accumulates that may
-/// overlap.
+fn is_same_datatype(a: Dtype, b: Dtype) -> bool
+    ensures { result ≡ is_same_dtype a b }
+{
+    a == b
+}
+
+fn is_same_operation(a: Op, b: Op) -> bool
+    ensures { result ≡ is_same_op a b }
+{
+    a == b
+}
+
+/// Whether both are accumulates of one operation and one datatype, or both cas of one datatype.
+fn are_repeated(a: Kind, b: Kind) -> bool
+    ensures { result ≡ are_repeated_kinds a b }
+{
+    match (a, b) {
+        (
+            Kind::Acc { op, dtype },
+            Kind::Acc {
+                op: other,
+                dtype: second,
+            },
+        ) => is_same_datatype(dtype, second) && is_same_operation(op, other),
+        (Kind::Cas { dtype }, Kind::Cas { dtype: second }) => is_same_datatype(dtype, second),
+        _ => false,
+    }
+}
+
+/// Whether no rule forbids the two accesses, even where their bytes meet; an answer of no tells nothing.
 fn may_overlap(a: &Seen, b: &Reached<'_>) -> bool
     ensures { (before : IdValue → IdValue → Bool) (rank : ℕ) (x y : JudgedAccess) → IsSeen before rank a.now x →
-        IsReached before b.now y → IsTrue result → MayStand x y }
+        IsReached before b.now y → IsTrue result → MayStand x.access y.access }
 {
     if are_quiet(a.part, b.part) {
         return true;
     }
-    are_alike(&a.access, &b.points.access, a.id.rank == b.points.id.rank)
+    if a.access.window != b.points.access.window {
+        return false;
+    }
+    are_repeated(a.access.kind, b.points.access.kind)
 }
 
 /// Whether no rule forbids the two accesses: they may overlap, or their bytes don't meet and neither is a store. An
 /// answer of no tells nothing.
 pub(crate) fn may_stand(a: &Seen, b: &Reached<'_>) -> bool
     ensures { (before : IdValue → IdValue → Bool) (rank : ℕ) (x y : JudgedAccess) → IsSeen before rank a.now x →
-        IsReached before b.now y → IsTrue result → MayStand x y }
+        IsReached before b.now y → IsTrue result → MayStand x.access y.access }
 {
     if do_meet(&a.access, &b.points.access) {
         return may_overlap(a, b);

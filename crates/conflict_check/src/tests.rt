@@ -81,6 +81,26 @@ fn a_done_point_before_an_access_orders_it(rt: HostRuntime) -> Result<(), NoMemo
     Ok(())
 }
 
+#[test]
+fn ranks_may_take_turns(rt: HostRuntime) -> Result<(), NoMemory> {
+    let alloc = rt.alloc();
+    let clocks = Clocks::without_entries(alloc);
+    let mut first = access(alloc, 1, 3, Kind::Put, 0);
+    if first.done.push(Id { rank: 1, index: 4 }).is_err() {
+        return Err(NoMemory);
+    }
+    let second = access(alloc, 0, 2, Kind::Get, 0);
+    let third = access(alloc, 1, 5, Kind::Put, 0);
+    let accesses = three(alloc, first, second, third)?;
+    let found = findings_among(alloc, accesses.as_slice(), &clocks, Model::Unified)?;
+    let found = found.as_slice();
+    assert!(rt; found.len() == 2);
+    let get = Id { rank: 0, index: 2 };
+    assert!(rt; found[0].first == Id { rank: 1, index: 3 } && found[0].second == get);
+    assert!(rt; found[1].first == get && found[1].second == Id { rank: 1, index: 5 });
+    Ok(())
+}
+
 fn read_of_rank(target: u8) -> KeptAccess {
     KeptAccess {
         id: Id { rank: 0, index: 4 },

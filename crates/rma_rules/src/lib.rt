@@ -8,4 +8,4 @@ mod pairs;
 mod tests;
 
 pub use numbers::{WindowNumbers, numbers_follow};
-pub use pairs::{Part, are_alike, forbidden_kind, part_of};
+pub use pairs::{Part, forbidden_kind, part_of};

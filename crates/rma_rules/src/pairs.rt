@@ -79,8 +79,8 @@ fn do_combine(a: Option<Op>, b: Option<Op>, one_origin: bool) -> bool
     }
 }
 
-/// Whether both are accumulates or cas of one datatype on one window, which may overlap (MPI 3.1, section 11.7.1).
-pub fn are_alike(a: &Access, b: &Access, one_origin: bool) -> bool
+/// Whether both are accumulates or cas of one datatype on one window, which may overlap.
+fn are_alike(a: &Access, b: &Access, one_origin: bool) -> bool
     ensures { result ≡ are_excepted a.now b.now one_origin }
 {
     if a.window != b.window {

@@ -6,7 +6,7 @@ use Rattle.conflict_check.proofs.standing.may_stand.Goals as goal
 
 pub returns : goal.returns
 returns c before rank x y first second passed =
-    apart x y
+    apart x.access y.access
     ((λ i. meet (sym first.reached i) (sym second.points i).access) ∙ sym c.do_meet.ensures ∙ c.if-do_meet.false)
     (ap is_store (sym first.part) ∙ sym c.is_store.ensures ∙ c.if-is_store.false)
     (ap is_store (sym second.part) ∙ sym c.is_store-2.ensures ∙ untrue c.is_store-2.result passed)
