@@ -6,6 +6,7 @@ refuses one allocation, whose number is written into it: it is built once, and t
 
     refuse_growths.py     takes a minute or two; run by hand, not by the gate
 """
+import contextlib
 import os
 import struct
 import subprocess
@@ -61,7 +62,8 @@ def build(folder):
         found = None if os.path.exists(kept) else program_in(room)
         if found:
             # The linker may still be writing it, and rt try removes its own name of the file.
-            os.link(found, kept)
+            with contextlib.suppress(FileNotFoundError):
+                os.link(found, kept)
         time.sleep(0.1)
     if not os.path.exists(kept):
         sys.exit("rt try left no program")

@@ -15,6 +15,8 @@ mod data;
 mod judging;
 mod learning;
 mod moves;
+#[cfg(test)]
+mod tests;
 mod tokens;
 
 pub use agent::Agent;
