@@ -1,5 +1,5 @@
 -- Parts of memory that are small.
-use Rattle.std.proofs.Common.{◌≡◌, ℕ, zero, suc, ◌≤◌, List, [], ◌∷◌, length, replicate, refl, arith}
+use Rattle.std.proofs.Common.{◌≡◌, ℕ, zero, suc, ◌≤◌, List, [], ◌∷◌, length, replicate, arith}
 use Rattle.std.proofs.lemmas.List.{length-replicate}
 use Rattle.rma_types.specs.declared.scripts.CallBase.{CallBase}
 use Rattle.rma_types.specs.declared.scripts.MemoryPart.{MemoryPart}

@@ -1,5 +1,5 @@
 -- What a sequence of entries at a board answers.
-use Rattle.std.specs.Prelude.{ℕ, ◌≡◌, List, [], Option, Some, None}
+use Rattle.std.specs.Prelude.{ℕ, ◌≡◌, List, [], Option, Some}
 use Rattle.std.specs.Option.{option_map}
 use Rattle.cell_face.specs.declared.fronts.Front.{Front}
 use Rattle.kept_rows.specs.Gifts.{Front as Told}

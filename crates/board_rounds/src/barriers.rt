@@ -3,7 +3,7 @@ ghost use Rattle.std.specs.Prelude.{◌≡◌, ◌<◌, ◌≤◌, [], true, IfO
 ghost use Rattle.rma_types.specs.declared.calls.Call.TheVariants.{Barrier};
 ghost use Rattle.sync_board.specs.Boards.{IsLayoutOf, is_step_of};
 
-use crate::entering::{Stopped, enter, has_entries};
+use crate::entering::{Stopped, enter, expect_entries};
 use cell_face::NoNote;
 use rma_types::{Call, Items, Layout, MemoryPart, NoMemory, Step};
 use std::alloc::Global;
@@ -81,5 +81,5 @@ pub fn meet_often(alloc: Global) -> Result<(), Stopped> {
     for number in 0..ROUNDS {
         meet(&mut board, number)?;
     }
-    has_entries(&board, 131_072)
+    expect_entries(&board, 131_072)
 }

@@ -11,7 +11,7 @@ use sync_board::{Board, Decided};
 pub enum Stopped {
     /// Memory was wanting.
     NoMemory,
-    /// An entry was not put, or not all of them were.
+    /// An entry was not put.
     NotEntered,
 }
 
@@ -44,8 +44,8 @@ pub(crate) fn enter(
     }
 }
 
-/// Whether the board has so many entries.
-pub(crate) fn has_entries(board: &Board<NoNote>, count: usize) -> Result<(), Stopped> {
+/// Stops where the board does not have so many entries.
+pub(crate) fn expect_entries(board: &Board<NoNote>, count: usize) -> Result<(), Stopped> {
     if board.entries().len() == count {
         Ok(())
     } else {

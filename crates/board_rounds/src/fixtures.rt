@@ -1,6 +1,7 @@
 //! What the tests share: boards, calls, and entries with the answers that are wanted.
 ghost use Rattle.std.specs.Prelude.{◌<◌, ◌≤◌};
 
+use crate::steps::is_collective;
 use crate::{Answer, Made, Sequence};
 use cell_face::Front;
 use rma_types::{
@@ -32,8 +33,8 @@ fn layout_of(alloc: Global, bytes: &[u32], bases: &[CallBase]) -> Result<Layout,
     })
 }
 
-/// A board without entries, of a rank for each number of bytes, whose calls of the pairs' numbers allocate memory at the
-/// pairs' addresses. The board never asks in which cells memory lies.
+/// A board without entries, of a rank for each number of bytes; the memory of each rank's allocates is at these bases.
+/// The board never asks in which cells memory lies.
 pub(crate) fn board_of(
     rt: &impl Abort,
     alloc: Global,
@@ -83,6 +84,39 @@ pub(crate) fn lock(kind: Lock, target: i32) -> Call {
 
 pub(crate) fn unlock(target: i32) -> Call {
     Call::Unlock { win: 0, target }
+}
+
+pub(crate) fn unlock_all() -> Call {
+    Call::UnlockAll { win: 0 }
+}
+
+pub(crate) fn allocate(bytes: i32, unit: i32) -> Call {
+    Call::Allocate {
+        win: 0,
+        bytes,
+        unit,
+    }
+}
+
+pub(crate) fn create(base: i32, bytes: i32, unit: i32) -> Call {
+    Call::Create {
+        win: 0,
+        base,
+        bytes,
+        unit,
+    }
+}
+
+pub(crate) fn attach(base: i32, bytes: i32) -> Call {
+    Call::Attach {
+        win: 0,
+        base,
+        bytes,
+    }
+}
+
+pub(crate) fn part_of(base: u32, bytes: u32, unit: u32) -> Part {
+    Part { base, bytes, unit }
 }
 
 pub(crate) fn lock_all() -> Call {
@@ -151,8 +185,17 @@ pub(crate) fn front(cell: usize, place: u32) -> Front
     Front { places }
 }
 
-/// The entry gains this, and stands at this place. It makes no window.
-pub(crate) fn gain(
+/// The step of a call's first entry.
+fn first_step(call: &Call) -> Step {
+    if is_collective(call) {
+        Step::Arrive
+    } else {
+        Step::One
+    }
+}
+
+/// The entry is given this, gains that, and stands at this place. It makes no window.
+pub(crate) fn turn(
     rt: &impl Abort,
     board: &mut Sequence,
     at: At,
@@ -170,43 +213,107 @@ pub(crate) fn gain(
     assert_eq!(rt; board.ask(at.0, at.1, call, step, gift), Ok(answer));
 }
 
-/// The entry stands at this place, with nothing given or gained.
-pub(crate) fn enter(
+/// The first entry of the call stands at this place, with nothing given or gained.
+pub(crate) fn enter(rt: &impl Abort, board: &mut Sequence, at: At, call: &Call, place: u32) {
+    turn(rt, board, at, call, first_step(call), None, place, None);
+}
+
+/// The first entry of the call is given this, gains nothing, and stands at this place.
+pub(crate) fn give(
     rt: &impl Abort,
     board: &mut Sequence,
     at: At,
     call: &Call,
-    step: Step,
+    gift: Front,
     place: u32,
 ) {
-    gain(rt, board, at, call, step, None, place, None);
+    let step = first_step(call);
+    turn(rt, board, at, call, step, Some(gift), place, None);
 }
 
-/// The entry is not yet possible, and its gift comes back.
-pub(crate) fn wait(rt: &impl Abort, board: &mut Sequence, at: At, call: &Call, step: Step) {
+/// The first entry of the call stands at this place, and gains this.
+pub(crate) fn gain(
+    rt: &impl Abort,
+    board: &mut Sequence,
+    at: At,
+    call: &Call,
+    place: u32,
+    gained: Front,
+) {
+    let step = first_step(call);
+    turn(rt, board, at, call, step, None, place, Some(gained));
+}
+
+/// The Leave of the call stands at this place, with nothing given or gained.
+pub(crate) fn leave(rt: &impl Abort, board: &mut Sequence, at: At, call: &Call, place: u32) {
+    turn(rt, board, at, call, Step::Leave, None, place, None);
+}
+
+/// The Leave of the call stands at this place, and gains this.
+pub(crate) fn leave_with(
+    rt: &impl Abort,
+    board: &mut Sequence,
+    at: At,
+    call: &Call,
+    place: u32,
+    gained: Front,
+) {
+    turn(rt, board, at, call, Step::Leave, None, place, Some(gained));
+}
+
+/// The step is not yet possible, and its gift comes back.
+fn hold(rt: &impl Abort, board: &mut Sequence, at: At, call: &Call, step: Step) {
     let gift = Some(front(0, 7));
-    assert_eq!(rt;
-        board.ask(at.0, at.1, call, step, gift),
-        Ok(Answer::NotYet { gift })
-    );
+    let answer = Answer::NotYet { gift };
+    assert_eq!(rt; board.ask(at.0, at.1, call, step, gift), Ok(answer));
 }
 
-/// The entry is refused by this class after so many entries, and its gift comes back.
+/// The first entry of the call is not yet possible.
+pub(crate) fn wait(rt: &impl Abort, board: &mut Sequence, at: At, call: &Call) {
+    hold(rt, board, at, call, first_step(call));
+}
+
+/// The Leave of the call is not yet possible.
+pub(crate) fn stay(rt: &impl Abort, board: &mut Sequence, at: At, call: &Call) {
+    hold(rt, board, at, call, Step::Leave);
+}
+
+/// The first entry of the call is refused by this class after so many entries, and its gift comes back.
 pub(crate) fn refuse(
     rt: &impl Abort,
     board: &mut Sequence,
     at: At,
     call: &Call,
-    step: Step,
     class: Class,
     seen: u32,
 ) {
     let gift = Some(front(15, 3));
     let answer = Answer::Refused { class, seen, gift };
-    assert_eq!(rt; board.ask(at.0, at.1, call, step, gift), Ok(answer));
+    assert_eq!(rt;
+        board.ask(at.0, at.1, call, first_step(call), gift),
+        Ok(answer)
+    );
 }
 
-/// The Leave of a creation stands at this place, and makes this window.
+/// The board may not be asked this.
+pub(crate) fn outside(rt: &impl Abort, board: &mut Sequence, at: At, call: &Call, step: Step) {
+    let gift = Some(front(1, 1));
+    assert_eq!(rt;
+        board.ask(at.0, at.1, call, step, gift),
+        Ok(Answer::Outside)
+    );
+}
+
+/// The flavor of the window that a creation makes.
+fn flavor_of(call: &Call) -> Flavor {
+    match call {
+        Call::Allocate { .. } => Flavor::Allocate,
+        Call::Create { .. } => Flavor::Create,
+        _ => Flavor::Dynamic,
+    }
+}
+
+/// The Leave of a creation stands at this place, and makes a window of these parts.
 pub(crate) fn make(
     rt: &impl Abort,
     alloc: Global,
@@ -214,9 +321,9 @@ pub(crate) fn make(
     at: At,
     call: &Call,
     place: u32,
-    flavor: Flavor,
     parts: &[Part],
 ) {
+    let flavor = flavor_of(call);
     let Ok(parts) = Items::from_slice(alloc, parts) else {
         panic!(rt; "no memory");
     };
@@ -232,14 +339,14 @@ pub(crate) fn make(
 pub(crate) fn meet(rt: &impl Abort, board: &mut Sequence, one: At, other: At, place: u32)
     requires { place ≤ 1000 }
 {
-    enter(rt, board, one, &Call::Barrier, Step::Arrive, place);
-    enter(rt, board, other, &Call::Barrier, Step::Arrive, place + 1);
-    enter(rt, board, other, &Call::Barrier, Step::Leave, place + 2);
-    enter(rt, board, one, &Call::Barrier, Step::Leave, place + 3);
+    enter(rt, board, one, &Call::Barrier, place);
+    enter(rt, board, other, &Call::Barrier, place + 1);
+    leave(rt, board, other, &Call::Barrier, place + 2);
+    leave(rt, board, one, &Call::Barrier, place + 3);
 }
 
 /// Every rank creates a window, the first entry at this place, and its Leave makes these parts.
-fn create_all(
+pub(crate) fn create_all(
     rt: &impl Abort,
     alloc: Global,
     board: &mut Sequence,
@@ -247,7 +354,6 @@ fn create_all(
     call: &Call,
     number: u32,
     place: u32,
-    flavor: Flavor,
     part: Part,
 )
     requires { place ≤ 1000 }
@@ -258,12 +364,12 @@ fn create_all(
     let count = u32::from(ranks);
     for rank in 0..ranks {
         let next = place + u32::from(rank);
-        enter(rt, board, (rank, number), call, Step::Arrive, next);
+        enter(rt, board, (rank, number), call, next);
     }
     for rank in 0..ranks {
         let next = place + count + u32::from(rank);
         let at = (rank, number);
-        make(rt, alloc, board, at, call, next, flavor, parts.as_slice());
+        make(rt, alloc, board, at, call, next, parts.as_slice());
     }
 }
 
@@ -278,23 +384,9 @@ pub(crate) fn dynamic_all(
 )
     requires { place ≤ 1000 }
 {
-    let part = Part {
-        base: 0,
-        bytes: 0,
-        unit: 1,
-    };
+    let part = part_of(0, 0, 1);
     let call = Call::Dynamic { win: 0 };
-    create_all(
-        rt,
-        alloc,
-        board,
-        ranks,
-        &call,
-        number,
-        place,
-        Flavor::Dynamic,
-        part,
-    );
+    create_all(rt, alloc, board, ranks, &call, number, place, part);
 }
 
 /// Every rank frees the window by its call of this number, the first entry at this place.
@@ -305,11 +397,11 @@ pub(crate) fn free_all(rt: &impl Abort, board: &mut Sequence, ranks: u8, number:
     let count = u32::from(ranks);
     for rank in 0..ranks {
         let next = place + u32::from(rank);
-        enter(rt, board, (rank, number), &call, Step::Arrive, next);
+        enter(rt, board, (rank, number), &call, next);
     }
     for rank in 0..ranks {
         let next = place + count + u32::from(rank);
-        enter(rt, board, (rank, number), &call, Step::Leave, next);
+        leave(rt, board, (rank, number), &call, next);
     }
 }
 
@@ -325,25 +417,7 @@ pub(crate) fn allocate_all(
 )
     requires { place ≤ 1000 }
 {
-    let call = Call::Allocate {
-        win: 0,
-        bytes: 4,
-        unit: 4,
-    };
-    let part = Part {
-        base,
-        bytes: 4,
-        unit: 4,
-    };
-    create_all(
-        rt,
-        alloc,
-        board,
-        ranks,
-        &call,
-        number,
-        place,
-        Flavor::Allocate,
-        part,
-    );
+    let call = allocate(4, 4);
+    let part = part_of(base, 4, 4);
+    create_all(rt, alloc, board, ranks, &call, number, place, part);
 }

@@ -1,4 +1,4 @@
-//! Whether the range that a call brings to a window lies in the memory of its rank (MPI 3.1, sections 11.2.1 to 11.2.4).
+//! Whether the range that a call brings to a window lies in its rank's memory (MPI 3.1, sections 11.2.1 to 11.2.4).
 ghost use Rattle.std.specs.Prelude.{◌≡◌, ◌≤◌, ◌+◌, ℕ, [], true, slice_index_or};
 ghost use Rattle.call_rules.specs.Actions.{action_of};
 ghost use Rattle.call_rules.specs.Ranks.{natural as natural_of};

@@ -1,9 +1,9 @@
 //! Worked scripts as sequences of entries, with the answers that are worked out by hand.
 use crate::fixtures::{
-    allocate_all, board_of, dynamic_all, enter, fence, get, lock, lock_all, make, meet, post, put,
-    refuse, start, unlock, wait,
+    allocate, allocate_all, attach, board_of, dynamic_all, enter, fence, get, leave, lock,
+    lock_all, make, meet, part_of, post, put, refuse, start, stay, unlock, unlock_all, wait,
 };
-use rma_types::{Call, CallBase, Class, Flavor, Lock, Part, Step};
+use rma_types::{Call, CallBase, Class, Lock, Step};
 use std::test::Fail;
 use sync_board::EntryRow;
 
@@ -17,19 +17,19 @@ fn a_lock_meets_the_post_of_its_target(rt: HostRuntime) {
     let start = start(&rt, rt.alloc(), &[0]);
     let wait_win = Call::WaitWin { win: 0 };
     allocate_all(&rt, rt.alloc(), &mut board, 2, 0, 0, 0);
-    enter(&rt, &mut board, (0, 1), &post, Step::One, 4);
-    enter(&rt, &mut board, (0, 2), &Call::Barrier, Step::Arrive, 5);
-    wait(&rt, &mut board, (0, 2), &Call::Barrier, Step::Leave);
-    enter(&rt, &mut board, (1, 1), &Call::Barrier, Step::Arrive, 6);
-    enter(&rt, &mut board, (1, 1), &Call::Barrier, Step::Leave, 7);
+    enter(&rt, &mut board, (0, 1), &post, 4);
+    enter(&rt, &mut board, (0, 2), &Call::Barrier, 5);
+    stay(&rt, &mut board, (0, 2), &Call::Barrier);
+    enter(&rt, &mut board, (1, 1), &Call::Barrier, 6);
+    leave(&rt, &mut board, (1, 1), &Call::Barrier, 7);
     let shared = lock(Lock::Shared, 0);
-    refuse(&rt, &mut board, (1, 2), &shared, Step::One, Class::Sync, 8);
-    enter(&rt, &mut board, (1, 3), &start, Step::One, 8);
-    enter(&rt, &mut board, (0, 2), &Call::Barrier, Step::Leave, 9);
-    wait(&rt, &mut board, (0, 3), &wait_win, Step::One);
+    refuse(&rt, &mut board, (1, 2), &shared, Class::Sync, 8);
+    enter(&rt, &mut board, (1, 3), &start, 8);
+    leave(&rt, &mut board, (0, 2), &Call::Barrier, 9);
+    wait(&rt, &mut board, (0, 3), &wait_win);
     let complete = Call::Complete { win: 0 };
-    enter(&rt, &mut board, (1, 4), &complete, Step::One, 10);
-    enter(&rt, &mut board, (0, 3), &wait_win, Step::One, 11);
+    enter(&rt, &mut board, (1, 4), &complete, 10);
+    enter(&rt, &mut board, (0, 3), &wait_win, 11);
     assert_eq!(rt; board.entries().len(), 12);
 }
 
@@ -40,9 +40,9 @@ fn a_post_meets_the_lock_of_its_rank(rt: HostRuntime) {
     allocate_all(&rt, rt.alloc(), &mut board, 1, 0, 0, 0);
     let shared = lock(Lock::Shared, 0);
     let post = post(&rt, rt.alloc(), &[0]);
-    enter(&rt, &mut board, (0, 1), &shared, Step::One, 2);
-    refuse(&rt, &mut board, (0, 2), &post, Step::One, Class::Sync, 3);
-    enter(&rt, &mut board, (0, 3), &unlock(0), Step::One, 3);
+    enter(&rt, &mut board, (0, 1), &shared, 2);
+    refuse(&rt, &mut board, (0, 2), &post, Class::Sync, 3);
+    enter(&rt, &mut board, (0, 3), &unlock(0), 3);
     assert_eq!(rt; board.entries().len(), 4);
     assert_eq!(rt; board.allows(0, &post, Step::One), Some(true));
 }
@@ -53,47 +53,20 @@ fn a_post_meets_the_lock_of_its_rank(rt: HostRuntime) {
 fn a_look_up_wants_an_attached_range(rt: HostRuntime) {
     let mut board = board_of(&rt, rt.alloc(), &[0, 32], &[]);
     let dynamic = Call::Dynamic { win: 0 };
-    let attach = Call::Attach {
-        win: 0,
-        base: 8,
-        bytes: 8,
-    };
+    let range = attach(8, 8);
     let detach = Call::Detach { win: 0, base: 8 };
     dynamic_all(&rt, rt.alloc(), &mut board, 2, 0, 0);
-    enter(&rt, &mut board, (0, 1), &lock_all(), Step::One, 4);
-    refuse(
-        &rt,
-        &mut board,
-        (0, 2),
-        &get(8, 1),
-        Step::One,
-        Class::Range,
-        5,
-    );
+    enter(&rt, &mut board, (0, 1), &lock_all(), 4);
+    refuse(&rt, &mut board, (0, 2), &get(8, 1), Class::Range, 5);
     meet(&rt, &mut board, (0, 3), (1, 1), 5);
-    enter(&rt, &mut board, (1, 2), &attach, Step::One, 9);
+    enter(&rt, &mut board, (1, 2), &range, 9);
     meet(&rt, &mut board, (0, 4), (1, 5), 10);
-    enter(&rt, &mut board, (0, 5), &get(8, 1), Step::One, 14);
+    enter(&rt, &mut board, (0, 5), &get(8, 1), 14);
     meet(&rt, &mut board, (0, 6), (1, 6), 15);
-    enter(&rt, &mut board, (1, 7), &detach, Step::One, 19);
+    enter(&rt, &mut board, (1, 7), &detach, 19);
     meet(&rt, &mut board, (0, 7), (1, 8), 20);
-    refuse(
-        &rt,
-        &mut board,
-        (0, 8),
-        &get(8, 1),
-        Step::One,
-        Class::Range,
-        24,
-    );
-    enter(
-        &rt,
-        &mut board,
-        (0, 9),
-        &Call::UnlockAll { win: 0 },
-        Step::One,
-        24,
-    );
+    refuse(&rt, &mut board, (0, 8), &get(8, 1), Class::Range, 24);
+    enter(&rt, &mut board, (0, 9), &unlock_all(), 24);
     assert_eq!(rt; board.entries().len(), 25);
 }
 
@@ -101,40 +74,17 @@ fn a_look_up_wants_an_attached_range(rt: HostRuntime) {
 #[test]
 fn a_look_up_wants_each_byte(rt: HostRuntime) {
     let mut board = board_of(&rt, rt.alloc(), &[0, 32], &[]);
-    let low = Call::Attach {
-        win: 0,
-        base: 8,
-        bytes: 8,
-    };
-    let high = Call::Attach {
-        win: 0,
-        base: 16,
-        bytes: 4,
-    };
+    let low = attach(8, 8);
+    let high = attach(16, 4);
     dynamic_all(&rt, rt.alloc(), &mut board, 2, 0, 0);
-    enter(&rt, &mut board, (1, 1), &low, Step::One, 4);
-    enter(
-        &rt,
-        &mut board,
-        (0, 1),
-        &put(&rt, rt.alloc(), 12, &[5]),
-        Step::One,
-        5,
-    );
+    enter(&rt, &mut board, (1, 1), &low, 4);
+    enter(&rt, &mut board, (0, 1), &put(&rt, rt.alloc(), 12, &[5]), 5);
     let wide = put(&rt, rt.alloc(), 12, &[5, 6]);
-    refuse(&rt, &mut board, (0, 2), &wide, Step::One, Class::Range, 6);
-    enter(&rt, &mut board, (1, 2), &high, Step::One, 6);
-    enter(&rt, &mut board, (0, 3), &wide, Step::One, 7);
-    refuse(
-        &rt,
-        &mut board,
-        (0, 4),
-        &get(20, 1),
-        Step::One,
-        Class::Range,
-        8,
-    );
-    enter(&rt, &mut board, (0, 5), &get(20, 0), Step::One, 8);
+    refuse(&rt, &mut board, (0, 2), &wide, Class::Range, 6);
+    enter(&rt, &mut board, (1, 2), &high, 6);
+    enter(&rt, &mut board, (0, 3), &wide, 7);
+    refuse(&rt, &mut board, (0, 4), &get(20, 1), Class::Range, 8);
+    enter(&rt, &mut board, (0, 5), &get(20, 0), 8);
     assert_eq!(rt; board.entries().len(), 9);
 }
 
@@ -142,27 +92,18 @@ fn a_look_up_wants_each_byte(rt: HostRuntime) {
 #[test]
 fn a_barrier_and_a_fence_never_meet(rt: HostRuntime) {
     let mut board = board_of(&rt, rt.alloc(), &[0, 0], &FIRST);
-    let allocate = Call::Allocate {
-        win: 0,
-        bytes: 0,
-        unit: 1,
-    };
-    let none = Part {
-        base: 0,
-        bytes: 0,
-        unit: 1,
-    };
-    enter(&rt, &mut board, (0, 0), &allocate, Step::Arrive, 0);
-    wait(&rt, &mut board, (0, 0), &allocate, Step::Leave);
-    enter(&rt, &mut board, (1, 0), &allocate, Step::Arrive, 1);
+    let empty = allocate(0, 1);
+    let none = part_of(0, 0, 1);
+    enter(&rt, &mut board, (0, 0), &empty, 0);
+    stay(&rt, &mut board, (0, 0), &empty);
+    enter(&rt, &mut board, (1, 0), &empty, 1);
     make(
         &rt,
         rt.alloc(),
         &mut board,
         (1, 0),
-        &allocate,
+        &empty,
         2,
-        Flavor::Allocate,
         &[none, none],
     );
     make(
@@ -170,16 +111,15 @@ fn a_barrier_and_a_fence_never_meet(rt: HostRuntime) {
         rt.alloc(),
         &mut board,
         (0, 0),
-        &allocate,
+        &empty,
         3,
-        Flavor::Allocate,
         &[none, none],
     );
-    enter(&rt, &mut board, (0, 1), &Call::Barrier, Step::Arrive, 4);
-    wait(&rt, &mut board, (0, 1), &Call::Barrier, Step::Leave);
-    enter(&rt, &mut board, (1, 1), &fence(), Step::Arrive, 5);
-    wait(&rt, &mut board, (1, 1), &fence(), Step::Leave);
-    wait(&rt, &mut board, (0, 1), &Call::Barrier, Step::Leave);
+    enter(&rt, &mut board, (0, 1), &Call::Barrier, 4);
+    stay(&rt, &mut board, (0, 1), &Call::Barrier);
+    enter(&rt, &mut board, (1, 1), &fence(), 5);
+    stay(&rt, &mut board, (1, 1), &fence());
+    stay(&rt, &mut board, (0, 1), &Call::Barrier);
     assert_eq!(rt; board.allows(0, &Call::Barrier, Step::Leave), Some(false));
     assert_eq!(rt; board.allows(1, &fence(), Step::Leave), Some(false));
     let last = EntryRow {
@@ -199,21 +139,21 @@ fn a_testwin_comes_after_the_complete(rt: HostRuntime) {
     let post = post(&rt, rt.alloc(), &[1]);
     let start = start(&rt, rt.alloc(), &[0]);
     allocate_all(&rt, rt.alloc(), &mut board, 2, 0, 0, 0);
-    enter(&rt, &mut board, (0, 1), &post, Step::One, 4);
-    wait(&rt, &mut board, (0, 2), &test, Step::One);
+    enter(&rt, &mut board, (0, 1), &post, 4);
+    wait(&rt, &mut board, (0, 2), &test);
     assert_eq!(rt; board.allows(0, &test, Step::One), Some(false));
-    enter(&rt, &mut board, (0, 3), &Call::Barrier, Step::Arrive, 5);
-    enter(&rt, &mut board, (1, 1), &Call::Barrier, Step::Arrive, 6);
-    enter(&rt, &mut board, (1, 1), &Call::Barrier, Step::Leave, 7);
-    enter(&rt, &mut board, (0, 3), &Call::Barrier, Step::Leave, 8);
-    enter(&rt, &mut board, (1, 2), &start, Step::One, 9);
+    enter(&rt, &mut board, (0, 3), &Call::Barrier, 5);
+    enter(&rt, &mut board, (1, 1), &Call::Barrier, 6);
+    leave(&rt, &mut board, (1, 1), &Call::Barrier, 7);
+    leave(&rt, &mut board, (0, 3), &Call::Barrier, 8);
+    enter(&rt, &mut board, (1, 2), &start, 9);
     let complete = Call::Complete { win: 0 };
-    enter(&rt, &mut board, (1, 3), &complete, Step::One, 10);
-    enter(&rt, &mut board, (1, 4), &Call::Barrier, Step::Arrive, 11);
-    enter(&rt, &mut board, (0, 4), &Call::Barrier, Step::Arrive, 12);
-    enter(&rt, &mut board, (0, 4), &Call::Barrier, Step::Leave, 13);
-    enter(&rt, &mut board, (1, 4), &Call::Barrier, Step::Leave, 14);
+    enter(&rt, &mut board, (1, 3), &complete, 10);
+    enter(&rt, &mut board, (1, 4), &Call::Barrier, 11);
+    enter(&rt, &mut board, (0, 4), &Call::Barrier, 12);
+    leave(&rt, &mut board, (0, 4), &Call::Barrier, 13);
+    leave(&rt, &mut board, (1, 4), &Call::Barrier, 14);
     assert_eq!(rt; board.allows(0, &test, Step::One), Some(true));
-    enter(&rt, &mut board, (0, 5), &test, Step::One, 15);
+    enter(&rt, &mut board, (0, 5), &test, 15);
     assert_eq!(rt; board.entries().len(), 16);
 }

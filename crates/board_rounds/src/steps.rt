@@ -6,7 +6,7 @@ ghost use Rattle.sync_board.specs.Boards.{is_step_of};
 use rma_types::{Call, Step};
 
 /// Whether all ranks meet at the call.
-fn is_collective(call: &Call) -> bool
+pub(crate) fn is_collective(call: &Call) -> bool
     ensures { result ≡ is_some (collective_of call.now) }
 {
     match call {

@@ -2,7 +2,7 @@
 ghost use Rattle.std.specs.Prelude.{◌≡◌, ◌<◌, [], IfOk};
 ghost use Rattle.board_rounds.specs.Layouts.{AllZero, IsOfWindows};
 
-use crate::entering::{Stopped, enter, has_entries};
+use crate::entering::{Stopped, enter, expect_entries};
 use cell_face::NoNote;
 use rma_types::{Call, CallBase, Items, Layout, MemoryPart, NoMemory, Step};
 use std::alloc::Global;
@@ -102,5 +102,5 @@ pub fn make_often(alloc: Global) -> Result<(), Stopped> {
         make(&mut board, 2 * at)?;
         free(&mut board, 2 * at + 1)?;
     }
-    has_entries(&board, 131_072)
+    expect_entries(&board, 131_072)
 }
