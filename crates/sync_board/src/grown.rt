@@ -27,6 +27,10 @@ pub(crate) fn grow_to<T: Idle>(
         T.is_idle (slice_index_or items.new.items at none) }
 {
     let start = items.len();
+    if start == 0 {
+        // most windows are of few ranks: exactly the room that the first of them needs
+        items.reserve_exact(count).map_err(|_| NoMemory)?;
+    }
     for next in start..count {
         let item = T::idle(alloc);
         match items.push(item) {

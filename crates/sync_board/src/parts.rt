@@ -28,6 +28,9 @@ fn make_room(parts: &mut Vec<Option<Part>>, count: usize) -> Result<(), NoMemory
     ensures same { (rank : ℕ) → part_kept parts.new.items rank ≡ part_kept parts.old.items rank }
 {
     let start = parts.len();
+    if start == 0 {
+        parts.reserve_exact(count).map_err(|_| NoMemory)?;
+    }
     for _ in start..count {
         match parts.push(None) {
             Ok(()) => {}
