@@ -2,10 +2,10 @@
 """Measures the program over the scripts of the benchmark.
 
 Of some runs the least processor time (user and system) and the least time from start to end, which a busy machine
-disturbs less; peak memory by GNU time. Then the programs that do one work at a board.
+disturbs less; peak memory by GNU time. Then the program that does one work at a board.
 
     measure.py [PROGRAM [RUNS]]     by default the program that rt ci leaves, 5 runs; run by hand, not by the gate
-    measure.py boards [RUNS]        only the programs of a board
+    measure.py boards [RUNS]        only the program of a board
 """
 import os
 import subprocess
@@ -33,8 +33,9 @@ CASES = [
     ("locked_puts", (8000, 16000), ""),
     ("past_others", (4000, 8000), "--delay end"),
 ]
-# programs without words and without input, and the entries that each puts to a board
-BOARDS = [("board_barriers", 131072), ("board_windows", 131072)]
+# words of the program that asks a board by itself, and the entries that each puts to it
+BOARDS = [("barriers", 131072), ("windows", 131072)]
+BOARD_PROGRAM = os.path.join(os.path.dirname(os.path.abspath(__file__)), "../crates/board_times/out/board_times")
 
 
 def run(words, script, report, well=(0, 1)):
@@ -59,14 +60,13 @@ def peak(program, words, script, report):
 
 
 def boards(runs):
-    """The programs of a board: the memory of an entry is the peak memory of the whole program by its entries."""
-    print("| program | entries | user time in ms | processor time in ms | peak memory in MB | bytes an entry |")
+    """The program of a board: the memory of an entry is the peak memory of the whole program by its entries."""
+    print("| word of `board_times` | entries | user time in ms | processor time in ms | peak memory in MB | bytes an entry |")
     print("|---|---|---|---|---|---|")
     for name, entries in BOARDS:
-        program = os.path.join(HERE, "../crates", name, "out", name)
         with tempfile.TemporaryFile() as script, tempfile.TemporaryFile() as report:
-            took = [run([program], script, report, (0,)) for _ in range(runs)]
-            memory = peak(program, [], script, report)
+            took = [run([BOARD_PROGRAM, name], script, report, (0,)) for _ in range(runs)]
+            memory = peak(BOARD_PROGRAM, [name], script, report)
         print("| `%s` | %s | %.1f | %.1f | %.1f | %d |" % (
             name, entries, 1000 * min(it[2] for it in took), 1000 * min(it[0] for it in took), memory / 1024,
             1024 * memory / entries), flush=True)
