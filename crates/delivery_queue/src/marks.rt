@@ -48,6 +48,19 @@ impl Marks {
         }
     }
 
+    /// The marks that are among these or among others.
+    pub(crate) fn both(self, other: Marks) -> Marks
+        ensures these { (one : Access) → IsMarked self one → IsMarked result one }
+        ensures others { (one : Access) → IsMarked other one → IsMarked result one }
+    {
+        Marks {
+            windows: self.windows.both(other.windows),
+            targets: self.targets.both(other.targets),
+            ordered: self.ordered.both(other.ordered),
+            fetches: self.fetches || other.fetches,
+        }
+    }
+
     /// Whether an access with these marks may be one of those that are sought.
     pub(crate) fn may_hold(&self, sought: &Sought) -> bool
         ensures { result ≡ false → (one : Access) → IsMarked self.now one → is_sought sought.now one ≡ false }

@@ -38,4 +38,13 @@ impl NumberSet {
             bits: self.bits | 1 << bit,
         }
     }
+
+    /// The numbers that are in one of the sets.
+    pub(crate) fn both(self, other: NumberSet) -> NumberSet
+        ensures { (number : ℕ) → has result number ≡ (has self number || has other number) }
+    {
+        NumberSet {
+            bits: self.bits | other.bits,
+        }
+    }
 }
