@@ -5,12 +5,12 @@ use Rattle.std.specs.List.{remove, All}
 use Rattle.std.specs.Option.{option_map}
 use Rattle.std.proofs.lemmas.Option.{slice_get-map}
 use Rattle.std.proofs.lemmas.List.{length-set, length-map, get_or-map}
-use Rattle.std.proofs.lemmas.List.Elements.{All-append, All-set}
+use Rattle.std.proofs.lemmas.List.Elements.{All-append, All-drop, All-set, All-take}
 use Rattle.std.proofs.Common.{subst}
 use Rattle.std.proofs.Common.{add-one}
 use Rattle.std.proofs.lemmas.List.{take-map, drop-map, map-append, map-set, set-append_left, set-append_right}
 use Rattle.std.proofs.lemmas.List.{append-nil, drop_more, take_more}
-use Rattle.std.proofs.lemmas.List.Edits.{remove-append_left, remove-append_right}
+use Rattle.std.proofs.lemmas.List.Edits.{length-remove, remove-append_left, remove-append_right}
 use Rattle.rank_rules.specs.declared.pending.PendingAccess.{PendingAccess}
 use Rattle.delivery_queue.specs.declared.begun.Begun.{Begun}
 use Rattle.delivery_queue.specs.Blocks.{joined, ones_in, accesses_of, touched_of, IsPlace}
@@ -226,4 +226,19 @@ touched_kept marks total ones after at count l is kept =
       marked = All-set (λ (begun : Begun). IsMarked marks begun.access) ones at other marked kept.marked;
       counted = length-set ones at other ∙ kept.counted;
       few = kept.few;
+    }
+
+-- one access goes, and the others have their marks
+pub removed_kept : (marks : Marks) (total : ℕ) (ones : List Begun) (at : ℕ) → at < length ones →
+    IsKept marks total ones → IsKept marks (total - 1) (remove ones at)
+removed_kept marks total ones at l kept =
+    let marked : Begun → Type 0 = λ one. IsMarked marks one.access in
+    let shorter : length (remove ones at) + 1 ≡ length ones = length-remove ones at l in
+    let counted = kept.counted in
+    let few = kept.few in
+    record {
+      marked = All-append marked (take at ones) (drop (suc at) ones) (All-take marked at ones kept.marked)
+          (All-drop marked (suc at) ones kept.marked);
+      counted = omega arith;
+      few = omega arith;
     }

@@ -1,5 +1,5 @@
 //! Pending accesses in groups of parts, with the marks of all, so that a search passes over most groups.
-ghost use Rattle.std.specs.Prelude.{◌≡◌, ◌<◌, ◌^◌, ◌++◌, [], ◌∷◌, length, slice_get, slice_set, Some, IfSome, OnOk, OnErr};
+ghost use Rattle.std.specs.Prelude.{◌≡◌, ◌<◌, ◌++◌, [], ◌∷◌, length, slice_get, slice_set, Some, IfSome, OnOk, OnErr};
 ghost use Rattle.std.specs.List.{position, remove, All};
 ghost use Rattle.delivery_queue.specs.declared.begun.Begun.{Begun as BegunOne};
 ghost use Rattle.delivery_queue.specs.Blocks.{ones_in};
@@ -98,9 +98,11 @@ impl<P: Part> Part for Group<P> {
     }
 
     fn remove(&mut self, at: usize) {
-        remove_at(&mut self.parts, at);
+        let changed = remove_at(&mut self.parts, at);
         self.count -= 1;
-        self.marks = marks_of(&self.parts);
+        if changed {
+            self.marks = marks_of(&self.parts);
+        }
     }
 
     fn touch(&mut self, at: usize, count: u32) {

@@ -10,7 +10,7 @@ use rank_rules::PendingAccess;
 
 /// The names of the windows, and the targets, of some accesses; the targets of those whose order is kept on a cell; and
 /// whether one of them fetches.
-#[derive(Clone, Copy, Debug)]
+#[derive(Clone, Copy, Debug, PartialEq, Eq)]
 pub(crate) struct Marks {
     windows: NumberSet,
     targets: NumberSet,

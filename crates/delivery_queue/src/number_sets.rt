@@ -3,7 +3,7 @@ ghost use Rattle.std.specs.Prelude.{◌≡◌, ◌==◌, ◌||◌, ◌%◌, ◌<
 ghost use Rattle.delivery_queue.specs.Marked.{has};
 
 /// A set of numbers, each taken modulo 32, with a bit for each.
-#[derive(Clone, Copy, Debug)]
+#[derive(Clone, Copy, Debug, PartialEq, Eq)]
 pub(crate) struct NumberSet {
     bits: u32,
 }

@@ -1,6 +1,6 @@
 //! Places among the accesses of parts, one part after another.
-ghost use Rattle.std.specs.Prelude.{◌≡◌, ◌<◌, ◌^◌, ◌++◌, [], ◌∷◌, length, map, slice_get, slice_set, Some, IfSome, OnOk};
-ghost use Rattle.std.specs.Prelude.{OnErr};
+ghost use Rattle.std.specs.Prelude.{◌≡◌, ◌<◌, ◌^◌, ◌++◌, [], ◌∷◌, length, map, slice_get, slice_set, Some, IfSome};
+ghost use Rattle.std.specs.Prelude.{OnOk, OnErr};
 ghost use Rattle.std.specs.List.{position, remove};
 ghost use Rattle.delivery_queue.specs.declared.begun.Begun.{Begun as BegunOne};
 ghost use Rattle.delivery_queue.specs.Blocks.{ones_in, accesses_of, IsPlace};
@@ -71,14 +71,17 @@ pub(crate) fn touch_at<P: Part>(parts: &mut Vec<P>, at: usize, count: u32)
     parts[place.part].touch(place.offset, count);
 }
 
-/// The access at a place goes.
-pub(crate) fn remove_at<P: Part>(parts: &mut Vec<P>, at: usize)
+/// The access at a place goes. `true` where its part has other marks now.
+pub(crate) fn remove_at<P: Part>(parts: &mut Vec<P>, at: usize) -> bool
     requires { at < length (ones_in P.ones parts.old.items) }
     ensures { ones_in P.ones parts.new.items ≡ remove (ones_in P.ones parts.old.items) at }
 {
     let place = place_of(parts, at);
+    let before = parts[place.part].marks();
     parts[place.part].remove(place.offset);
+    let changed = parts[place.part].marks() != before;
     drop_empty(parts, place.part);
+    changed
 }
 
 /// A part without accesses goes, unless it is the last one.
