@@ -1,4 +1,4 @@
--- A block among those of a queue.
+-- The accesses of parts, one part after another; `blocks` are the lists of their accesses.
 use Rattle.std.proofs.Common.{◌≡◌, ◌+◌, ◌-◌, ◌<◌, ◌≤◌, ℕ, zero, suc, List, [], ◌∷◌, ◌++◌, take, drop, length, map}
 use Rattle.std.proofs.Common.{refl, ap, arith, slice_get, Some, get_or, set, append_assoc, ◌∙◌, sym}
 use Rattle.std.specs.List.{remove, All}

@@ -1,4 +1,4 @@
--- What the marks of a block say of its accesses.
+-- What the marks of a part say of its accesses.
 use Rattle.std.specs.Prelude.{ℕ, ◌≡◌, ◌%◌, ◌<◌, ◌^◌, Bool, true, ◌==◌, List, length}
 use Rattle.std.specs.List.{All}
 use Rattle.std.specs.Int.{bit_at}

@@ -1,4 +1,4 @@
-//! What is common to the accesses of a block.
+//! What is common to the accesses of a part.
 ghost use Rattle.std.specs.Prelude.{◌≡◌, false};
 ghost use Rattle.rank_rules.specs.declared.pending.PendingAccess.{PendingAccess as Access};
 ghost use Rattle.delivery_queue.specs.Marked.{IsMarked};
