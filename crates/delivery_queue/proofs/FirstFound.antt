@@ -1,7 +1,6 @@
 -- The first of a list that passes a test.
-use Rattle.std.proofs.Common.{◌≡◌, ◌+◌, ◌<◌, ◌≤◌, ℕ, zero, suc, Bool, true, false, cond, List, [], ◌∷◌, ◌++◌}
+use Rattle.std.proofs.Common.{◌≡◌, ◌+◌, ◌≤◌, ℕ, zero, suc, Bool, true, false, cond, List, [], ◌∷◌, ◌++◌}
 use Rattle.std.proofs.Common.{Option, Some, None, take, length, refl, ap, arith, slice_get, ◌∙◌, sym, subst}
-use Rattle.std.specs.Prelude.{nat_lt}
 use Rattle.std.specs.Option.{option_map_or}
 use Rattle.std.specs.List.{position, position_from, All}
 use Rattle.std.proofs.lemmas.Iterator.Adapters.{position_from-zero}
@@ -9,8 +8,10 @@ use Rattle.rank_rules.specs.declared.pending.PendingAccess.{PendingAccess}
 use Rattle.rank_rules.specs.Requests.{Requests}
 use Rattle.rma_types.specs.declared.calls.Call.{Call}
 use Rattle.rank_rules.specs.Pending.{gives_way, first_in_way, must_wait, awaited, way}
-use Rattle.delivery_queue.specs.declared.blocks.Begun.{Begun}
+use Rattle.delivery_queue.specs.declared.begun.Begun.{Begun}
+use Rattle.delivery_queue.specs.declared.marks.Marks.{Marks}
 use Rattle.delivery_queue.specs.Blocks.{accesses_of}
+use Rattle.delivery_queue.specs.Marked.{IsMarked}
 use Rattle.delivery_queue.specs.Soughts.{before}
 
 -- a search of no element, and of one and the others
@@ -75,6 +76,25 @@ pub first_found : (pending : List PendingAccess) (at : ℕ) (later : PendingAcce
 first_found pending at later p here same =
     rw (here, same_position p (gives_way later) pending same) (position_take (gives_way later) at pending)
 
+mapped_from : (p : PendingAccess → Bool) (i : ℕ) (ones : List Begun) →
+    position_from p i (accesses_of ones) ≡ position_from (λ (one : Begun). p one.access) i ones
+mapped_from p i [] = refl
+mapped_from p i (one ∷ ones) = rw (mapped_from p (i + 1) ones) refl
+
+-- a search of accesses by what is begun of them
+pub mapped_position : (p : PendingAccess → Bool) (ones : List Begun) →
+    position p (accesses_of ones) ≡ position (λ (one : Begun). p one.access) ones
+mapped_position p ones =
+    position_from-zero p (accesses_of ones) ∙ mapped_from p 0 ones
+    ∙ sym (position_from-zero (λ (one : Begun). p one.access) ones)
+
+-- where marks exclude what is sought, none is found
+pub none_marked : (marks : Marks) (p : PendingAccess → Bool) (ones : List Begun) →
+    All (λ (one : Begun). IsMarked marks one.access) ones →
+    ((one : PendingAccess) → IsMarked marks one → p one ≡ false) → position p (accesses_of ones) ≡ None
+none_marked marks p ones all excluded =
+    mapped_position p ones ∙ none_found (λ (one : Begun). p one.access) ones (λ k d l. excluded _ (all k d l))
+
 found_from : (p : PendingAccess → Bool) (begin j k : ℕ) (block rest : List Begun) →
     position_from (λ (one : Begun). p one.access) j block ≡ Some k →
     position_from p (begin + j) (accesses_of (block ++ rest)) ≡ Some (begin + k)
@@ -92,14 +112,18 @@ found_from p begin j k (one ∷ block) rest e =
     by true others f = cc
     by false others f = rw (← next) (others f)
 
+found_in_one : (p : PendingAccess → Bool) (block : List Begun) →
+    position_from (λ (one : Begun). p one.access) 0 block ≡ position p (accesses_of block)
+found_in_one p block = sym (mapped_from p 0 block) ∙ sym (position_from-zero p (accesses_of block))
+
 -- a search finds what it finds in the first block
 pub found_in_block : (p : PendingAccess → Bool) (begin offset : ℕ) (block rest : List Begun) →
-    position (λ (one : Begun). p one.access) block ≡ Some offset →
+    position p (accesses_of block) ≡ Some offset →
     position_from p begin (accesses_of (block ++ rest)) ≡ Some (begin + offset)
 found_in_block p begin offset block rest e =
     let same : begin + 0 ≡ begin = omega arith in
     let found : position_from p (begin + 0) (accesses_of (block ++ rest)) ≡ Some (begin + offset) =
-    found_from p begin 0 offset block rest (sym (position_from-zero (λ (one : Begun). p one.access) block) ∙ e) in
+    found_from p begin 0 offset block rest (found_in_one p block ∙ e) in
     subst (λ (k : ℕ). position_from p k (accesses_of (block ++ rest)) ≡ Some (begin + offset)) same found
 
 not_from : (p : PendingAccess → Bool) (begin j : ℕ) (block rest : List Begun) →
@@ -123,10 +147,10 @@ not_from p begin j (one ∷ block) rest e =
 
 -- or else goes on behind it
 pub not_in_block : (p : PendingAccess → Bool) (begin : ℕ) (block rest : List Begun) →
-    position (λ (one : Begun). p one.access) block ≡ None →
+    position p (accesses_of block) ≡ None →
     position_from p begin (accesses_of (block ++ rest)) ≡ position_from p (begin + length block) (accesses_of rest)
 not_in_block p begin block rest e =
-    not_from p begin 0 block rest (sym (position_from-zero (λ (one : Begun). p one.access) block) ∙ e)
+    not_from p begin 0 block rest (found_in_one p block ∙ e)
 
 -- what is found is what a call waits for
 pub awaited_found : (requests : Requests) (call : Call) (pending : List PendingAccess) (p : PendingAccess → Bool)

@@ -1,19 +1,21 @@
--- A block among those of a queue.
+-- The accesses of parts, one part after another; `blocks` are the lists of their accesses.
 use Rattle.std.proofs.Common.{◌≡◌, ◌+◌, ◌-◌, ◌<◌, ◌≤◌, ℕ, zero, suc, List, [], ◌∷◌, ◌++◌, take, drop, length, map}
-use Rattle.std.proofs.Common.{refl, ap, arith, slice_get, Option, Some, None, get_or, set, length-append, append_assoc, ◌∙◌, sym}
+use Rattle.std.proofs.Common.{refl, ap, arith, slice_get, Some, get_or, set, append_assoc, ◌∙◌, sym}
 use Rattle.std.specs.List.{remove, All}
 use Rattle.std.specs.Option.{option_map}
 use Rattle.std.proofs.lemmas.Option.{slice_get-map}
-use Rattle.std.proofs.lemmas.List.{length-set}
+use Rattle.std.proofs.lemmas.List.{length-set, length-map, get_or-map}
+use Rattle.std.proofs.lemmas.List.Elements.{All-append, All-drop, All-set, All-take}
+use Rattle.std.proofs.Common.{subst}
 use Rattle.std.proofs.Common.{add-one}
 use Rattle.std.proofs.lemmas.List.{take-map, drop-map, map-append, map-set, set-append_left, set-append_right}
 use Rattle.std.proofs.lemmas.List.{append-nil, drop_more, take_more}
-use Rattle.std.proofs.lemmas.List.Edits.{remove-append_left, remove-append_right}
+use Rattle.std.proofs.lemmas.List.Edits.{length-remove, remove-append_left, remove-append_right}
 use Rattle.rank_rules.specs.declared.pending.PendingAccess.{PendingAccess}
-use Rattle.delivery_queue.specs.declared.blocks.Begun.{Begun}
-use Rattle.delivery_queue.specs.Blocks.{joined, accesses_of, touched_of, IsPlace}
+use Rattle.delivery_queue.specs.declared.begun.Begun.{Begun}
+use Rattle.delivery_queue.specs.Blocks.{joined, ones_in, accesses_of, touched_of, IsPlace}
 use Rattle.delivery_queue.specs.declared.marks.Marks.{Marks}
-use Rattle.delivery_queue.specs.Marked.{IsMarked}
+use Rattle.delivery_queue.specs.Marked.{IsMarked, IsKept}
 
 -- a block stands between those before it and those behind it
 pub parted : (blocks : List (List Begun)) (at : ℕ) → at < length blocks →
@@ -124,6 +126,15 @@ exists_at [] at l = absurd (omega arith)
 exists_at (x ∷ xs) zero l = (x, refl)
 exists_at (x ∷ xs) (suc at) l = exists_at xs at (omega arith)
 
+marked_at : (marks : Marks) (ones : List Begun) (at : ℕ) (one : Begun) →
+    All (λ (one : Begun). IsMarked marks one.access) ones → slice_get ones at ≡ Some one → IsMarked marks one.access
+marked_at marks [] at one all e = cc
+marked_at marks (other ∷ ones) zero one all e =
+    let same : other ≡ one = grind (arith, e) in
+    subst (λ (begun : Begun). IsMarked marks begun.access) same (all 0 one (omega arith))
+marked_at marks (other ∷ ones) (suc at) one all e =
+    marked_at marks ones at one (λ k d l. all (suc k) d (omega arith)) e
+
 -- the touched elements of one are counted, and nothing else changes
 pub touched_in : (ones after : List Begun) (at count : ℕ) → at < length ones →
     ((one : Begun) → slice_get ones at ≡ Some one →
@@ -163,13 +174,71 @@ marked_next marks more ones at all kept next =
     rw add-one (all_next (λ (one : Begun). IsMarked more one.access) ones at
     (λ k d l. kept (get_or (take at ones) k d).access (all k d l)) next)
 
--- what is left of the blocks, from one of them on, and what comes before the next
-pub parted_next : (blocks : List (List Begun)) (at : ℕ) (block : List Begun) → at < length blocks →
-    block ≡ get_or blocks at block → joined (drop at blocks) ≡ block ++ joined (drop (at + 1) blocks)
-parted_next blocks at block l here = ap joined (drop_more blocks at block l) ∙ rw (← here) refl
+-- what is left of the parts, from one of them on, and what comes before the next
+pub parted_next : {P : Type 0} (f : P → List Begun) (parts : List P) (at : ℕ) (part : P) → at < length parts →
+    part ≡ get_or parts at part → ones_in f (drop at parts) ≡ f part ++ ones_in f (drop (at + 1) parts)
+parted_next f parts at part l here = ap (ones_in f) (drop_more parts at part l) ∙ rw (← here) refl
 
-pub taken_next : (blocks : List (List Begun)) (at : ℕ) (block : List Begun) → at < length blocks →
-    block ≡ get_or blocks at block → joined (take (at + 1) blocks) ≡ joined (take at blocks) ++ block
-taken_next blocks at block l here =
-    ap joined (take_more blocks at block l) ∙ joined_append (take at blocks) (get_or blocks at block ∷ [])
-    ∙ rw (← here) (ap (λ (rest : List Begun). joined (take at blocks) ++ rest) (append-nil block))
+pub taken_next : {P : Type 0} (f : P → List Begun) (parts : List P) (at : ℕ) (part : P) → at < length parts →
+    part ≡ get_or parts at part → ones_in f (take (at + 1) parts) ≡ ones_in f (take at parts) ++ f part
+taken_next f parts at part l here =
+    ap (ones_in f) (take_more parts at part l)
+    ∙ ap joined (map-append f (take at parts) (get_or parts at part ∷ []))
+    ∙ joined_append (map f (take at parts)) (f (get_or parts at part) ∷ [])
+    ∙ rw (← here) (ap (λ (rest : List Begun). ones_in f (take at parts) ++ rest) (append-nil (f part)))
+
+-- a part gives the accesses that stand at its place
+pub part_here : {P : Type 0} (f : P → List Begun) (parts : List P) (at : ℕ) (part : P) → at < length parts →
+    part ≡ get_or parts at part → f part ≡ get_or (map f parts) at []
+part_here f parts at part l here = ap f here ∙ sym (get_or-map f parts at part [] l)
+
+-- an access stands at the place that was found part by part
+pub placed : {P : Type 0} (f : P → List Begun) (parts : List P) (at number offset : ℕ) (part : P) →
+    number < length parts → part ≡ get_or parts number part → offset < length (f part) →
+    length (ones_in f (take number parts)) + offset ≡ at → IsPlace (map f parts) at number offset
+placed f parts at number offset part l here within begins = record {
+  begins = rw (take-map f number parts) begins;
+  within = subst (λ (ones : List Begun). offset < length ones) (part_here f parts number part l here) within;
+  exists = subst (λ (n : ℕ). number < n) (sym (length-map parts f)) l;
+}
+
+-- marks of two lists, put together, are those of both
+pub marked_both : (marks other more : Marks) (ones others : List Begun) →
+    All (λ (one : Begun). IsMarked marks one.access) ones → All (λ (one : Begun). IsMarked other one.access) others →
+    ((one : PendingAccess) → IsMarked marks one → IsMarked more one) →
+    ((one : PendingAccess) → IsMarked other one → IsMarked more one) →
+    All (λ (one : Begun). IsMarked more one.access) (ones ++ others)
+marked_both marks other more ones others all all_others kept kept_others =
+    All-append (λ (one : Begun). IsMarked more one.access) ones others
+    (λ k d l. kept _ (all k d l)) (λ k d l. kept_others _ (all_others k d l))
+
+-- the touched elements of one are counted, and its marks stay
+pub touched_kept : (marks : Marks) (total : ℕ) (ones after : List Begun) (at count : ℕ) → at < length ones →
+    ((one : Begun) → slice_get ones at ≡ Some one →
+    after ≡ set ones at (record { access = one.access; touched = count })) →
+    IsKept marks total ones → IsKept marks total after
+touched_kept marks total ones after at count l is kept =
+    let here = exists_at ones at l in
+    let one : Begun = here.0 in
+    let other : Begun = record { access = one.access; touched = count } in
+    let marked : IsMarked marks one.access = marked_at marks ones at one kept.marked here.1 in
+    rw (is one here.1) record {
+      marked = All-set (λ (begun : Begun). IsMarked marks begun.access) ones at other marked kept.marked;
+      counted = length-set ones at other ∙ kept.counted;
+      few = kept.few;
+    }
+
+-- one access goes, and the others have their marks
+pub removed_kept : (marks : Marks) (total : ℕ) (ones : List Begun) (at : ℕ) → at < length ones →
+    IsKept marks total ones → IsKept marks (total - 1) (remove ones at)
+removed_kept marks total ones at l kept =
+    let marked : Begun → Type 0 = λ one. IsMarked marks one.access in
+    let shorter : length (remove ones at) + 1 ≡ length ones = length-remove ones at l in
+    let counted = kept.counted in
+    let few = kept.few in
+    record {
+      marked = All-append marked (take at ones) (drop (suc at) ones) (All-take marked at ones kept.marked)
+          (All-drop marked (suc at) ones kept.marked);
+      counted = omega arith;
+      few = omega arith;
+    }

@@ -1,5 +1,5 @@
 -- How many items are kept of touches.
-use Rattle.std.proofs.Common.{◌≡◌, ℕ, zero, suc, ◌+◌, List, [], ◌∷◌, ◌++◌, length, refl, sym, ◌∙◌, ap, arith}
+use Rattle.std.proofs.Common.{◌≡◌, ℕ, zero, suc, ◌+◌, List, length, refl, ◌∙◌, ap, arith}
 use Rattle.std.proofs.Common.{length-append}
 use Rattle.std.proofs.lemmas.List.{length-map}
 use Rattle.std.specs.Prelude.{map}
@@ -8,8 +8,8 @@ use Rattle.call_rules.specs.declared.cells.Cell.{Cell}
 use Rattle.rma_types.specs.declared.accesses.Access.{Access}
 use Rattle.rma_types.specs.declared.calls.Call.{Call}
 use Rattle.rma_types.specs.declared.scripts.Layout.{Layout}
-use Rattle.access_steps.specs.Plans.{PlannedTouch, planned_touch, planned_touches}
-use Rattle.access_steps.specs.TouchesMade.{MadeTouch, TouchesKept, item_of, plan_of}
+use Rattle.access_steps.specs.Plans.{planned_touch, planned_touches}
+use Rattle.access_steps.specs.TouchesMade.{TouchesKept, item_of, plan_of}
 use Rattle.call_rules.specs.Pieces.{numbers_from}
 use Rattle.cell_face.specs.Faces.{Face}
 

@@ -1,11 +1,15 @@
--- The pending accesses in blocks, one after another.
+-- The pending accesses in parts, one after another.
 use Rattle.std.specs.Prelude.{ℕ, ◌≡◌, ◌+◌, ◌<◌, ◌++◌, List, [], ◌∷◌, map, length, take, slice_index_or}
 use Rattle.rank_rules.specs.declared.pending.PendingAccess.{PendingAccess}
-use Rattle.delivery_queue.specs.declared.blocks.Begun.{Begun}
+use Rattle.delivery_queue.specs.declared.begun.Begun.{Begun}
 
 abbrev pub joined : List (List Begun) → List Begun
 joined [] = []
 joined (block ∷ blocks) = block ++ joined blocks
+
+-- the accesses of parts, where `ones` gives those of each
+abbrev pub ones_in : {P : Type 0} → (P → List Begun) → List P → List Begun
+ones_in ones parts = joined (map ones parts)
 
 -- the accesses, and how many elements of each are touched
 abbrev pub accesses_of : List Begun → List PendingAccess

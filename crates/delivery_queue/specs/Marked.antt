@@ -1,9 +1,11 @@
--- What the marks of a block say of its accesses.
-use Rattle.std.specs.Prelude.{ℕ, ◌≡◌, ◌%◌, Bool, true, ◌==◌}
+-- What the marks of a part say of its accesses.
+use Rattle.std.specs.Prelude.{ℕ, ◌≡◌, ◌%◌, ◌<◌, ◌^◌, Bool, true, ◌==◌, List, length}
+use Rattle.std.specs.List.{All}
 use Rattle.std.specs.Int.{bit_at}
 use Rattle.call_rules.specs.Transfers.{is_ordered_kind}
 use Rattle.rank_rules.specs.declared.pending.PendingAccess.{PendingAccess}
 use Rattle.delivery_queue.specs.declared.number_sets.NumberSet.{NumberSet}
+use Rattle.delivery_queue.specs.declared.begun.Begun.{Begun}
 use Rattle.delivery_queue.specs.declared.marks.Marks.{Marks}
 
 -- the number, below 32, is in the set
@@ -16,3 +18,9 @@ pub record IsMarked (marks : Marks) (one : PendingAccess) : Type 0 where
   pub target : has marks.targets (one.access.target % 32) ≡ true
   pub ordered : is_ordered_kind one.access.kind ≡ true → has marks.ordered (one.access.target % 32) ≡ true
   pub fetches : one.fetches ≡ true → marks.fetches ≡ true
+
+-- each access has the marks, and this is their number
+pub record IsKept (marks : Marks) (count : ℕ) (ones : List Begun) : Type 0 where
+  pub marked : All (λ (one : Begun). IsMarked marks one.access) ones
+  pub counted : length ones ≡ count
+  pub few : count < 2 ^ 64

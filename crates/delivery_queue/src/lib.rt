@@ -2,10 +2,13 @@
 //! requests (MPI 3.1, sections 11.3.5 and 11.7).
 #![tactic(auto)]
 
+mod begun;
 mod blocks;
 mod deliveries;
+mod groups;
 mod marks;
 mod number_sets;
+mod parts;
 mod queue;
 mod searches;
 mod sought;

@@ -1,4 +1,4 @@
-//! What is common to the accesses of a block.
+//! What is common to the accesses of a part.
 ghost use Rattle.std.specs.Prelude.{◌≡◌, false};
 ghost use Rattle.rank_rules.specs.declared.pending.PendingAccess.{PendingAccess as Access};
 ghost use Rattle.delivery_queue.specs.Marked.{IsMarked};
@@ -10,7 +10,7 @@ use rank_rules::PendingAccess;
 
 /// The names of the windows, and the targets, of some accesses; the targets of those whose order is kept on a cell; and
 /// whether one of them fetches.
-#[derive(Clone, Copy, Debug)]
+#[derive(Clone, Copy, Debug, PartialEq, Eq)]
 pub(crate) struct Marks {
     windows: NumberSet,
     targets: NumberSet,
@@ -45,6 +45,19 @@ impl Marks {
             targets: self.targets.with(target),
             ordered,
             fetches: self.fetches || one.fetches,
+        }
+    }
+
+    /// The marks that are among these or among others.
+    pub(crate) fn both(self, other: Marks) -> Marks
+        ensures these { (one : Access) → IsMarked self one → IsMarked result one }
+        ensures others { (one : Access) → IsMarked other one → IsMarked result one }
+    {
+        Marks {
+            windows: self.windows.both(other.windows),
+            targets: self.targets.both(other.targets),
+            ordered: self.ordered.both(other.ordered),
+            fetches: self.fetches || other.fetches,
         }
     }
 

@@ -3,7 +3,7 @@ ghost use Rattle.std.specs.Prelude.{◌≡◌, ◌==◌, ◌||◌, ◌%◌, ◌<
 ghost use Rattle.delivery_queue.specs.Marked.{has};
 
 /// A set of numbers, each taken modulo 32, with a bit for each.
-#[derive(Clone, Copy, Debug)]
+#[derive(Clone, Copy, Debug, PartialEq, Eq)]
 pub(crate) struct NumberSet {
     bits: u32,
 }
@@ -36,6 +36,15 @@ impl NumberSet {
     {
         NumberSet {
             bits: self.bits | 1 << bit,
+        }
+    }
+
+    /// The numbers that are in one of the sets.
+    pub(crate) fn both(self, other: NumberSet) -> NumberSet
+        ensures { (number : ℕ) → has result number ≡ (has self number || has other number) }
+    {
+        NumberSet {
+            bits: self.bits | other.bits,
         }
     }
 }

@@ -8,9 +8,11 @@ ghost use Rattle.cell_face.specs.Faces.{Rose, Keeps};
 ghost use Rattle.rank_rules.specs.Pending.{awaited, way as way_of};
 ghost use Rattle.rank_rules.specs.Requests.{is_live_request, with_request, without_request};
 
-use crate::blocks::{Begun, Block};
+use crate::begun::Begun;
+use crate::blocks::Block;
 use crate::deliveries::touch_pending;
-use crate::searches::{begun_at, first, push_to, remove_at, touch_at};
+use crate::groups::Group;
+use crate::parts::Part;
 use crate::waits::awaited_by;
 use crate::ways::way;
 use cell_face::Memory;
@@ -32,28 +34,23 @@ pub struct Delivery {
 /// requests, q0 to q63.
 #[derive(Debug, Drop)]
 pub struct Pending {
-    /// The accesses, one block after another.
-    blocks: Vec<Block>,
-    /// The number of accesses.
-    count: usize,
+    /// The accesses, in groups of groups of blocks.
+    ones: Group<Group<Block>>,
     /// The number of the call that made the live request of each name.
     requests: [Option<u32>; 64],
 }
 
 impl Model for Pending {
-    ghost use Rattle.std.specs.Prelude.{◌≡◌, ◌<◌, ◌^◌, length};
-    ghost use Rattle.delivery_queue.specs.Blocks.{joined, accesses_of, touched_of};
+    ghost use Rattle.delivery_queue.specs.Blocks.{accesses_of, touched_of};
     ghost use Rattle.delivery_queue.specs.Queues.{Queue};
 
     ghost Value = { Queue };
 
     ghost view = { λ it. record {
-      pending = accesses_of (joined it.blocks.items);
-      touched = touched_of (joined it.blocks.items);
+      pending = accesses_of it.ones;
+      touched = touched_of it.ones;
       requests = it.requests;
     } };
-
-    ghost invariant = { λ it. (length (joined it.blocks.items) ≡ it.count) × (it.count < 2 ^ 64) };
 }
 
 impl Pending {
@@ -62,8 +59,7 @@ impl Pending {
         ensures { IfOk result (λ pending. pending ≡ no_accesses) }
     {
         Ok(Pending {
-            blocks: Vec::new(alloc),
-            count: 0,
+            ones: Group::new(alloc),
             requests: [None; 64],
         })
     }
@@ -80,7 +76,7 @@ impl Pending {
     pub fn count(&self) -> usize
         ensures { result ≡ length self.now.pending }
     {
-        self.count
+        self.ones.len()
     }
 
     /// The place of the access to which the one at a place gives way in the end, directly or through others; its own
@@ -90,7 +86,7 @@ impl Pending {
         ensures end { result ≡ way_of self.now.pending at }
         ensures not_after { result ≤ at }
     {
-        way(&self.blocks, at)
+        way(&self.ones, at)
     }
 
     /// Ends the live request of this name.
@@ -111,12 +107,7 @@ impl Pending {
         }) }
         ensures unchanged { OnErr result (self.new ≡ self.old) }
     {
-        if self.count == usize::MAX {
-            return Err(NoMemory);
-        }
-        push_to(&mut self.blocks, one)?;
-        self.count += 1;
-        Ok(())
+        self.ones.push(one)
     }
 
     /// An access is issued: it stands at the end, unless it has no bytes; `index` is that of its Issue item. Where a
@@ -156,7 +147,7 @@ impl Pending {
         ensures next { result ≡ awaited self.now.requests call.now self.now.pending }
         ensures within { IfSome result (λ at. at < length self.now.pending) }
     {
-        match first(&self.blocks, &awaited_by(&self.requests, call)) {
+        match self.ones.first(&awaited_by(&self.requests, call)) {
             Some(at) => Some(self.way(at)),
             None => None,
         }
@@ -167,8 +158,7 @@ impl Pending {
         requires { at < length self.old.pending }
         ensures { self.new ≡ without_access self.old at }
     {
-        remove_at(&mut self.blocks, at);
-        self.count -= 1;
+        self.ones.remove(at);
     }
 
     /// So many elements of the access at a place are touched.
@@ -176,7 +166,7 @@ impl Pending {
         requires { at < length self.old.pending }
         ensures { self.new ≡ with_touched self.old at count }
     {
-        touch_at(&mut self.blocks, at, count);
+        self.ones.touch(at, count);
     }
 
     /// The access at a place, and how many of its elements are touched.
@@ -185,7 +175,7 @@ impl Pending {
         ensures access { slice_get self.now.pending at ≡ Some result.access }
         ensures touched { result.touched ≡ slice_index self.now.touched at }
     {
-        begun_at(&self.blocks, at)
+        self.ones.at(at)
     }
 
     /// The access at a place.

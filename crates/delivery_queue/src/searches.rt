@@ -1,52 +1,50 @@
-//! Places among the accesses of blocks, one block after another.
-ghost use Rattle.std.specs.Prelude.{◌≡◌, ◌<◌, ◌^◌, ◌++◌, [], ◌∷◌, length, slice_get, slice_set, Some, IfSome, OnOk};
-ghost use Rattle.std.specs.Prelude.{OnErr};
+//! Places among the accesses of parts, one part after another.
+ghost use Rattle.std.specs.Prelude.{◌≡◌, ◌<◌, ◌^◌, ◌++◌, [], ◌∷◌, length, map, slice_get, slice_set, Some, IfSome};
+ghost use Rattle.std.specs.Prelude.{OnOk, OnErr};
 ghost use Rattle.std.specs.List.{position, remove};
-ghost use Rattle.delivery_queue.specs.declared.blocks.Begun.{Begun as BegunOne};
-ghost use Rattle.delivery_queue.specs.Blocks.{joined, accesses_of, IsPlace};
+ghost use Rattle.delivery_queue.specs.declared.begun.Begun.{Begun as BegunOne};
+ghost use Rattle.delivery_queue.specs.Blocks.{ones_in, accesses_of, IsPlace};
 ghost use Rattle.delivery_queue.specs.Soughts.{is_sought};
 
-use crate::blocks::{BLOCK_LEN, Begun, Block};
+use crate::begun::Begun;
+use crate::parts::Part;
 use crate::sought::Sought;
 use rank_rules::PendingAccess;
 use rma_types::NoMemory;
 use std::alloc::Global;
 
-/// Where an access stands: its block, and its offset there.
+/// Where an access stands: its part, and its offset there.
 #[derive(Clone, Copy, Debug)]
 struct Place {
-    block: usize,
+    part: usize,
     offset: usize,
 }
 
 /// The place of the first access that is sought.
-pub(crate) fn first(blocks: &[Block], sought: &Sought) -> Option<usize>
-    requires { length (joined blocks.now) < 2 ^ 64 }
-    ensures place { result ≡ position (is_sought sought.now) (accesses_of (joined blocks.now)) }
-    ensures within { IfSome result (λ at. at < length (joined blocks.now)) }
+pub(crate) fn first<P: Part>(parts: &[P], sought: &Sought) -> Option<usize>
+    requires { length (ones_in P.ones parts.now) < 2 ^ 64 }
+    ensures place { result ≡ position (is_sought sought.now) (accesses_of (ones_in P.ones parts.now)) }
+    ensures within { IfSome result (λ at. at < length (ones_in P.ones parts.now)) }
 {
-    if let Sought::Nothing = sought {
-        return None;
-    }
     let mut before = 0usize;
-    for block in blocks {
-        match block.first(sought) {
+    for part in parts {
+        match part.first(sought) {
             Some(offset) => return Some(before + offset),
-            None => before += block.len(),
+            None => before += part.len(),
         }
     }
     None
 }
 
-fn place_of(blocks: &[Block], at: usize) -> Place
-    requires { at < length (joined blocks.now) }
-    ensures { IsPlace blocks.now at result.block result.offset }
+fn place_of<P: Part>(parts: &[P], at: usize) -> Place
+    requires { at < length (ones_in P.ones parts.now) }
+    ensures { IsPlace (map P.ones parts.now) at result.part result.offset }
 {
     let mut offset = at;
-    for block in 0..blocks.len() {
-        let len = blocks[block].len();
+    for part in 0..parts.len() {
+        let len = parts[part].len();
         if offset < len {
-            return Place { block, offset };
+            return Place { part, offset };
         }
         offset -= len;
     }
@@ -54,70 +52,73 @@ fn place_of(blocks: &[Block], at: usize) -> Place
 }
 
 /// The access at a place.
-pub(crate) fn begun_at(blocks: &[Block], at: usize) -> Begun
-    requires { at < length (joined blocks.now) }
-    ensures { slice_get (joined blocks.now) at ≡ Some result }
+pub(crate) fn begun_at<P: Part>(parts: &[P], at: usize) -> Begun
+    requires { at < length (ones_in P.ones parts.now) }
+    ensures { slice_get (ones_in P.ones parts.now) at ≡ Some result }
 {
-    let place = place_of(blocks, at);
-    blocks[place.block].at(place.offset)
+    let place = place_of(parts, at);
+    parts[place.part].at(place.offset)
 }
 
 /// So many elements of the access at a place are touched.
-pub(crate) fn touch_at(blocks: &mut Vec<Block>, at: usize, count: u32)
-    requires { at < length (joined blocks.old.items) }
-    ensures { (one : BegunOne) → slice_get (joined blocks.old.items) at ≡ Some one →
-        joined blocks.new.items ≡
-        slice_set (joined blocks.old.items) at (record { access = one.access; touched = count }) }
+pub(crate) fn touch_at<P: Part>(parts: &mut Vec<P>, at: usize, count: u32)
+    requires { at < length (ones_in P.ones parts.old.items) }
+    ensures { (one : BegunOne) → slice_get (ones_in P.ones parts.old.items) at ≡ Some one →
+        ones_in P.ones parts.new.items ≡
+        slice_set (ones_in P.ones parts.old.items) at (record { access = one.access; touched = count }) }
 {
-    let place = place_of(blocks, at);
-    blocks[place.block].touch(place.offset, count);
+    let place = place_of(parts, at);
+    parts[place.part].touch(place.offset, count);
 }
 
-/// The access at a place goes.
-pub(crate) fn remove_at(blocks: &mut Vec<Block>, at: usize)
-    requires { at < length (joined blocks.old.items) }
-    ensures { joined blocks.new.items ≡ remove (joined blocks.old.items) at }
+/// The access at a place goes. `true` where its part has other marks now.
+pub(crate) fn remove_at<P: Part>(parts: &mut Vec<P>, at: usize) -> bool
+    requires { at < length (ones_in P.ones parts.old.items) }
+    ensures { ones_in P.ones parts.new.items ≡ remove (ones_in P.ones parts.old.items) at }
 {
-    let place = place_of(blocks, at);
-    blocks[place.block].remove(place.offset);
-    drop_empty(blocks, place.block);
+    let place = place_of(parts, at);
+    let before = parts[place.part].marks();
+    parts[place.part].remove(place.offset);
+    let changed = parts[place.part].marks() != before;
+    drop_empty(parts, place.part);
+    changed
 }
 
-/// A block without accesses goes, unless it is the last one.
-fn drop_empty(blocks: &mut Vec<Block>, block: usize)
-    requires { block < length blocks.old.items }
-    ensures { joined blocks.new.items ≡ joined blocks.old.items }
+/// A part without accesses goes, unless it is the last one.
+fn drop_empty<P: Part>(parts: &mut Vec<P>, part: usize)
+    requires { part < length parts.old.items }
+    ensures { ones_in P.ones parts.new.items ≡ ones_in P.ones parts.old.items }
 {
-    if blocks[block].len() == 0 && block + 1 < blocks.len() {
-        blocks.remove(block);
+    if parts[part].len() == 0 && part + 1 < parts.len() {
+        parts.remove(part);
     }
 }
 
 /// One access more, of which nothing is touched. `Err` changes nothing.
-pub(crate) fn push_to(blocks: &mut Vec<Block>, access: PendingAccess) -> Result<(), NoMemory>
-    ensures ok { OnOk result (joined blocks.new.items ≡
-        joined blocks.old.items ++ record { access = access; touched = 0 } ∷ []) }
-    ensures err { OnErr result (joined blocks.new.items ≡ joined blocks.old.items) }
+pub(crate) fn push_to<P: Part>(parts: &mut Vec<P>, access: PendingAccess) -> Result<(), NoMemory>
+    ensures ok { OnOk result (ones_in P.ones parts.new.items ≡
+        ones_in P.ones parts.old.items ++ record { access = access; touched = 0 } ∷ []) }
+    ensures err { OnErr result (ones_in P.ones parts.new.items ≡ ones_in P.ones parts.old.items) }
 {
-    let count = blocks.len();
-    if 0 < count && blocks[count - 1].len() < BLOCK_LEN {
-        blocks[count - 1].push(access)?;
+    let count = parts.len();
+    if 0 < count && !parts[count - 1].is_full() {
+        parts[count - 1].push(access)?;
         Ok(())
     } else {
-        push_block(blocks, access)
+        push_part(parts, access)
     }
 }
 
-/// One access more, in a block of its own. `Err` changes nothing.
-fn push_block(blocks: &mut Vec<Block>, access: PendingAccess) -> Result<(), NoMemory>
-    ensures ok { OnOk result (joined blocks.new.items ≡
-        joined blocks.old.items ++ record { access = access; touched = 0 } ∷ []) }
-    ensures err { OnErr result (joined blocks.new.items ≡ joined blocks.old.items) }
+/// One access more, in a part of its own. `Err` changes nothing.
+fn push_part<P: Part>(parts: &mut Vec<P>, access: PendingAccess) -> Result<(), NoMemory>
+    ensures ok { OnOk result (ones_in P.ones parts.new.items ≡
+        ones_in P.ones parts.old.items ++ record { access = access; touched = 0 } ∷ []) }
+    ensures err { OnErr result (ones_in P.ones parts.new.items ≡ ones_in P.ones parts.old.items) }
 {
-    let alloc: Global = *blocks.allocator();
-    let mut block = Block::new(alloc);
-    block.push(access)?;
-    blocks.reserve(1).map_err(|_| NoMemory)?;
-    blocks.push_reserved(block);
+    let alloc: Global = *parts.allocator();
+    let mut part = P::new(alloc);
+    part.push(access)?;
+    parts.reserve(1).map_err(|_| NoMemory)?;
+    parts.push_reserved(part);
     Ok(())
 }

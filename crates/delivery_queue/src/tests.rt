@@ -302,3 +302,28 @@ fn accesses_are_delivered_from_the_middle(rt: HostRuntime) -> Result<(), Fail> {
     );
     Ok(())
 }
+
+/// Five thousand puts to rank 1, of calls 0 to 4999, and one to rank 2 behind them. Then those of calls 500 to 4499 are
+/// delivered, and the one to rank 2, of call 5000, stands at place 1000.
+#[test]
+fn thousands_of_accesses_are_pending(rt: HostRuntime) -> Result<(), Fail> {
+    let mut queue = Pending::new(rt.alloc())?;
+    for i in 0..5000u32 {
+        queue.issue(i, i, &access_to(1, 0, 4, Kind::Put), false, None)?;
+    }
+    queue.issue(5000, 5000, &access_to(2, 0, 4, Kind::Put), false, None)?;
+    let flush = Call::Flush { win: 3, target: 2 };
+    assert_eq!(rt; queue.next_for(&flush), Some(5000));
+    assert_eq!(rt; number_at(&queue, 4999), Some(4999));
+    for _ in 0..4000 {
+        take(&mut queue, 500);
+    }
+    assert_eq!(rt; queue.count(), 1001);
+    assert_eq!(rt; number_at(&queue, 499), Some(499));
+    assert_eq!(rt; number_at(&queue, 500), Some(4500));
+    assert_eq!(rt; queue.next_for(&flush), Some(1000));
+    take(&mut queue, 1000);
+    assert_eq!(rt; queue.next_for(&flush), None);
+    assert_eq!(rt; queue.next_for(&Call::FlushAll { win: 3 }), Some(0));
+    Ok(())
+}

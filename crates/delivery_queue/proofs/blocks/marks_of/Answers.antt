@@ -1,7 +1,6 @@
-use Rattle.std.proofs.Common.{◌≡◌, ◌+◌, ◌≤◌, length, take, arith, subst}
-use Rattle.std.specs.List.{All}
+use Rattle.std.proofs.Common.{◌≡◌, take, arith, subst}
 use Rattle.std.proofs.lemmas.List.{take_all, get_or_default}
-use Rattle.delivery_queue.specs.declared.blocks.Begun.{Begun}
+use Rattle.delivery_queue.specs.declared.begun.Begun.{Begun}
 use Rattle.delivery_queue.specs.Marked.{IsMarked}
 use Rattle.delivery_queue.proofs.Joined.{marked_next}
 use Rattle.delivery_queue.proofs.blocks.marks_of.Goals as goal

@@ -1,6 +1,6 @@
 use Rattle.std.proofs.Common.{take}
 use Rattle.std.specs.List.{All}
-use Rattle.delivery_queue.specs.declared.blocks.Begun.{Begun}
+use Rattle.delivery_queue.specs.declared.begun.Begun.{Begun}
 use Rattle.delivery_queue.specs.Marked.{IsMarked}
 use Rattle.delivery_queue.proofs.blocks.marks_of.Given as goal
 

@@ -1,5 +1,5 @@
 -- An item is kept of each touch.
-use Rattle.std.proofs.Common.{◌≡◌, ◌+◌, ◌-◌, length, ◌∙◌, ap}
+use Rattle.std.proofs.Common.{◌+◌, ◌-◌, length, ◌∙◌, ap}
 use Rattle.delivery_queue.proofs.TouchCounts.{kept_count}
 use Rattle.delivery_queue.proofs.deliveries.touch_pending.Goals as goal
 

@@ -1,15 +1,18 @@
-use Rattle.std.proofs.Common.{◌≡◌, ◌∙◌, sym, ap, ℕ, List, [], get_or, slice_get}
-use Rattle.std.proofs.lemmas.List.{get_or_read}
-use Rattle.delivery_queue.specs.declared.blocks.Begun.{Begun}
-use Rattle.delivery_queue.proofs.Joined.{get_at}
+use Rattle.std.proofs.Common.{◌≡◌, ◌∙◌, ◌<◌, sym, ap, subst, ℕ, List, [], get_or, slice_get, map, length}
+use Rattle.std.proofs.lemmas.List.{length-map}
+use Rattle.delivery_queue.specs.declared.begun.Begun.{Begun}
+use Rattle.delivery_queue.proofs.Joined.{get_at, part_here}
 use Rattle.delivery_queue.proofs.searches.begun_at.Goals as goal
 
 pub returns : goal.returns
-returns c =
+returns g c =
+    let f = g.P.Part.ones in
     let place = c.place_of-place in
-    let block : List Begun = c.index-blocks-place.result in
-    let here : block ≡ get_or c.args.blocks.now place.result.block [] =
-    get_or_read c.args.blocks.now place.result.block block place.ensures.exists c.index-blocks-place.is [] in
-    get_at c.args.blocks.now c.args.at place.result.block place.result.offset place.ensures
+    let part = c.index-parts-place.result in
+    let exists : place.result.part < length c.args.parts.now =
+    subst (λ (n : ℕ). place.result.part < n) (length-map c.args.parts.now f) place.ensures.exists in
+    let here : f part ≡ get_or (map f c.args.parts.now) place.result.part [] =
+    part_here f c.args.parts.now place.result.part part exists c.index-parts-place.is in
+    get_at (map f c.args.parts.now) c.args.at place.result.part place.result.offset place.ensures
     ∙ ap (λ (ones : List Begun). slice_get ones place.result.offset) (sym here)
     ∙ c.at.ensures

@@ -1,25 +1,35 @@
-use Rattle.std.proofs.Common.{◌≡◌, ◌+◌, ◌-◌, ◌<◌, ◌≤◌, ◌∙◌, ap, ℕ, List, ◌++◌, drop, take, length, arith, length-append}
-use Rattle.delivery_queue.specs.declared.blocks.Begun.{Begun}
-use Rattle.delivery_queue.specs.Blocks.{joined}
-use Rattle.delivery_queue.proofs.Joined.{parted_next, taken_next}
+use Rattle.std.proofs.Common.{◌≡◌, ◌+◌, ◌∙◌, ap, List, ◌++◌, drop, take, length, arith, length-append}
+use Rattle.delivery_queue.specs.declared.begun.Begun.{Begun}
+use Rattle.delivery_queue.specs.Blocks.{ones_in}
+use Rattle.delivery_queue.proofs.Joined.{parted_next, placed, taken_next}
 use Rattle.delivery_queue.proofs.searches.place_of.Goals as goal
 
-pub loop-block-preserved : goal.loop-block-preserved
-loop-block-preserved c =
-    let at = c.loop-block.block in
-    let block : List Begun = c.index-blocks-block.result in
-    let rest = joined (drop (at + 1) c.args.blocks.now) in
-    let parts : joined (drop at c.args.blocks.now) ≡ block ++ rest =
-    parted_next c.args.blocks.now at block (omega arith) c.index-blocks-block.is in
-    let count : length (joined (drop at c.args.blocks.now)) ≡ length block + length rest =
+pub loop-part-preserved : goal.loop-part-preserved
+loop-part-preserved g c =
+    let at = c.loop-part.part in
+    let f = g.P.Part.ones in
+    let part = c.index-parts-part.result in
+    let block : List Begun = f part in
+    let rest = ones_in f (drop (at + 1) c.args.parts.now) in
+    let parts : ones_in f (drop at c.args.parts.now) ≡ block ++ rest =
+    parted_next f c.args.parts.now at part (omega arith) c.index-parts-part.is in
+    let count : length (ones_in f (drop at c.args.parts.now)) ≡ length block + length rest =
     ap length parts ∙ length-append block rest in
-    let taken : joined (take (at + 1) c.args.blocks.now) ≡ joined (take at c.args.blocks.now) ++ block =
-    taken_next c.args.blocks.now at block (omega arith) c.index-blocks-block.is in
-    let passed : length (joined (take (at + 1) c.args.blocks.now)) ≡
-    length (joined (take at c.args.blocks.now)) + length block =
-    ap length taken ∙ length-append (joined (take at c.args.blocks.now)) block in
+    let taken : ones_in f (take (at + 1) c.args.parts.now) ≡ ones_in f (take at c.args.parts.now) ++ block =
+    taken_next f c.args.parts.now at part (omega arith) c.index-parts-part.is in
+    let passed : length (ones_in f (take (at + 1) c.args.parts.now)) ≡
+    length (ones_in f (take at c.args.parts.now)) + length block =
+    ap length taken ∙ length-append (ones_in f (take at c.args.parts.now)) block in
     let long : c.len-len.result ≡ length block = c.len-len.ensures in
-    let begins = c.loop-block.invariant.begins in
-    let within = c.loop-block.invariant.within in
+    let begins = c.loop-part.invariant.begins in
+    let within = c.loop-part.invariant.within in
     let past = c.if-offset-len.false in
     record { begins = omega arith; within = omega arith }
+
+pub returns-then-offset-len : goal.returns-then-offset-len
+returns-then-offset-len g c =
+    let f = g.P.Part.ones in
+    let long : c.len-len.result ≡ length (f c.index-parts-part.result) = c.len-len.ensures in
+    let within = c.if-offset-len.true in
+    placed f c.args.parts.now c.args.at c.loop-part.part c.loop-part.offset c.index-parts-part.result (omega arith)
+    c.index-parts-part.is (omega arith) c.loop-part.invariant.begins

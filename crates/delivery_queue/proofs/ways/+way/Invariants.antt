@@ -1,4 +1,4 @@
 use Rattle.delivery_queue.proofs.ways.+way.Given as goal
 
 abbrev pub decreases-way : goal.decreases-way
-decreases-way l = l.at
+decreases-way g l = l.at
