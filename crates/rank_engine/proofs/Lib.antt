@@ -19,6 +19,9 @@ pub mod MovesMade
 pub mod NewRanks
 pub mod NextEntries
 pub mod Passed
+pub mod RefusalItems
+pub mod RefusedMoves
+pub mod RefusedTurns
 pub mod Scripts
 pub mod Shares
 pub mod StepsMade

@@ -6,5 +6,6 @@ pub mod Entering
 pub mod Learning
 pub mod Moves
 pub mod RankStates
+pub mod Refusals
 pub mod Shares
 pub mod Sound

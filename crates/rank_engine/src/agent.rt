@@ -13,6 +13,7 @@ ghost use Rattle.rank_engine.specs.BoardAnswers.{IsBoardAnswer, IsBoardOf};
 ghost use Rattle.rank_engine.specs.DataAnswers.{HasRoom, IsDataAnswer, IsWholeStep, IsDrainAnswer, IsWholeDrain};
 ghost use Rattle.rank_engine.specs.DataAnswers.{is_again, is_full};
 ghost use Rattle.rank_engine.specs.RankStates.{new_state, is_at_hand, needs_entry};
+ghost use Rattle.rank_engine.specs.Refusals.{RefusesAlone};
 
 use crate::answers::Turned;
 use crate::courses::{course_of, is_at_once, is_transfer};
@@ -230,6 +231,7 @@ impl<'s, L: Keep + Drop> Agent<'s, L> {
         requires board { IsBoardOf self.old board.old (M.face notes.old) }
         ensures answer { IfOk result (λ turned. IsBoardAnswer turned
             self.old self.new board.old board.new (M.face notes.old) (M.face notes.new)) }
+        ensures refusal { IfOk result (λ _. RefusesAlone self.old self.new) }
         ensures known { IfOk result (λ _. Keeps (M.knows notes.old) (M.knows notes.new)) }
     {
         if self.log.free_known() < STEP_ROOM {
@@ -248,6 +250,7 @@ impl<'s, L: Keep + Drop> Agent<'s, L> {
         requires room { HasRoom self.old (M.face mem.old) }
         ensures answer { IfOk result (λ turned. IsDataAnswer turned
             self.old self.new (M.face mem.old) (M.face mem.new) (M.knows mem.new)) }
+        ensures refusal { IfOk result (λ _. RefusesAlone self.old self.new) }
         ensures told { IfOk result (λ turned. is_full turned ≡ false →
             IsWholeStep self.old self.new (M.face mem.old) (M.face mem.new)) }
         ensures told_once { IfOk result (λ turned. IfSome (M.face mem.old).told (λ _. is_again turned ≡ false)) }

@@ -1,5 +1,6 @@
 -- A step on memory is the definition's move, and a delivery after it.
 use Rattle.std.proofs.Common.{◌≤◌, true, false, Some, None, sym, ◌∙◌, ap, subst}
+use Rattle.rank_engine.proofs.RefusedMoves.{delivery_alone, move_alone}
 use Rattle.rank_engine.proofs.StepsMade.{room_after, steps_alone, steps_delivered}
 use Rattle.rank_engine.proofs.WholeSteps.{whole_step_alone, whole_step_delivered}
 use Rattle.rank_engine.proofs.agent.Agent.next_data.Goals as goal
@@ -88,3 +89,31 @@ returns-else-branch-clause-answer g c =
           c.deliver.ensures.few c.deliver.ensures.free,
       c.in_ok-deliver-in-Some.ensures.moved c.if-branch.false,
     )
+
+pub returns-then-branch-clause-refusal : goal.returns-then-branch-clause-refusal
+returns-then-branch-clause-refusal g c =
+    let now : RankState = c.args.self.now in
+    let move : IsMove now c.go_on.new.self (own_move now) (Some c.in-Some.at) =
+    subst (IsMove now c.go_on.new.self (own_move now)) c.in-Some.is c.in_ok-go_on.ensures in
+    let delivered = subst (λ b. IsDelivered (Some c.in-Some.at) c.go_on.new.self c.deliver.new.self b
+    (g.M.Memory.face c.args.mem.now) (g.M.Memory.face c.deliver.new.mem) (g.M.Memory.knows c.deliver.new.mem))
+    c.if-branch.true c.in_ok-deliver-in-Some.ensures.delivered in
+    delivery_alone now c.go_on.new.self c.deliver.new.self c.in-Some.at true (g.M.Memory.face c.args.mem.now)
+    (g.M.Memory.face c.deliver.new.mem) (g.M.Memory.knows c.deliver.new.mem) move delivered
+
+pub returns-in-None-clause-refusal : goal.returns-in-None-clause-refusal
+returns-in-None-clause-refusal g c =
+    let now : RankState = c.args.self.now in
+    move_alone now c.go_on.new.self
+    (subst (IsMove now c.go_on.new.self (own_move now)) c.in-None.is c.in_ok-go_on.ensures)
+
+pub returns-else-branch-clause-refusal : goal.returns-else-branch-clause-refusal
+returns-else-branch-clause-refusal g c =
+    let now : RankState = c.args.self.now in
+    let move : IsMove now c.go_on.new.self (own_move now) (Some c.in-Some.at) =
+    subst (IsMove now c.go_on.new.self (own_move now)) c.in-Some.is c.in_ok-go_on.ensures in
+    let delivered = subst (λ b. IsDelivered (Some c.in-Some.at) c.go_on.new.self c.deliver.new.self b
+    (g.M.Memory.face c.args.mem.now) (g.M.Memory.face c.deliver.new.mem) (g.M.Memory.knows c.deliver.new.mem))
+    c.if-branch.false c.in_ok-deliver-in-Some.ensures.delivered in
+    delivery_alone now c.go_on.new.self c.deliver.new.self c.in-Some.at false (g.M.Memory.face c.args.mem.now)
+    (g.M.Memory.face c.deliver.new.mem) (g.M.Memory.knows c.deliver.new.mem) move delivered
