@@ -21,10 +21,12 @@ use Rattle.rank_rules.specs.declared.pending.PendingAccess.{PendingAccess}
 use Rattle.step_runs.specs.Agents.{Agent, awaited_by, has_pending, kept, must_draw, next_call}
 use Rattle.step_runs.specs.DataSteps.{Move, begin, draw, end, first_item, go_on, issue, issue_of, judge, just_delivers}
 use Rattle.step_runs.specs.DataSteps.{move_of, no_shapes, wait_or_go_on, with_item, without_delivery}
+use Rattle.rank_engine.proofs.KeptLogs.{keeps_outcome}
 use Rattle.rank_engine.proofs.MovesMade.{nothing_touched}
 use Rattle.rank_engine.proofs.RefusalItems.{AddsPlain, IsPlain, Refuses, adds_none, adds_one, adds_then, plain_alone}
 use Rattle.rank_engine.proofs.RefusalItems.{refuses_alone}
 use Rattle.rank_engine.specs.DataAnswers.{IsDelivered}
+use Rattle.rank_engine.specs.KeptItems.{KeepsItems}
 use Rattle.rank_engine.specs.Moves.{IsMove}
 use Rattle.rank_engine.specs.RankStates.{RankState, delivery_of, is_at_hand, own_move}
 use Rattle.rank_engine.specs.Refusals.{RefusesAlone}
@@ -159,3 +161,17 @@ delivery_alone before between after at done face face_after knows move delivered
         let nowhere : delivery_of (own_move before) ≡ None =
         ap (option_and_then (λ at. cond (nat_lt at (length (own_move before).agent.pending)) (Some at) None)) none in
         absurd (cc (nowhere, move.place_is))
+
+-- what was kept before a move stays in front
+pub move_keeps : (before after : RankState) (place : Option ℕ) → IsMove before after (own_move before) place →
+    KeepsItems before.agent.log after.agent.log
+move_keeps before after place move =
+    subst (λ (a : Agent). KeepsItems before.agent.log a.log) (sym (ap (λ (s : RankState). s.agent) move.rank))
+    (by_outcome (own_outcome before))
+  where
+    to : Agent
+    to = (own_move before).agent
+
+    by_outcome : MoveOutcome before.agent (own_move before) → KeepsItems before.agent.log to.log
+    by_outcome (inl adds) = keeps_outcome before.agent to (inl adds)
+    by_outcome (inr (refuses, none)) = keeps_outcome before.agent to (inr refuses)

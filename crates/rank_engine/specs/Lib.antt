@@ -3,6 +3,7 @@ pub mod BoardAnswers
 pub mod Courses
 pub mod DataAnswers
 pub mod Entering
+pub mod KeptItems
 pub mod Learning
 pub mod Moves
 pub mod RankStates

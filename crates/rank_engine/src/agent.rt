@@ -1,5 +1,5 @@
 //! A rank of a run.
-ghost use Rattle.std.specs.Prelude.{◌≡◌, ◌<◌, ◌≤◌, [], length, slice_index_or, true, false, IfOk, IfSome};
+ghost use Rattle.std.specs.Prelude.{◌≡◌, ◌<◌, ◌≤◌, [], length, slice_index_or, true, false, IfOk, OnErr, IfSome};
 ghost use Rattle.std.specs.List.{AllByRecursion};
 ghost use Rattle.std.specs.Option.{option_copied};
 ghost use Rattle.call_rules.specs.WellFormed.{IsWrittenCall};
@@ -12,6 +12,7 @@ ghost use Rattle.cell_face.specs.Faces.{Keeps};
 ghost use Rattle.rank_engine.specs.BoardAnswers.{IsBoardAnswer, IsBoardOf};
 ghost use Rattle.rank_engine.specs.DataAnswers.{HasRoom, IsDataAnswer, IsWholeStep, IsDrainAnswer, IsWholeDrain};
 ghost use Rattle.rank_engine.specs.DataAnswers.{is_again, is_full};
+ghost use Rattle.rank_engine.specs.KeptItems.{KeepsItems};
 ghost use Rattle.rank_engine.specs.RankStates.{new_state, is_at_hand, needs_entry};
 ghost use Rattle.rank_engine.specs.Refusals.{RefusesAlone};
 
@@ -233,6 +234,7 @@ impl<'s, L: Keep + Drop> Agent<'s, L> {
             self.old self.new board.old board.new (M.face notes.old) (M.face notes.new)) }
         ensures refusal { IfOk result (λ _. RefusesAlone self.old self.new) }
         ensures known { IfOk result (λ _. Keeps (M.knows notes.old) (M.knows notes.new)) }
+        ensures kept { OnErr result (KeepsItems self.old.agent.log self.new.agent.log) }
     {
         if self.log.free_known() < STEP_ROOM {
             return Ok(Turned::Full);
@@ -255,6 +257,8 @@ impl<'s, L: Keep + Drop> Agent<'s, L> {
             IsWholeStep self.old self.new (M.face mem.old) (M.face mem.new)) }
         ensures told_once { IfOk result (λ turned. IfSome (M.face mem.old).told (λ _. is_again turned ≡ false)) }
         ensures known { IfOk result (λ _. Keeps (M.knows mem.old) (M.knows mem.new)) }
+        ensures kept { OnErr result (KeepsItems self.old.agent.log self.new.agent.log) }
+        ensures unwritten { OnErr result (mem.new ≡ mem.old) }
     {
         if self.log.free_known() < STEP_ROOM {
             return Ok(Turned::Full);
@@ -284,6 +288,8 @@ impl<'s, L: Keep + Drop> Agent<'s, L> {
             IsWholeDrain self.old self.new (M.face mem.old) (M.face mem.new)) }
         ensures told_once { IfOk result (λ turned. IfSome (M.face mem.old).told (λ _. is_again turned ≡ false)) }
         ensures known { IfOk result (λ _. Keeps (M.knows mem.old) (M.knows mem.new)) }
+        ensures kept { OnErr result (self.new.agent.log ≡ self.old.agent.log) }
+        ensures unwritten { OnErr result (mem.new ≡ mem.old) }
     {
         if self.queue.count() == 0 {
             return Ok(Turned::Ended);
