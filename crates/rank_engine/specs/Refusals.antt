@@ -5,7 +5,7 @@ use Rattle.rma_record.specs.declared.items.Item.TheVariants.{Refused}
 use Rattle.rank_engine.specs.RankStates.{RankState}
 
 -- The rank's next call is refused, and nothing else is done: the log has this one item more. The rank knows of windows,
--- epochs and requests what it knew, and as many elements of the same accesses are pending.
+-- epochs and requests what it knew, and the same accesses are pending, touched as far as they were.
 pub record OnlyRefuses (before after : RankState) (number : ℕ) (class : Class) (seen : ℕ) : Type 0 where
   pub next : number ≡ before.agent.at
   pub log : after.agent.log ≡ before.agent.log ++ Refused number class seen ∷ []
