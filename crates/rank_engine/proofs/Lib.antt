@@ -13,12 +13,16 @@ pub mod EntrySteps
 pub mod EntryTurns
 pub mod IssueMoves
 pub mod Issued
+pub mod KeptLogs
 pub mod Learnt
 pub mod MoveKinds
 pub mod MovesMade
 pub mod NewRanks
 pub mod NextEntries
 pub mod Passed
+pub mod RefusalItems
+pub mod RefusedMoves
+pub mod RefusedTurns
 pub mod Scripts
 pub mod Shares
 pub mod StepsMade

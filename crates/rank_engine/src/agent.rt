@@ -1,5 +1,5 @@
 //! A rank of a run.
-ghost use Rattle.std.specs.Prelude.{◌≡◌, ◌<◌, ◌≤◌, [], length, slice_index_or, true, false, IfOk, IfSome};
+ghost use Rattle.std.specs.Prelude.{◌≡◌, ◌<◌, ◌≤◌, [], length, slice_index_or, true, false, IfOk, OnErr, IfSome};
 ghost use Rattle.std.specs.List.{AllByRecursion};
 ghost use Rattle.std.specs.Option.{option_copied};
 ghost use Rattle.call_rules.specs.WellFormed.{IsWrittenCall};
@@ -12,7 +12,9 @@ ghost use Rattle.cell_face.specs.Faces.{Keeps};
 ghost use Rattle.rank_engine.specs.BoardAnswers.{IsBoardAnswer, IsBoardOf};
 ghost use Rattle.rank_engine.specs.DataAnswers.{HasRoom, IsDataAnswer, IsWholeStep, IsDrainAnswer, IsWholeDrain};
 ghost use Rattle.rank_engine.specs.DataAnswers.{is_again, is_full};
+ghost use Rattle.rank_engine.specs.KeptItems.{KeepsItems};
 ghost use Rattle.rank_engine.specs.RankStates.{new_state, is_at_hand, needs_entry};
+ghost use Rattle.rank_engine.specs.Refusals.{RefusesAlone};
 
 use crate::answers::Turned;
 use crate::courses::{course_of, is_at_once, is_transfer};
@@ -220,7 +222,8 @@ impl<'s, L: Keep + Drop> Agent<'s, L> {
     /// A step of the rank at the board: an entry, or the two of a collective call; a refusal by the board; or a false
     /// test (MPI 3.1, section 11.5). It makes no touch.
     ///
-    /// A token of `notes` is given with each Arrive, post, complete, unlock and unlock_all; what an entry gains is met.
+    /// A token of `notes` is given with each Arrive, post, complete, unlock and unlock_all; what an entry gains is met. A
+    /// step that refuses the call does nothing else. Where memory runs out, the log keeps all its items.
     pub fn next_board<M: Memory>(
         &mut self,
         notes: &mut M,
@@ -230,7 +233,9 @@ impl<'s, L: Keep + Drop> Agent<'s, L> {
         requires board { IsBoardOf self.old board.old (M.face notes.old) }
         ensures answer { IfOk result (λ turned. IsBoardAnswer turned
             self.old self.new board.old board.new (M.face notes.old) (M.face notes.new)) }
+        ensures refusal { IfOk result (λ _. RefusesAlone self.old self.new) }
         ensures known { IfOk result (λ _. Keeps (M.knows notes.old) (M.knows notes.new)) }
+        ensures kept { OnErr result (KeepsItems self.old.agent.log self.new.agent.log) }
     {
         if self.log.free_known() < STEP_ROOM {
             return Ok(Turned::Full);
@@ -243,15 +248,21 @@ impl<'s, L: Keep + Drop> Agent<'s, L> {
 
     /// A step of the rank that tries no entry: a draw, a refusal by the rank's own tests, an item of a call, the
     /// delivery of a pending access, or the end (MPI 3.1, sections 11.3, 11.5 and 11.7).
+    ///
+    /// A step that refuses the call does nothing else. Where memory runs out, the log keeps all its items, and no cell
+    /// is touched.
     pub fn next_data<M: Memory>(&mut self, mem: &mut M) -> Result<Turned, NoMemory>
         requires needs { needs_entry self.old ≡ false }
         requires room { HasRoom self.old (M.face mem.old) }
         ensures answer { IfOk result (λ turned. IsDataAnswer turned
             self.old self.new (M.face mem.old) (M.face mem.new) (M.knows mem.new)) }
+        ensures refusal { IfOk result (λ _. RefusesAlone self.old self.new) }
         ensures told { IfOk result (λ turned. is_full turned ≡ false →
             IsWholeStep self.old self.new (M.face mem.old) (M.face mem.new)) }
         ensures told_once { IfOk result (λ turned. IfSome (M.face mem.old).told (λ _. is_again turned ≡ false)) }
         ensures known { IfOk result (λ _. Keeps (M.knows mem.old) (M.knows mem.new)) }
+        ensures kept { OnErr result (KeepsItems self.old.agent.log self.new.agent.log) }
+        ensures unwritten { OnErr result (mem.new ≡ mem.old) }
     {
         if self.log.free_known() < STEP_ROOM {
             return Ok(Turned::Full);
@@ -271,7 +282,8 @@ impl<'s, L: Keep + Drop> Agent<'s, L> {
         }
     }
 
-    /// Delivers the first pending access of a rank that waits or has ended.
+    /// Delivers the first pending access of a rank that waits or has ended. Where memory runs out, the log is as it was,
+    /// and no cell is touched.
     pub fn drain<M: Memory>(&mut self, mem: &mut M) -> Result<Turned, NoMemory>
         requires free { 300 ≤ self.old.free }
         requires room { HasRoom self.old (M.face mem.old) }
@@ -281,6 +293,8 @@ impl<'s, L: Keep + Drop> Agent<'s, L> {
             IsWholeDrain self.old self.new (M.face mem.old) (M.face mem.new)) }
         ensures told_once { IfOk result (λ turned. IfSome (M.face mem.old).told (λ _. is_again turned ≡ false)) }
         ensures known { IfOk result (λ _. Keeps (M.knows mem.old) (M.knows mem.new)) }
+        ensures kept { OnErr result (self.new.agent.log ≡ self.old.agent.log) }
+        ensures unwritten { OnErr result (mem.new ≡ mem.old) }
     {
         if self.queue.count() == 0 {
             return Ok(Turned::Ended);

@@ -1,6 +1,6 @@
 //! The steps of a rank at the board: an entry, or the two of a collective call; a refusal; or a false test (MPI 3.1,
 //! section 11.5, in this project's profile).
-ghost use Rattle.std.specs.Prelude.{◌≡◌, ◌<◌, ◌≤◌, false, true, None, IfOk};
+ghost use Rattle.std.specs.Prelude.{◌≡◌, ◌<◌, ◌≤◌, false, true, None, IfOk, OnErr};
 ghost use Rattle.cell_face.specs.Faces.{Keeps};
 ghost use Rattle.rank_rules.specs.Courses as rules;
 ghost use Rattle.rma_record.specs.declared.items.Item.TheVariants.{Tested};
@@ -11,6 +11,7 @@ ghost use Rattle.step_runs.specs.BoardSteps.{arrive as arrive_by, enter as enter
 ghost use Rattle.step_runs.specs.DataSteps.{without_delivery, with_item};
 ghost use Rattle.sync_board.specs.Boards.{rows_on};
 ghost use Rattle.rank_engine.specs.Entering.{IsClosing, IsOpening, IsReady, IsTurn};
+ghost use Rattle.rank_engine.specs.KeptItems.{KeepsItems};
 ghost use Rattle.rank_engine.specs.Moves.{IsMove};
 
 use crate::agent::Agent;
@@ -29,8 +30,9 @@ impl<'s, L: Keep + Drop> Agent<'s, L> {
         requires new { self.old.agent.entered ≡ false }
         requires within { self.old.agent.at < 65536 }
         requires free { 1 ≤ self.old.free }
-        ensures { IfOk result (λ _. IsMove self.old self.new (without_delivery
+        ensures moved { IfOk result (λ _. IsMove self.old self.new (without_delivery
             (with_item self.old.stage self.old.agent (Tested self.old.agent.at seen))) None) }
+        ensures kept { OnErr result (self.new.agent.log ≡ self.old.agent.log) }
     {
         if self.kept == u32::MAX {
             return Err(NoMemory);
@@ -61,6 +63,7 @@ impl<'s, L: Keep + Drop> Agent<'s, L> {
             (enter_by self.old.stage self.old.agent (rows_on board.old) call.now step opened)
             self.old self.new board.old board.new (M.face notes.old) (M.face notes.new)) }
         ensures known { IfOk result (λ _. Keeps (M.knows notes.old) (M.knows notes.new)) }
+        ensures kept { OnErr result (self.new.agent.log ≡ self.old.agent.log) }
     {
         if self.kept == u32::MAX {
             return Err(NoMemory);
@@ -100,6 +103,7 @@ impl<'s, L: Keep + Drop> Agent<'s, L> {
             (enter_by self.old.stage self.old.agent (rows_on board.old) call.now step finished)
             self.old self.new board.old board.new (M.face notes.old) (M.face notes.new)) }
         ensures known { IfOk result (λ _. Keeps (M.knows notes.old) (M.knows notes.new)) }
+        ensures kept { OnErr result (self.new.agent.log ≡ self.old.agent.log) }
     {
         if self.kept == u32::MAX {
             return Err(NoMemory);
@@ -143,6 +147,7 @@ impl<'s, L: Keep + Drop> Agent<'s, L> {
             (test_by self.old.stage self.old.agent (rows_on board.old) call.now)
             self.old self.new board.old board.new (M.face notes.old) (M.face notes.new)) }
         ensures known { IfOk result (λ _. Keeps (M.knows notes.old) (M.knows notes.new)) }
+        ensures kept { OnErr result (self.new.agent.log ≡ self.old.agent.log) }
     {
         match self.close(notes, board, call, Step::One)? {
             Turned::NotYet => match u32::try_from(board.entries().len()) {
@@ -172,6 +177,7 @@ impl<'s, L: Keep + Drop> Agent<'s, L> {
             (arrive_by self.old.stage self.old.agent (rows_on board.old) call.now)
             self.old self.new board.old board.new (M.face notes.old) (M.face notes.new)) }
         ensures known { IfOk result (λ _. Keeps (M.knows notes.old) (M.knows notes.new)) }
+        ensures kept { OnErr result (KeepsItems self.old.agent.log self.new.agent.log) }
     {
         let arrived = self.open(notes, board, call, Step::Arrive)?;
         if !self.entered {
@@ -196,6 +202,7 @@ impl<'s, L: Keep + Drop> Agent<'s, L> {
             (entry_of self.old.stage self.old.agent (rows_on board.old) call.now)
             self.old self.new board.old board.new (M.face notes.old) (M.face notes.new)) }
         ensures known { IfOk result (λ _. Keeps (M.knows notes.old) (M.knows notes.new)) }
+        ensures kept { OnErr result (KeepsItems self.old.agent.log self.new.agent.log) }
     {
         if self.entered {
             return self.close(notes, board, call, Step::Leave);

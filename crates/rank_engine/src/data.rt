@@ -1,5 +1,5 @@
 //! A rank's steps on memory, and what is delivered where it waits (MPI 3.1, section 11.7).
-ghost use Rattle.std.specs.Prelude.{◌≡◌, ◌+◌, ◌≤◌, false, true, Some, None, IfOk, IfSome, length};
+ghost use Rattle.std.specs.Prelude.{◌≡◌, ◌+◌, ◌≤◌, false, true, Some, None, IfOk, OnErr, IfSome, length};
 ghost use Rattle.cell_face.specs.Faces.{Keeps, Rose};
 ghost use Rattle.rank_engine.specs.DataAnswers.{HasRoom, IsDelivered, is_over as is_it_over};
 ghost use Rattle.rank_engine.specs.Moves.{IsFirst, IsMove};
@@ -25,7 +25,8 @@ impl<'s, L: Keep + Drop> Agent<'s, L> {
     pub(crate) fn end(&mut self) -> Result<(), NoMemory>
         requires over { is_it_over self.old ≡ true }
         requires free { 1 ≤ self.old.free }
-        ensures { IfOk result (λ _. IsMove self.old self.new (own_move self.old) None) }
+        ensures moved { IfOk result (λ _. IsMove self.old self.new (own_move self.old) None) }
+        ensures kept { OnErr result (self.new.agent.log ≡ self.old.agent.log) }
     {
         if self.ended {
             return Ok(());
@@ -58,6 +59,8 @@ impl<'s, L: Keep + Drop> Agent<'s, L> {
         ensures known { Keeps (M.knows mem.old) (M.knows mem.new) }
         ensures few { length self.new.agent.log ≤ length self.old.agent.log + 256 }
         ensures free { self.new.free ≤ self.old.free }
+        ensures kept { OnErr result (self.new.agent.log ≡ self.old.agent.log) }
+        ensures unwritten { OnErr result (mem.new ≡ mem.old) }
     {
         if self.kept > u32::MAX - 256 {
             return Err(NoMemory);

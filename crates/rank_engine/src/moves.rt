@@ -1,6 +1,6 @@
 //! What a rank does by itself: a draw, a refusal by its own tests, and the items of calls without an entry (MPI 3.1,
 //! sections 11.3, 11.5 and 11.7).
-ghost use Rattle.std.specs.Prelude.{◌≡◌, ◌⊎◌, ◌+◌, ◌<◌, ◌≤◌, false, true, Some, None, IfSome, IfOk};
+ghost use Rattle.std.specs.Prelude.{◌≡◌, ◌⊎◌, ◌+◌, ◌<◌, ◌≤◌, false, true, Some, None, IfSome, IfOk, OnErr};
 ghost use Rattle.std.specs.Option.{option_map_or};
 ghost use Rattle.call_rules.specs.Actions.{transfer_of};
 ghost use Rattle.call_rules.specs.WellFormed.{IsWrittenCall};
@@ -47,8 +47,9 @@ impl<'s, L: Keep + Drop> Agent<'s, L> {
         requires new { self.old.agent.entered ≡ false }
         requires within { self.old.agent.at < 65536 }
         requires free { 1 ≤ self.old.free }
-        ensures { IfOk result (λ _. IsMove self.old self.new (without_delivery
+        ensures moved { IfOk result (λ _. IsMove self.old self.new (without_delivery
             (with_item self.old.stage self.old.agent (Refused self.old.agent.at class seen))) None) }
+        ensures kept { OnErr result (self.new.agent.log ≡ self.old.agent.log) }
     {
         if self.kept == u32::MAX {
             return Err(NoMemory);
@@ -89,8 +90,9 @@ impl<'s, L: Keep + Drop> Agent<'s, L> {
         requires passed { class_by_rank self.old.agent.known call.now ≡ None }
         requires course { courses.course_of self.old.agent.known.windows call.now ≡ courses.OneNull }
         requires free { 1 ≤ self.old.free }
-        ensures { IfOk result (λ _. IsMove self.old self.new (without_delivery
+        ensures moved { IfOk result (λ _. IsMove self.old self.new (without_delivery
             (with_item self.old.stage self.old.agent (Null self.old.agent.at))) None) }
+        ensures kept { OnErr result (self.new.agent.log ≡ self.old.agent.log) }
     {
         if self.kept == u32::MAX {
             return Err(NoMemory);
@@ -115,8 +117,9 @@ impl<'s, L: Keep + Drop> Agent<'s, L> {
         requires passed { class_by_rank self.old.agent.known call.now ≡ None }
         requires course { courses.course_of self.old.agent.known.windows call.now ≡ courses.OneFlush }
         requires free { 1 ≤ self.old.free }
-        ensures { IfOk result (λ _. IsMove self.old self.new (without_delivery
+        ensures moved { IfOk result (λ _. IsMove self.old self.new (without_delivery
             (with_item self.old.stage self.old.agent (Flush self.old.agent.at))) None) }
+        ensures kept { OnErr result (self.new.agent.log ≡ self.old.agent.log) }
     {
         if self.kept == u32::MAX {
             return Err(NoMemory);
@@ -140,8 +143,9 @@ impl<'s, L: Keep + Drop> Agent<'s, L> {
         requires passed { class_by_rank self.old.agent.known call.now ≡ None }
         requires course { courses.course_of self.old.agent.known.windows call.now ≡ courses.OneRequest }
         requires free { 1 ≤ self.old.free }
-        ensures { IfOk result (λ _. IsMove self.old self.new (without_delivery
+        ensures moved { IfOk result (λ _. IsMove self.old self.new (without_delivery
             (with_item self.old.stage self.old.agent (Request self.old.agent.at))) None) }
+        ensures kept { OnErr result (self.new.agent.log ≡ self.old.agent.log) }
     {
         if self.kept == u32::MAX {
             return Err(NoMemory);
@@ -172,7 +176,8 @@ impl<'s, L: Keep + Drop> Agent<'s, L> {
             (IsLookedUp self.old.stage.layout self.old.agent.known.windows) }
         requires none_at_hand { is_one_at_hand self.old ≡ false }
         requires free { 1 ≤ self.old.free }
-        ensures { IfOk result (λ _. IsIssued self.old self.new call.now access) }
+        ensures issued { IfOk result (λ _. IsIssued self.old self.new call.now access) }
+        ensures kept { OnErr result (self.new.agent.log ≡ self.old.agent.log) }
     {
         if self.kept == u32::MAX {
             return Err(NoMemory);
@@ -209,8 +214,9 @@ impl<'s, L: Keep + Drop> Agent<'s, L> {
             (IsLookedUp self.old.stage.layout self.old.agent.known.windows) }
         requires none_at_hand { is_one_at_hand self.old ≡ false }
         requires free { 1 ≤ self.old.free }
-        ensures { IfOk result (λ place. IsMove self.old self.new
+        ensures moved { IfOk result (λ place. IsMove self.old self.new
             (issue_by self.old.stage self.old.agent call.now) place) }
+        ensures kept { OnErr result (self.new.agent.log ≡ self.old.agent.log) }
     {
         match self.windows.access(call) {
             None => Ok(None),
@@ -235,8 +241,9 @@ impl<'s, L: Keep + Drop> Agent<'s, L> {
         requires passed { class_by_rank self.old.agent.known call.now ≡ None }
         requires none_at_hand { is_one_at_hand self.old ≡ false }
         requires free { 1 ≤ self.old.free }
-        ensures { IfOk result (λ place. IsMove self.old self.new (first_item_by
+        ensures moved { IfOk result (λ place. IsMove self.old self.new (first_item_by
             (courses.course_of self.old.agent.known.windows call.now) self.old.stage self.old.agent call.now) place) }
+        ensures kept { OnErr result (self.new.agent.log ≡ self.old.agent.log) }
     {
         match course_of(&self.windows, call) {
             Course::Null => {
@@ -267,8 +274,9 @@ impl<'s, L: Keep + Drop> Agent<'s, L> {
         requires written { IsWrittenCall call.now }
         requires none_at_hand { is_one_at_hand self.old ≡ false }
         requires free { 1 ≤ self.old.free }
-        ensures { IfOk result (λ place. IsMove self.old self.new
+        ensures moved { IfOk result (λ place. IsMove self.old self.new
             (begin_by self.old.stage self.old.agent call.now) place) }
+        ensures kept { OnErr result (self.new.agent.log ≡ self.old.agent.log) }
     {
         if self.must_draw() {
             return Ok(self.draw());
@@ -291,7 +299,8 @@ impl<'s, L: Keep + Drop> Agent<'s, L> {
         requires needs { needs_entry self.old ≡ false }
         requires left { is_over self.old ≡ false }
         requires free { 1 ≤ self.old.free }
-        ensures { IfOk result (λ place. IsMove self.old self.new (own_move self.old) place) }
+        ensures moved { IfOk result (λ place. IsMove self.old self.new (own_move self.old) place) }
+        ensures kept { OnErr result (self.new.agent.log ≡ self.old.agent.log) }
     {
         if self.is_at_hand() {
             return Ok(Some(self.queue.count() - 1));

@@ -5,8 +5,8 @@ use Rattle.rank_engine.proofs.agent.Agent.begin.Goals as goal
 use Rattle.rank_engine.specs.RankStates.{RankState}
 use Rattle.step_runs.specs.Agents.{awaited_by}
 
-pub returns-in-Some-next_for : goal.returns-in-Some-next_for
-returns-in-Some-next_for g c =
+pub returns-in-Some-next_for-clause-moved : goal.returns-in-Some-next_for-clause-moved
+returns-in-Some-next_for-clause-moved g c =
     let same = c.self.view_is in
     begin_waits c.args.self.now c.args.call.now c.in-Some-next_for.place (sym c.if-must_draw.ensures)
     (sym c.in-None.ensures)

@@ -209,4 +209,4 @@ returns-in_ok-refuse-in-Refused-clause-turn g c =
     c.in-Refused.class
     c.in-Refused.seen c.args.board.now c.ask.new.board face face_after ready c.in_ok-place.ensures.handed
     c.in-Refused.is
-    c.in_ok-place.ensures.answer room c.in_ok-refuse-in-Refused.ensures)
+    c.in_ok-place.ensures.answer room c.in_ok-refuse-in-Refused.ensures.moved)

@@ -6,8 +6,8 @@ use Rattle.rank_engine.specs.Moves.{IsMove}
 use Rattle.rank_engine.specs.RankStates.{RankState, own_move}
 use Rattle.rank_engine.specs.Sound.{IsSound}
 
-pub returns-then-is_at_hand : goal.returns-then-is_at_hand
-returns-then-is_at_hand g c =
+pub returns-then-is_at_hand-clause-moved : goal.returns-then-is_at_hand-clause-moved
+returns-then-is_at_hand-clause-moved g c =
     let count : c.count.result ≡ length c.args.self.now.agent.pending =
     c.count.ensures ∙ ap (λ (s : RankState). length s.agent.pending) c.self.view_is in
     subst (λ n. IsMove c.args.self.now c.args.self.now (own_move c.args.self.now) (Some (n - 1))) (sym count)

@@ -23,24 +23,24 @@ access-requires-clause-small g c =
     small_if at c.args.call.now c.self.invariant.0 c.requires.written passed
     (subst (λ (s : RankState). Issues s.agent.known c.args.call.now) (sym same) c.requires.course)
 
-pub returns-then-is_now : goal.returns-then-is_now
-returns-then-is_now g c =
+pub returns-then-is_now-clause-moved : goal.returns-then-is_now-clause-moved
+returns-then-is_now-clause-moved g c =
     let call : Call = c.args.call.now in
     let access : Access = c.in-Some.access in
     let same = c.self.view_is in
     issue_delivers c.args.self.now c.put_issue.new.self call access c.count-place.result
-    c.in_ok-put_issue-in-Some.ensures
+    c.in_ok-put_issue-in-Some.ensures.issued
     (ap (λ (s : RankState). access_of s.agent.known.windows call) (sym same) ∙ sym c.in-Some.ensures)
     (ap (λ (s : RankState). nat_lt 0 access.len && is_at_once s.stage.delay access) (sym same)
     ∙ sym c.if-is_now.ensures)
     (c.count-place.ensures ∙ ap (λ (s : RankState). length s.agent.pending) same) c.requires.none_at_hand
 
-pub returns-else-is_now : goal.returns-else-is_now
-returns-else-is_now g c =
+pub returns-else-is_now-clause-moved : goal.returns-else-is_now-clause-moved
+returns-else-is_now-clause-moved g c =
     let call : Call = c.args.call.now in
     let access : Access = c.in-Some.access in
     let same = c.self.view_is in
-    issue_waits c.args.self.now c.put_issue.new.self call access c.in_ok-put_issue-in-Some.ensures
+    issue_waits c.args.self.now c.put_issue.new.self call access c.in_ok-put_issue-in-Some.ensures.issued
     (ap (λ (s : RankState). access_of s.agent.known.windows call) (sym same) ∙ sym c.in-Some.ensures)
     (ap (λ (s : RankState). nat_lt 0 access.len && is_at_once s.stage.delay access) (sym same)
     ∙ sym c.if-is_now.ensures)

@@ -5,6 +5,7 @@ use Rattle.call_rules.specs.WellFormed.{IsWrittenCall}
 use Rattle.rma_types.specs.declared.calls.Call.{Call}
 use Rattle.step_runs.specs.Agents.{next_call}
 use Rattle.rank_engine.proofs.NextEntries.{IsNextEntry, next_entry, ready_next}
+use Rattle.rank_engine.proofs.RefusedTurns.{turn_alone}
 use Rattle.rank_engine.proofs.agent.Agent.next_board.Goals as goal
 use Rattle.rank_engine.specs.RankStates.{RankState}
 use Rattle.rank_engine.specs.Sound.{IsSound}
@@ -37,3 +38,9 @@ try_entry-requires-clause-entry g c =
     let here : next_call s.stage s.agent ≡ Some c.in-Some.call.now = sym c.in-Some.ensures.call in
     let next : IsNextEntry s c.in-Some.call.now = next_entry s c.in-Some.call.now sound c.requires.needs here in
     next.entry
+
+pub returns-clause-refusal : goal.returns-clause-refusal
+returns-clause-refusal g c =
+    turn_alone c.try_entry.result 2 c.args.self.now c.try_entry.new.self c.in-Some.call.now c.args.board.now
+    c.try_entry.new.board (g.M.Memory.face c.args.notes.now) (g.M.Memory.face c.try_entry.new.notes)
+    c.try_entry.ensures.turn

@@ -126,5 +126,5 @@ returns-clause-turn g c =
           c.in_ok-place.ensures.handed w.in-Refused.is c.in_ok-place.ensures.answer room
           (subst (λ (x : RankState). IsMove between x (without_delivery (with_item between.stage between.agent
           (Refused between.agent.at w.in-Refused.class w.in-Refused.seen))) None) (sym w.self-is)
-          w.in_ok-refuse-in-Refused.ensures)))
+          w.in_ok-refuse-in-Refused.ensures.moved)))
     ]

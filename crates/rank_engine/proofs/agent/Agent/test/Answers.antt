@@ -22,7 +22,7 @@ returns-in_ok-keep_tested-in-Ok-clause-turn g c =
     (subst (λ (turned : Turned). IsTurn turned 1 (enter c.args.self.now.stage c.args.self.now.agent
     (rows_on c.args.board.now) c.args.call.now One finished) c.args.self.now c.close.new.self c.args.board.now
     c.close.new.board face between) c.in-NotYet.is c.in_ok-close.ensures.turn)
-    all c.in_ok-keep_tested-in-Ok.ensures
+    all c.in_ok-keep_tested-in-Ok.ensures.moved
 
 pub returns-in-Did-clause-turn : goal.returns-in-Did-clause-turn
 returns-in-Did-clause-turn g c =

@@ -1,0 +1,123 @@
+-- A step at the board refuses the rank's next call alone, or its items are an entry, two, or a false test.
+use Rattle.std.proofs.Common.{◌≡◌, ℕ, inl, inr, Bool, true, false, cond, List, length, Result, Ok, Err, refl, ap, subst}
+use Rattle.std.proofs.Common.{sym}
+use Rattle.std.specs.Prelude.{IfOk}
+use Rattle.rma_types.specs.declared.accesses.Step.{Step}
+use Rattle.rma_types.specs.declared.accesses.Step.TheVariants.{Arrive, Leave, One}
+use Rattle.rma_types.specs.declared.calls.Call.{Call}
+use Rattle.rma_types.specs.declared.classes.Class.{Class}
+use Rattle.rma_record.specs.declared.items.Item.TheVariants.{Entry, Tested}
+use Rattle.board_rules.specs.Board.{Decision, Refuse, Allow, NotYet, decide, is_allowed_now}
+use Rattle.board_rules.specs.Entries.{Row}
+use Rattle.board_rules.specs.Questions.{question}
+use Rattle.cell_face.specs.Faces.{Face}
+use Rattle.lawful_runs.specs.Stages.{Stage}
+use Rattle.rank_rules.specs.Courses.{Course, OneNull, OneIssue, LookUpAndIssue, OneFlush, OneRequest, ArriveAndLeave}
+use Rattle.rank_rules.specs.Courses.{EntryOrTested, OneEntry, course_of}
+use Rattle.step_runs.specs.Agents.{Agent, finished, opened}
+use Rattle.step_runs.specs.BoardSteps.{AtBoard, enter_by, entered, entry_of, first_entry, leave, leave_if_entered}
+use Rattle.step_runs.specs.BoardSteps.{next_row, refused, test_by, waiting}
+use Rattle.sync_board.specs.Boards.{BoardState, rows_on}
+use Rattle.rank_engine.proofs.RefusalItems.{AddsPlain, Outcome, Refuses, adds_none, adds_one, adds_then, plain_alone}
+use Rattle.rank_engine.proofs.RefusalItems.{refuses_alone}
+use Rattle.rank_engine.specs.Entering.{IsTurn}
+use Rattle.rank_engine.specs.RankStates.{RankState}
+use Rattle.rank_engine.specs.Refusals.{RefusesAlone}
+use Rattle.rank_engine.specs.declared.answers.Turned.{Turned}
+
+refused_outcome : (stage : Stage) (agent : Agent) (rows : List Row) (class : Class) →
+    Outcome agent (refused stage agent rows class).agent
+refused_outcome stage agent rows class =
+    inr (record { class = class; seen = length rows; log = refl; known = refl; pending = refl })
+
+enter_outcome : (d : Decision) (stage : Stage) (agent : Agent) (rows : List Row) (call : Call) (step : Step)
+    (after : Agent → Agent) → ((next : Agent) → (after next).log ≡ next.log) →
+    Outcome agent (enter_by d stage agent rows call step after).agent
+enter_outcome (Refuse class) stage agent rows call step after same = refused_outcome stage agent rows class
+enter_outcome Allow stage agent rows call step after same =
+    inl (subst (AddsPlain agent.log) (sym (same _)) (adds_one agent.log (Entry agent.at (length rows) step) refl))
+enter_outcome NotYet stage agent rows call step after same = inl (adds_none agent.log)
+
+test_outcome : (d : Decision) (stage : Stage) (agent : Agent) (rows : List Row) (call : Call) →
+    Outcome agent (test_by d stage agent rows call).agent
+test_outcome (Refuse class) stage agent rows call = refused_outcome stage agent rows class
+test_outcome Allow stage agent rows call = inl (adds_one agent.log (Entry agent.at (length rows) One) refl)
+test_outcome NotYet stage agent rows call = inl (adds_one agent.log (Tested agent.at (length rows)) refl)
+
+-- a Leave is never refused
+leave_adds : (stage : Stage) (agent : Agent) (rows : List Row) (call : Call) →
+    AddsPlain agent.log (leave stage agent rows call).agent.log
+leave_adds stage agent rows call =
+    by_allowed (is_allowed_now (question stage.script.ranks rows (next_row agent call Leave)) Leave)
+  where
+    by_allowed : (b : Bool) →
+        AddsPlain agent.log (enter_by (cond b Allow NotYet) stage agent rows call Leave finished).agent.log
+    by_allowed true = adds_one agent.log (Entry agent.at (length rows) Leave) refl
+    by_allowed false = adds_none agent.log
+
+arrive_outcome : (d : Decision) (stage : Stage) (agent : Agent) (rows : List Row) (call : Call) →
+    Outcome agent (leave_if_entered stage call (enter_by d stage agent rows call Arrive opened)).agent
+arrive_outcome (Refuse class) stage agent rows call = refused_outcome stage agent rows class
+arrive_outcome Allow stage agent rows call =
+    let arrived : AtBoard = entered stage agent rows call Arrive opened in
+    inl (adds_then agent.log arrived.agent.log (leave stage arrived.agent arrived.rows call).agent.log
+    (adds_one agent.log (Entry agent.at (length rows) Arrive) refl)
+    (leave_adds stage arrived.agent arrived.rows call))
+arrive_outcome NotYet stage agent rows call = by_entered agent.entered
+  where
+    by_entered : (b : Bool) → Outcome agent (cond b (leave stage agent rows call) (waiting agent rows)).agent
+    by_entered true = inl (leave_adds stage agent rows call)
+    by_entered false = inl (adds_none agent.log)
+
+first_outcome : (course : Course) (stage : Stage) (agent : Agent) (rows : List Row) (call : Call) →
+    Outcome agent (first_entry course stage agent rows call).agent
+first_outcome OneNull stage agent rows call = inl (adds_none agent.log)
+first_outcome OneIssue stage agent rows call = inl (adds_none agent.log)
+first_outcome LookUpAndIssue stage agent rows call =
+    enter_outcome (decide stage.script.ranks rows (next_row agent call One)) stage agent rows call One opened
+    (λ next. refl)
+first_outcome OneFlush stage agent rows call = inl (adds_none agent.log)
+first_outcome OneRequest stage agent rows call = inl (adds_none agent.log)
+first_outcome ArriveAndLeave stage agent rows call =
+    arrive_outcome (decide stage.script.ranks rows (next_row agent call Arrive)) stage agent rows call
+first_outcome EntryOrTested stage agent rows call =
+    test_outcome (decide stage.script.ranks rows (next_row agent call One)) stage agent rows call
+first_outcome OneEntry stage agent rows call =
+    enter_outcome (decide stage.script.ranks rows (next_row agent call One)) stage agent rows call One finished
+    (λ next. refl)
+
+entry_outcome : (stage : Stage) (agent : Agent) (rows : List Row) (call : Call) →
+    Outcome agent (entry_of stage agent rows call).agent
+entry_outcome stage agent rows call = by_entered agent.entered
+  where
+    by_entered : (b : Bool) → Outcome agent (cond b (leave stage agent rows call)
+        (first_entry (course_of agent.known.windows call) stage agent rows call)).agent
+    by_entered true = inl (leave_adds stage agent rows call)
+    by_entered false = first_outcome (course_of agent.known.windows call) stage agent rows call
+
+-- the rank after a step at the board
+entry_alone : (before after : RankState) (rows : List Row) (call : Call) →
+    after ≡ record before { agent = (entry_of before.stage before.agent rows call).agent; free = after.free } →
+    RefusesAlone before after
+entry_alone before after rows call is = by_outcome (entry_outcome before.stage before.agent rows call)
+  where
+    to : Agent
+    to = (entry_of before.stage before.agent rows call).agent
+
+    agent : after.agent ≡ to
+    agent = ap (λ (s : RankState). s.agent) is
+
+    by_outcome : Outcome before.agent to → RefusesAlone before after
+    by_outcome (inl adds) = plain_alone before after
+        (subst (λ (a : Agent). AddsPlain before.agent.log a.log) (sym agent) adds)
+    by_outcome (inr refuses) = refuses_alone before after
+        (subst (Refuses before.agent) (sym agent) refuses) (ap (λ (s : RankState). s.touched) is)
+
+pub turn_alone : {E : Type 0} (result : Result Turned E) (items : ℕ) (before after : RankState) (call : Call)
+    (board board_after : BoardState) (face face_after : Face) →
+    IfOk result (λ turned. IsTurn turned items (entry_of before.stage before.agent (rows_on board) call)
+    before after board board_after face face_after) →
+    IfOk result (λ _. RefusesAlone before after)
+turn_alone (Ok turned) items before after call board board_after face face_after turn =
+    entry_alone before after (rows_on board) call turn.steps.rank
+turn_alone (Err e) items before after call board board_after face face_after turn = tt
