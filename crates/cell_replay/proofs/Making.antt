@@ -2,7 +2,7 @@
 use Rattle.std.proofs.Common.{◌≡◌, ℕ, zero, suc, ◌+◌, ◌/◌, ◌<◌, ◌≤◌, inl, inr, true, cond, List}
 use Rattle.std.proofs.Common.{false, Option, Some, None, refl, ap, sym, ◌∙◌, arith}
 use Rattle.std.specs.Prelude.{map, slice_get, nat_lt}
-use Rattle.std.specs.Option.{option_map_or}
+use Rattle.std.specs.Option.{option_map_or, option_and_then}
 use Rattle.std.proofs.lemmas.Bool.{cases_lt, cond-true, cond-false, le-ltb, lt-ltb}
 use Rattle.rma_types.specs.declared.accesses.Access.{Access}
 use Rattle.rma_types.specs.declared.calls.Call.{Call}
@@ -44,7 +44,7 @@ module _ (memory : Layout) (access : Access) (element : ℕ) where
 
   abbrev by_first_byte : Option Transfer → Option Change
   by_first_byte o = option_map_or (λ (dtype : Dtype). cond (nat_lt element (access.len / size_of dtype))
-      (option_map_or (λ (t : Transfer). change_of t element (first_byte_at access dtype element)) o None) None)
+      (option_and_then (λ (t : Transfer). change_of t element (first_byte_at access dtype element)) o) None)
       (option_map_or (λ (t : Transfer). Some t.dtype) o None) None
 
   same_change : (o : Option Transfer) → by_first_byte o ≡ by_piece o
