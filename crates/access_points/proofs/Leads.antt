@@ -16,7 +16,7 @@ use Rattle.order_laws.proofs.Events.{AllFrom, IsEventAt, events_placed, from_in,
 use Rattle.order_laws.proofs.Members.{In, here, there, any_in, filter_in, in_any, in_filter, in_map, map_in}
 use Rattle.order_laws.proofs.Order.{edge_ascends}
 use Rattle.vector_clocks.proofs.Steps.{place_taken}
-use Rattle.conflict_check.proofs.Stands.{both_ways}
+use Rattle.judged_points.proofs.Stands.{both_ways}
 use Rattle.access_points.specs.Edges.{is_among, is_led_from, led_among}
 
 -- ---- lists and tests

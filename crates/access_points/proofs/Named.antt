@@ -14,7 +14,7 @@ use Rattle.order_laws.specs.FindingLaws.{IsSmaller}
 use Rattle.order_laws.proofs.Order.{same_from}
 use Rattle.log_replay.specs.declared.kept.KeptAccess.{KeptAccess}
 use Rattle.log_replay.specs.declared.kept.RankRecord.{RankRecord}
-use Rattle.conflict_check.specs.KeptPoints.{kept_accesses}
+use Rattle.judged_points.specs.KeptPoints.{kept_accesses}
 use Rattle.access_points.specs.Points.{access_named, is_named}
 
 -- ---- the search by rank

@@ -30,15 +30,15 @@ use Rattle.log_replay.specs.declared.kept.EpochKind.{EpochKind}
 use Rattle.log_replay.specs.declared.kept.KeptAccess.{KeptAccess}
 use Rattle.log_replay.specs.declared.kept.KeptStep.{KeptStep}
 use Rattle.log_replay.specs.declared.kept.RankRecord.{RankRecord}
-use Rattle.conflict_check.specs.Alike.{reaches}
-use Rattle.conflict_check.specs.KeptPoints.{does, first_after, kept_accesses}
-use Rattle.conflict_check.specs.declared.searches.Sought.{Sought}
-use Rattle.conflict_check.specs.declared.searches.Sought.TheVariants.{FenceArrival, Complete, AtTarget, AtOrigin}
-use Rattle.conflict_check.specs.declared.searches.Sought.TheVariants.{TakingIn, GivingOut}
-use Rattle.conflict_check.proofs.KeptParts.{Both, IsFoundAs, Neither, accesses_kept, each_found, ends_same}
-use Rattle.conflict_check.proofs.KeptParts.{sought_same, steps_kept}
-use Rattle.conflict_check.proofs.SoughtSteps.{after_found, after_of}
-use Rattle.conflict_check.proofs.Stands.{both_ways}
+use Rattle.judged_points.specs.Alike.{reaches}
+use Rattle.judged_points.specs.KeptPoints.{does, first_after, kept_accesses}
+use Rattle.judged_points.specs.declared.searches.Sought.{Sought}
+use Rattle.judged_points.specs.declared.searches.Sought.TheVariants.{FenceArrival, Complete, AtTarget, AtOrigin}
+use Rattle.judged_points.specs.declared.searches.Sought.TheVariants.{TakingIn, GivingOut}
+use Rattle.judged_points.proofs.KeptParts.{Both, IsFoundAs, Neither, accesses_kept, each_found, ends_same}
+use Rattle.judged_points.proofs.KeptParts.{sought_same, steps_kept}
+use Rattle.judged_points.proofs.SoughtSteps.{after_found, after_of}
+use Rattle.judged_points.proofs.Stands.{both_ways}
 use Rattle.access_points.specs.Edges.{is_among}
 use Rattle.access_points.specs.Points.{IsRecorded, access_named, all_steps, is_done, is_done_by}
 use Rattle.access_points.specs.Points.{is_later, is_later_sought, is_named, is_taken_in, leads_from, names_passing}

@@ -14,12 +14,12 @@ use Rattle.log_replay.specs.declared.kept.EpochKind.TheVariants.{NoEpoch, Fence,
 use Rattle.log_replay.specs.declared.kept.KeptAccess.{KeptAccess}
 use Rattle.log_replay.specs.declared.kept.KeptStep.{KeptStep}
 use Rattle.log_replay.specs.declared.kept.RankRecord.{RankRecord}
-use Rattle.conflict_check.specs.Alike.{reaches}
-use Rattle.conflict_check.specs.KeptPoints.{AllAscending, ends_request, first_after, is_after, is_sought}
-use Rattle.conflict_check.specs.KeptPoints.{kept_accesses}
-use Rattle.conflict_check.specs.declared.searches.Sought.{Sought}
-use Rattle.conflict_check.specs.declared.searches.Sought.TheVariants.{FenceArrival, Complete, AtTarget, AtOrigin}
-use Rattle.conflict_check.specs.declared.searches.Sought.TheVariants.{TakingIn}
+use Rattle.judged_points.specs.Alike.{reaches}
+use Rattle.judged_points.specs.KeptPoints.{AllAscending, ends_request, first_after, is_after, is_sought}
+use Rattle.judged_points.specs.KeptPoints.{kept_accesses}
+use Rattle.judged_points.specs.declared.searches.Sought.{Sought}
+use Rattle.judged_points.specs.declared.searches.Sought.TheVariants.{FenceArrival, Complete, AtTarget, AtOrigin}
+use Rattle.judged_points.specs.declared.searches.Sought.TheVariants.{TakingIn}
 use Rattle.access_points.specs.Edges.{is_among}
 
 -- the steps that are kept of all ranks, in the order of their names

@@ -1,7 +1,7 @@
 //! The steps of a run in one list, those at which an access is done or visible, and the access of a name.
 ghost use Rattle.std.specs.Prelude.{◌≡◌, ◌++◌, [], IfOk, OnOk};
 ghost use Rattle.std.specs.List.{find, flat_map};
-ghost use Rattle.conflict_check.specs.declared.searches.Sought.TheVariants.{GivingOut};
+ghost use Rattle.judged_points.specs.declared.searches.Sought.TheVariants.{GivingOut};
 ghost use Rattle.vector_clocks.specs.Marks.{before_in};
 ghost use Rattle.access_points.specs.Points.{access_named as access_named_of, all_steps as all_steps_of};
 ghost use Rattle.access_points.specs.Points.{is_done as is_done_of, is_later_sought as is_later_sought_of};
@@ -9,7 +9,7 @@ ghost use Rattle.access_points.specs.Points.{is_named, is_taken_in as is_taken_i
 
 use crate::edges::is_same;
 use crate::tests_of_steps::{is_done, is_later_sought, is_taken_in};
-use conflict_check::Sought;
+use judged_points::Sought;
 use log_replay::{KeptAccess, KeptStep, RankRecord};
 use rma_types::{Id, Items, NoMemory, Script};
 use std::alloc::Global;

@@ -12,15 +12,15 @@ ghost use Rattle.order_rules.specs.Roles.{role_of};
 ghost use Rattle.order_rules.specs.VisiblePoints.{is_taken_in_at, separate_points, unified_points};
 ghost use Rattle.order_rules.specs.VisiblePoints.{visible_points as visible_points_by, visible_points_of};
 ghost use Rattle.log_replay.specs.Kept.{IsKeptAccess};
-ghost use Rattle.conflict_check.specs.KeptPoints.{AllAscending};
-ghost use Rattle.conflict_check.specs.declared.searches.Sought.TheVariants.{GivingOut};
+ghost use Rattle.judged_points.specs.KeptPoints.{AllAscending};
+ghost use Rattle.judged_points.specs.declared.searches.Sought.TheVariants.{GivingOut};
 ghost use Rattle.access_points.specs.Edges.{is_among};
 ghost use Rattle.access_points.specs.Points.{IsRecorded, all_steps as all_steps_of, is_later_sought, leads_from};
 ghost use Rattle.access_points.specs.Points.{names_passing, step_before as step_before_of};
 
 use crate::edges::led_from;
 use crate::kept::{access_named, all_steps, done_among, given_out_among, taken_in_among};
-use conflict_check::{Sought, first_after};
+use judged_points::{Sought, first_after};
 use log_replay::{EpochKind, KeptAccess, KeptStep, RankRecord, records_of};
 use rma_record::Run;
 use rma_rules::{Part, part_of};

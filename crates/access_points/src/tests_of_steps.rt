@@ -11,7 +11,7 @@ ghost use Rattle.access_points.specs.Points.{is_done_by as is_done_by_of, is_lat
 ghost use Rattle.access_points.specs.Points.{is_later_sought as is_later_sought_of, is_taken_in as is_taken_in_of};
 
 use crate::edges::is_same;
-use conflict_check::{Sought, do_reach, ends_request, is_sought};
+use judged_points::{Sought, do_reach, ends_request, is_sought};
 use log_replay::{EpochKind, KeptAccess, KeptStep};
 use rma_rules::{Part, part_of};
 use rma_types::{Id, Kind, Script};

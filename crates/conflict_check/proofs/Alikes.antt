@@ -11,7 +11,7 @@ use Rattle.order_rules.specs.Roles.{Role, RmaUpdate, RmaRead, Store, Load, role_
 use Rattle.order_rules.specs.Rules.{forbidden_kind}
 use Rattle.order_laws.proofs.Members.{In, here, there, in_append_left, in_append_right, in_contains}
 use Rattle.point_laws.specs.PointLaws.{is_rma}
-use Rattle.conflict_check.specs.Alike.{reaches, IsAlike, AreAlike, names_of}
+use Rattle.judged_points.specs.Alike.{reaches, IsAlike, AreAlike, names_of}
 
 module _ (before : Id → Id → Bool) (ids : List Id) where
   -- the done points are asked for of an RMA access alone

@@ -1,14 +1,6 @@
--- Parts of lists, and points that stand for others.
+-- Pairs of accesses, and those that no rule forbids.
 pub mod Alikes
-pub mod DoneParts
-pub mod Finds
 pub mod Groups
-pub mod KeptParts
 pub mod Least
 pub mod MayStand
-pub mod Parted
 pub mod Parts
-pub mod RankSteps
-pub mod SoughtSteps
-pub mod Stands
-pub mod VisibleParts

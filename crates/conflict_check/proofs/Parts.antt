@@ -7,8 +7,8 @@ use Rattle.rma_types.specs.declared.accesses.Id.{Id}
 use Rattle.rma_types.specs.declared.findings.Model.{Model}
 use Rattle.order_rules.specs.Findings.{findings_after, first_finding, forbidden}
 use Rattle.order_rules.specs.Ordered.{JudgedAccess}
-use Rattle.conflict_check.specs.Alike.{judged_by}
-use Rattle.conflict_check.specs.declared.accesses.JudgedPoints.{JudgedPoints}
+use Rattle.judged_points.specs.Alike.{judged_by}
+use Rattle.judged_points.specs.declared.accesses.JudgedPoints.{JudgedPoints}
 
 pub drop_at : {X : Type 0} (xs : List X) (k : ℕ) (d : X) → k < length xs →
     drop k xs ≡ slice_index_or xs k d ∷ drop (suc k) xs

@@ -1,5 +1,4 @@
 -- Findings of accesses with their points.
-pub mod Alike
-pub mod KeptPoints
+pub mod Enough
 pub mod Reached
 pub mod Standing

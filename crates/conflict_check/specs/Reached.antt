@@ -6,7 +6,7 @@ use Rattle.order_rules.specs.Ordered.{JudgedAccess, points_for, role_in}
 use Rattle.order_rules.specs.Roles.{RmaUpdate, Load}
 use Rattle.rma_rules.specs.Same.{role_by}
 use Rattle.vector_clocks.specs.Firsts.{IsFirstOf, item_at}
-use Rattle.conflict_check.specs.Alike.{judged_by, reaches}
+use Rattle.judged_points.specs.Alike.{judged_by, reaches}
 use Rattle.conflict_check.specs.declared.reaches.Reached.{Reached}
 use Rattle.conflict_check.specs.declared.reaches.Seen.{Seen}
 

@@ -2,23 +2,17 @@
 //! in this project's profile.
 #![tactic(auto)]
 
-ghost use Rattle.conflict_check.specs.Alike.{AlikePointsAreEnough};
+ghost use Rattle.conflict_check.specs.Enough.{AlikePointsAreEnough};
 
-mod accesses;
-mod calls;
 mod pairs;
-mod points;
 mod reaches;
 mod run_findings;
-mod searches;
 mod standing;
 #[cfg(test)]
 mod tests;
 
-pub use accesses::{JudgedPoints, do_reach};
 pub use pairs::findings_among;
 pub use run_findings::findings;
-pub use searches::{Sought, ends_request, first_after, is_sought};
 
 /// Where some points of each access stand for all, the findings are the same: it is enough that both are before the
 /// same of the accesses (MPI 3.1, section 11.7, in this project's profile).

@@ -5,10 +5,10 @@ ghost use Rattle.order_rules.specs.Findings.{findings_after, first_finding as fi
 ghost use Rattle.order_rules.specs.Findings.{forbidden as forbidden_by};
 ghost use Rattle.order_rules.specs.Ordered.{JudgedAccess};
 ghost use Rattle.vector_clocks.specs.Marks.{before_in};
-ghost use Rattle.conflict_check.specs.Alike.{judged_by};
+ghost use Rattle.judged_points.specs.Alike.{judged_by};
 ghost use Rattle.conflict_check.specs.Reached.{AreGroups, AreSeen, IsReached, IsSeen};
 
-use crate::accesses::JudgedPoints;
+use judged_points::JudgedPoints;
 use crate::reaches::{Reached, Seen, comes_first, comes_last, seen_by, with_reach};
 use crate::standing::may_stand;
 use rma_rules::forbidden_kind;

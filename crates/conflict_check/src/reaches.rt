@@ -6,10 +6,10 @@ ghost use Rattle.order_rules.specs.Roles.{Role};
 ghost use Rattle.rma_rules.specs.Same.{role_by};
 ghost use Rattle.vector_clocks.specs.Firsts.{IsFirstOf, item_at};
 ghost use Rattle.vector_clocks.specs.Marks.{before_in};
-ghost use Rattle.conflict_check.specs.Alike.{judged_by, reaches};
+ghost use Rattle.judged_points.specs.Alike.{judged_by, reaches};
 ghost use Rattle.conflict_check.specs.Reached.{AreFirsts, IsReached, IsSeen};
 
-use crate::accesses::{JudgedPoints, do_reach, points_towards};
+use judged_points::{JudgedPoints, do_reach, points_towards};
 use rma_rules::{Part, part_of};
 use rma_types::{Access, Id};
 use vector_clocks::Clocks;

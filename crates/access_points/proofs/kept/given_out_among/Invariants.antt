@@ -1,6 +1,6 @@
 use Rattle.std.proofs.Common.{◌≡◌, ◌++◌}
 use Rattle.std.specs.Prelude.{drop}
-use Rattle.conflict_check.specs.declared.searches.Sought.TheVariants.{GivingOut}
+use Rattle.judged_points.specs.declared.searches.Sought.TheVariants.{GivingOut}
 use Rattle.access_points.specs.Points.{is_later_sought, names_passing}
 use Rattle.access_points.proofs.kept.given_out_among.Given as goal
 

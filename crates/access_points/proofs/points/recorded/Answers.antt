@@ -1,5 +1,5 @@
 -- The records are those of the run, and the steps of each rank stand in the order of its log.
-use Rattle.conflict_check.proofs.KeptParts.{records_ascend}
+use Rattle.judged_points.proofs.KeptParts.{records_ascend}
 use Rattle.access_points.proofs.points.recorded.Goals as goal
 
 pub returns : goal.returns

@@ -10,7 +10,7 @@ use Rattle.order_rules.specs.Roles.{RmaUpdate, Store, role_of}
 use Rattle.order_rules.specs.VisiblePoints.{is_taken_in_at, separate_points}
 use Rattle.rma_rules.specs.Same.{role_by}
 use Rattle.log_replay.specs.Kept.{IsKeptAccess}
-use Rattle.conflict_check.specs.declared.searches.Sought.TheVariants.{GivingOut}
+use Rattle.judged_points.specs.declared.searches.Sought.TheVariants.{GivingOut}
 use Rattle.access_points.specs.Points.{all_steps, is_later_sought, names_passing}
 use Rattle.access_points.proofs.PointsKept.{given_out_are}
 use Rattle.access_points.proofs.points.visible_separate.Goals as goal

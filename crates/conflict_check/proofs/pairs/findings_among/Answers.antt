@@ -5,9 +5,9 @@ use Rattle.std.specs.Option.{option_map_or}
 use Rattle.rma_types.specs.declared.findings.Finding.{Finding}
 use Rattle.order_rules.specs.Findings.{findings_after, first_finding}
 use Rattle.vector_clocks.specs.Marks.{before_in}
-use Rattle.conflict_check.specs.Alike.{judged_by}
+use Rattle.judged_points.specs.Alike.{judged_by}
 use Rattle.conflict_check.specs.Reached.{AreGroups}
-use Rattle.conflict_check.specs.declared.accesses.JudgedPoints.{JudgedPoints}
+use Rattle.judged_points.specs.declared.accesses.JudgedPoints.{JudgedPoints}
 use Rattle.conflict_check.specs.declared.reaches.Seen.{Seen}
 use Rattle.conflict_check.proofs.Groups.{default_free}
 use Rattle.conflict_check.proofs.Parts.{findings_step, take_front, taken_more}

@@ -2,7 +2,7 @@ use Rattle.std.proofs.Common.{◌≡◌, [], ◌++◌, length}
 use Rattle.std.specs.Prelude.{drop, map, take}
 use Rattle.order_rules.specs.Findings.{findings_after}
 use Rattle.vector_clocks.specs.Marks.{before_in}
-use Rattle.conflict_check.specs.Alike.{judged_by}
+use Rattle.judged_points.specs.Alike.{judged_by}
 use Rattle.conflict_check.specs.Reached.{AreGroups}
 use Rattle.conflict_check.proofs.pairs.findings_among.Given as goal
 

@@ -2,9 +2,9 @@
 use Rattle.std.proofs.Common.{◌≡◌, ◌+◌, List, [], ◌∷◌, ◌++◌, length, ap, sym, subst, ◌∙◌}
 use Rattle.std.specs.Prelude.{drop, map, take}
 use Rattle.vector_clocks.specs.Marks.{before_in}
-use Rattle.conflict_check.specs.Alike.{judged_by}
+use Rattle.judged_points.specs.Alike.{judged_by}
 use Rattle.conflict_check.specs.Reached.{AreGroups}
-use Rattle.conflict_check.specs.declared.accesses.JudgedPoints.{JudgedPoints}
+use Rattle.judged_points.specs.declared.accesses.JudgedPoints.{JudgedPoints}
 use Rattle.conflict_check.specs.declared.reaches.Seen.{Seen}
 use Rattle.conflict_check.proofs.Parts.{take_front, taken_more}
 use Rattle.conflict_check.proofs.pairs.groups_for.Goals as goal

@@ -1,7 +1,7 @@
 use Rattle.std.proofs.Common.{◌≡◌, length}
 use Rattle.std.specs.Prelude.{map, take}
 use Rattle.vector_clocks.specs.Marks.{before_in}
-use Rattle.conflict_check.specs.Alike.{judged_by}
+use Rattle.judged_points.specs.Alike.{judged_by}
 use Rattle.conflict_check.specs.Reached.{AreGroups}
 use Rattle.conflict_check.proofs.pairs.groups_for.Given as goal
 

@@ -3,7 +3,7 @@ use Rattle.std.proofs.Common.{rules, ◌≡◌, ℕ, ◌<◌, List, [], length, 
 use Rattle.std.specs.Prelude.{slice_index_or}
 use Rattle.order_rules.specs.Ordered.{JudgedAccess}
 use Rattle.vector_clocks.specs.Marks.{before_in}
-use Rattle.conflict_check.specs.Alike.{judged_by}
+use Rattle.judged_points.specs.Alike.{judged_by}
 use Rattle.conflict_check.specs.Reached.{AreSeen, at_target}
 use Rattle.conflict_check.specs.declared.reaches.Seen.{Seen}
 use Rattle.conflict_check.proofs.Groups.{default_free, of_one_target}

@@ -2,7 +2,7 @@
 use Rattle.std.proofs.Common.{rules, ◌≡◌, ◌<◌, [], ◌∷◌, ◌++◌, length, ap, sym, ◌∙◌, arith}
 use Rattle.std.specs.Prelude.{slice_index_or}
 use Rattle.vector_clocks.specs.Marks.{before_in}
-use Rattle.conflict_check.specs.Alike.{judged_by}
+use Rattle.judged_points.specs.Alike.{judged_by}
 use Rattle.conflict_check.proofs.Groups.{default_free, grouped}
 use Rattle.conflict_check.proofs.pairs.put.Goals as goal
 

@@ -4,7 +4,7 @@ use Rattle.std.specs.Prelude.{nat_le, slice_index}
 use Rattle.rma_types.specs.declared.accesses.Id.{Id}
 use Rattle.order_rules.specs.Ordered.{points_for, role_in}
 use Rattle.vector_clocks.specs.Marks.{before_in}
-use Rattle.conflict_check.specs.Alike.{reaches}
+use Rattle.judged_points.specs.Alike.{reaches}
 use Rattle.conflict_check.proofs.reaches.comes_last.Goals as goal
 
 pub returns-in-Some : goal.returns-in-Some

@@ -4,7 +4,7 @@ use Rattle.std.specs.Prelude.{◌||◌, drop, nat_le}
 use Rattle.rma_types.specs.declared.accesses.Id.{Id}
 use Rattle.vector_clocks.specs.Firsts.{item_at}
 use Rattle.vector_clocks.specs.Marks.{before_in}
-use Rattle.conflict_check.specs.Alike.{reaches}
+use Rattle.judged_points.specs.Alike.{reaches}
 use Rattle.conflict_check.proofs.Least.{or_within}
 use Rattle.conflict_check.proofs.Parts.{drop_at}
 use Rattle.conflict_check.proofs.reaches.first_of.Goals as goal

@@ -2,7 +2,7 @@ use Rattle.std.proofs.Common.{◌≡◌, ℕ, ◌<◌}
 use Rattle.std.specs.Prelude.{◌||◌, drop, nat_le}
 use Rattle.vector_clocks.specs.Firsts.{item_at}
 use Rattle.vector_clocks.specs.Marks.{before_in}
-use Rattle.conflict_check.specs.Alike.{reaches}
+use Rattle.judged_points.specs.Alike.{reaches}
 use Rattle.conflict_check.proofs.reaches.first_of.Given as goal
 
 -- an item comes after one of the points where its index is not below the first so far, or by those that are left

@@ -5,7 +5,7 @@ use Rattle.std.proofs.lemmas.Bool.{cases_lt}
 use Rattle.std.proofs.lemmas.List.{get_or-set_other, get_or-set_same, length-set}
 use Rattle.vector_clocks.specs.Firsts.{item_at}
 use Rattle.vector_clocks.specs.Marks.{before_in}
-use Rattle.conflict_check.specs.Alike.{reaches}
+use Rattle.judged_points.specs.Alike.{reaches}
 use Rattle.conflict_check.proofs.reaches.firsts_of.Goals as goal
 
 pub loop-rank-preserved : goal.loop-rank-preserved

@@ -2,7 +2,7 @@ use Rattle.std.proofs.Common.{◌≡◌, ℕ, ◌<◌, length}
 use Rattle.std.specs.Prelude.{slice_index}
 use Rattle.vector_clocks.specs.Firsts.{IsFirstOf, item_at}
 use Rattle.vector_clocks.specs.Marks.{before_in}
-use Rattle.conflict_check.specs.Alike.{reaches}
+use Rattle.judged_points.specs.Alike.{reaches}
 use Rattle.conflict_check.proofs.reaches.firsts_of.Given as goal
 
 -- the ranks before this one have their first index

@@ -3,8 +3,8 @@ use Rattle.std.proofs.Common.{◌≡◌, List, [], ap, subst, ◌∙◌}
 use Rattle.std.specs.Prelude.{IfOk, map}
 use Rattle.order_rules.specs.Findings.{findings, findings_after, judged_accesses}
 use Rattle.vector_clocks.specs.Marks.{before_in}
-use Rattle.conflict_check.specs.Alike.{judged_by}
-use Rattle.conflict_check.specs.declared.accesses.JudgedPoints.{JudgedPoints}
+use Rattle.judged_points.specs.Alike.{judged_by}
+use Rattle.judged_points.specs.declared.accesses.JudgedPoints.{JudgedPoints}
 use Rattle.conflict_check.proofs.Alikes.{findings_alike}
 use Rattle.conflict_check.proofs.run_findings.findings.Goals as goal
 

@@ -1,0 +1,9 @@
+-- Points that stand for others, and the steps at which they are found.
+pub mod DoneParts
+pub mod Finds
+pub mod KeptParts
+pub mod Parted
+pub mod RankSteps
+pub mod SoughtSteps
+pub mod Stands
+pub mod VisibleParts

@@ -1,0 +1,47 @@
+-- The points of what is kept stand for all.
+use Rattle.std.proofs.Common.{◌≡◌, List, sym, subst}
+use Rattle.std.specs.Prelude.{IfOk, map}
+use Rattle.std.proofs.lemmas.Result.{IfOk-weaker}
+use Rattle.order_rules.specs.Findings.{judged_accesses}
+use Rattle.vector_clocks.specs.Marks.{before_in}
+use Rattle.log_replay.specs.declared.kept.RankRecord.{RankRecord}
+use Rattle.judged_points.specs.Alike.{AreAlike, judged_by, names_of}
+use Rattle.judged_points.specs.KeptPoints.{AllAscending, kept_accesses, with_points}
+use Rattle.judged_points.proofs.DoneParts.{IsJudgedRun}
+use Rattle.judged_points.proofs.KeptParts.{accesses_kept, records_ascend, steps_kept}
+use Rattle.judged_points.proofs.VisibleParts.{all_alike}
+use Rattle.judged_points.proofs.run_points.judged_points.Goals as goal
+
+pub all_points-requires : goal.all_points-requires
+all_points-requires c = subst (λ (records : List RankRecord). AllAscending records) (sym c.as_slice.ensures.value)
+    (records_ascend c.args.script.now c.args.run.now c.in_ok-records.records.items c.in_ok-records.ensures.ranks
+    c.requires.lawful.ranks c.in_ok-records.ensures.records)
+
+pub returns : goal.returns
+returns c =
+    let judged : IsJudgedRun c.args.script.now c.args.run.now (before_in c.args.clocks.now) = record {
+      formed = c.requires.formed;
+      lawful = c.requires.lawful;
+      order = c.requires.order;
+      arrivals = c.arrivals_stand_for_leaves.ensures.stand;
+      completes = c.completes_lead_to_first_waits.ensures.waits;
+      waits = c.completes_lead_to_first_waits.ensures.first;
+    } in
+    let alike = all_alike c.args.script.now c.args.run.now (before_in c.args.clocks.now) judged
+    c.in_ok-records.records.items
+    (steps_kept c.args.script.now c.args.run.now c.in_ok-records.records.items c.in_ok-records.ensures.ranks
+    c.requires.lawful.ranks c.in_ok-records.ensures.records) c.args.model
+    (kept_accesses c.in_ok-records.records.items)
+    (accesses_kept c.args.script.now c.args.run.now c.in_ok-records.records.items c.in_ok-records.ensures.ranks
+    c.in_ok-records.ensures.records) in
+    IfOk-weaker c.all_points.result
+    (λ list. map judged_by list.items
+    ≡ map (with_points c.args.script.now c.in_ok-records.records.items (before_in c.args.clocks.now) c.args.model)
+    (kept_accesses c.in_ok-records.records.items))
+    (λ list. AreAlike (before_in c.args.clocks.now) (names_of (map judged_by list.items)) (map judged_by list.items)
+    (judged_accesses c.args.script.now c.args.run.now c.args.model (before_in c.args.clocks.now)))
+    (λ list same. subst (λ accesses. AreAlike (before_in c.args.clocks.now) (names_of accesses) accesses
+    (judged_accesses c.args.script.now c.args.run.now c.args.model (before_in c.args.clocks.now))) (sym same) alike)
+    (subst (λ (records : List RankRecord). IfOk c.all_points.result (λ list. map judged_by list.items
+    ≡ map (with_points c.args.script.now records (before_in c.args.clocks.now) c.args.model) (kept_accesses records)))
+    c.as_slice.ensures.value c.all_points.ensures)

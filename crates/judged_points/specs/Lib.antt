@@ -1,0 +1,3 @@
+-- Accesses with their points.
+pub mod Alike
+pub mod KeptPoints
