@@ -15,7 +15,7 @@ use Rattle.order_rules.specs.Before.{NamedEvent, events_in, events_named, is_edg
 use Rattle.order_laws.proofs.Events.{AllFrom, IsEventAt, events_placed, from_in, get_in}
 use Rattle.order_laws.proofs.Members.{In, here, there, any_in, filter_in, in_any, in_filter, in_map, map_in}
 use Rattle.order_laws.proofs.Order.{edge_ascends}
-use Rattle.vector_clocks.proofs.Steps.{place_taken}
+use Rattle.placed_entries.proofs.Rows.{place_taken}
 use Rattle.judged_points.proofs.Stands.{both_ways}
 use Rattle.access_points.specs.Edges.{is_among, is_led_from, led_among}
 

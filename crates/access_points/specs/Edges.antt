@@ -13,8 +13,8 @@ use Rattle.kept_rows.specs.Gifts.{Front, Given, gained_by}
 use Rattle.kept_rows.specs.KeptCalls.{kept_row}
 use Rattle.lawful_runs.specs.Logs.{rows_of}
 use Rattle.order_rules.specs.Before.{NamedEvent, events_in, events_named, is_edge_between, is_same_id}
-use Rattle.vector_clocks.specs.Replays.{row_placed}
-use Rattle.vector_clocks.specs.declared.places.Placed.{Placed}
+use Rattle.placed_entries.specs.Rows.{row_placed}
+use Rattle.placed_entries.specs.declared.places.Placed.{Placed}
 
 -- ---- edges from one entry
 

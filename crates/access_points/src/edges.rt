@@ -1,26 +1,26 @@
 //! The entries to which an edge leads from one entry. All entries of a run are put to a board, and that one alone gives
 //! something: an edge leads to those that gain it.
-ghost use Rattle.std.specs.Prelude.{◌≡◌, ◌<◌, ◌++◌, [], ◌∷◌, map, is_some, length, slice_get, Some, IfOk, OnOk};
+ghost use Rattle.std.specs.Prelude.{◌≡◌, ◌<◌, ◌++◌, [], ◌∷◌, map, is_some, length, Some, IfOk, OnOk};
 ghost use Rattle.std.specs.Prelude.{if◌then◌else◌};
 ghost use Rattle.std.specs.Option.{option_map};
 ghost use Rattle.rma_types.specs.declared.schedules.Delay.TheVariants.{Seeded};
 ghost use Rattle.call_rules.specs.WellFormed.{IsWellFormed};
 ghost use Rattle.cell_face.specs.declared.fronts.Front.{Front as FrontValue};
 ghost use Rattle.lawful_runs.specs.LawfulRun.{IsLawful};
-ghost use Rattle.lawful_runs.specs.Logs.{calls_of, entries_of};
+ghost use Rattle.lawful_runs.specs.Logs.{entries_of};
 ghost use Rattle.order_rules.specs.Before.{events_in, is_same_id};
 ghost use Rattle.sync_board.specs.Boards.{MayAsk};
-ghost use Rattle.vector_clocks.specs.Places.{placed_item};
-ghost use Rattle.vector_clocks.specs.Replays.{row_placed};
-ghost use Rattle.vector_clocks.specs.Wide.{IsWide};
+ghost use Rattle.placed_entries.specs.Places.{placed_item};
+ghost use Rattle.placed_entries.specs.Rows.{row_placed};
+ghost use Rattle.placed_entries.specs.Wide.{IsWide};
 ghost use Rattle.access_points.specs.Edges.{IsPut, Replayed, led_among, mark_of};
 
 use cell_face::Front;
+use placed_entries::{Placed, call_at, entries_by_place, wide_layout};
 use rma_record::Run;
 use rma_types::{Call, Id, Items, NoMemory, Script};
 use std::alloc::Global;
 use sync_board::{Board, Decided};
-use vector_clocks::{Placed, entries_by_place, wide_layout};
 
 /// The two names are one.
 pub(crate) fn is_same(a: Id, b: Id) -> bool
@@ -65,19 +65,6 @@ fn enter(board: &mut Board<Front>, from: Id, one: Placed, call: &Call) -> Result
             seen: _,
             gift: _,
         } => Err(NoMemory),
-    }
-}
-
-/// The call of this number of a rank.
-fn call_at<'s>(script: &'s Script, rank: u8, number: u32) -> Result<&'s Call, NoMemory>
-    ensures { IfOk result (λ call. slice_get (calls_of script.now rank) number ≡ Some call.now) }
-{
-    match script.calls.get(rank as usize) {
-        Some(calls) => match calls.get(number as usize) {
-            Some(call) => Ok(call),
-            None => Err(NoMemory),
-        },
-        None => Err(NoMemory),
     }
 }
 

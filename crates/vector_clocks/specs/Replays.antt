@@ -17,7 +17,8 @@ use Rattle.order_rules.specs.Before.{events_in, is_edge_between}
 use Rattle.vector_clocks.specs.Marks.{marks_of, last_counts}
 use Rattle.vector_clocks.specs.Numbers.{raised, counts_of}
 use Rattle.vector_clocks.specs.declared.marks.Mark.{Mark}
-use Rattle.vector_clocks.specs.declared.places.Placed.{Placed}
+use Rattle.placed_entries.specs.Rows.{row_placed}
+use Rattle.placed_entries.specs.declared.places.Placed.{Placed}
 
 -- an entry that was replayed: the board's row, the entry with its clock, and the numbers that its rank gave with it
 pub record Told : Type 0 where
@@ -75,10 +76,6 @@ pub record Replayed (script : Script) (run : Run) (count : ℕ) (entries : List 
   pub marks : (rank : ℕ) → marks_of clocks rank ≡ marks_told rank told
 
 -- ---- one entry more
-
--- the board's row of an entry
-abbrev pub row_placed : Placed → Call → Row
-row_placed one call = record { rank = one.id.rank; number = one.call; call = call; step = one.step }
 
 -- An entry was put to the board and to the clocks of its rank: the numbers of its rank before it, with its own item,
 -- are what its rank gave, and its clock is these with what it gained.

@@ -7,9 +7,9 @@ ghost use Rattle.order_rules.specs.Before.{IsOrder};
 ghost use Rattle.vector_clocks.specs.Marks.{before_in};
 
 use crate::marks::Clocks;
-use crate::places::entries_by_place;
-use crate::replays::{no_marks, replay, wide_layout};
+use crate::replays::{no_marks, replay};
 use cell_face::Front;
+use placed_entries::{entries_by_place, wide_layout};
 use rma_record::Run;
 use rma_types::{NoMemory, Script};
 use std::alloc::Global;

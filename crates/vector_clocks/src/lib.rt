@@ -4,12 +4,9 @@
 mod clocks;
 mod firsts;
 mod marks;
-mod places;
 mod replays;
 #[cfg(test)]
 mod tests;
 
 pub use clocks::clocks_of;
 pub use marks::{Clocks, Mark};
-pub use places::{Placed, entries_by_place};
-pub use replays::wide_layout;

@@ -1,24 +1,25 @@
 //! The replay of a run's entries to a board, whose tokens are clocks.
-ghost use Rattle.std.specs.Prelude.{◌≡◌, ◌<◌, ◌≤◌, ◌++◌, [], ◌∷◌, length, map, replicate, slice_get, slice_set};
+ghost use Rattle.std.specs.Prelude.{◌≡◌, ◌<◌, ◌≤◌, ◌++◌, [], ◌∷◌, length, map, replicate, slice_set};
 ghost use Rattle.std.specs.Prelude.{Some, None, IfOk, OnOk};
 ghost use Rattle.std.specs.Option.{option_map};
 ghost use Rattle.cell_face.specs.declared.fronts.Front.{Front as FrontValue};
 ghost use Rattle.rma_types.specs.declared.schedules.Delay.TheVariants.{Seeded};
 ghost use Rattle.call_rules.specs.WellFormed.{IsWellFormed};
 ghost use Rattle.lawful_runs.specs.LawfulRun.{IsLawful};
-ghost use Rattle.lawful_runs.specs.Logs.{calls_of, entries_of};
+ghost use Rattle.lawful_runs.specs.Logs.{entries_of};
 ghost use Rattle.sync_board.specs.Boards.{MayAsk};
+ghost use Rattle.placed_entries.specs.Places.{placed_item};
+ghost use Rattle.placed_entries.specs.Rows.{row_placed};
+ghost use Rattle.placed_entries.specs.Wide.{IsWide};
 ghost use Rattle.vector_clocks.specs.Marks.{last_counts, marks_of};
 ghost use Rattle.vector_clocks.specs.Numbers.{counts_of, raised};
-ghost use Rattle.vector_clocks.specs.Places.{placed_item};
-ghost use Rattle.vector_clocks.specs.Replays.{IsPut, Replayed, row_placed};
-ghost use Rattle.vector_clocks.specs.Wide.{IsWide};
+ghost use Rattle.vector_clocks.specs.Replays.{IsPut, Replayed};
 
 use crate::marks::Mark;
-use crate::places::Placed;
 use cell_face::{Front, Token};
+use placed_entries::{Placed, call_at};
 use rma_record::Run;
-use rma_types::{Call, CallBase, Items, Layout, MemoryPart, NoMemory, Script};
+use rma_types::{Call, Items, NoMemory, Script};
 use std::alloc::Global;
 use sync_board::{Board, Decided};
 
@@ -112,40 +113,6 @@ fn enter(
             gift: _,
         } => Err(NoMemory),
     }
-}
-
-/// The call of this number of a rank.
-fn call_at<'s>(script: &'s Script, rank: u8, number: u32) -> Result<&'s Call, NoMemory>
-    ensures { IfOk result (λ call. slice_get (calls_of script.now rank) number ≡ Some call.now) }
-{
-    match script.calls.get(rank as usize) {
-        Some(calls) => match calls.get(number as usize) {
-            Some(call) => Ok(call),
-            None => Err(NoMemory),
-        },
-        None => Err(NoMemory),
-    }
-}
-
-/// A layout in which each range of a run lies: the order of a run does not depend on where its memory is.
-pub fn wide_layout(alloc: Global, ranks: u8) -> Result<Layout, NoMemory>
-    ensures { IfOk result (λ layout. IsWide ranks layout) }
-{
-    let mut parts: Items<MemoryPart> = Items::new(alloc);
-    let mut bases: Items<Items<CallBase>> = Items::new(alloc);
-    for _ in 0..ranks {
-        let part = MemoryPart {
-            first_cell: 0,
-            bytes: 65536,
-        };
-        let Ok(()) = parts.push(part) else {
-            return Err(NoMemory);
-        };
-        let Ok(()) = bases.push(Items::new(alloc)) else {
-            return Err(NoMemory);
-        };
-    }
-    Ok(Layout { parts, bases })
 }
 
 /// A list of marks for each of 16 ranks, all empty.

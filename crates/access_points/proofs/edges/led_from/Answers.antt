@@ -2,7 +2,7 @@
 use Rattle.std.proofs.Common.{ap, ◌∙◌}
 use Rattle.rma_types.specs.declared.schedules.Delay.TheVariants.{Seeded}
 use Rattle.sync_board.specs.Boards.{BoardState}
-use Rattle.vector_clocks.proofs.Entered.{order_is}
+use Rattle.placed_entries.proofs.Placings.{order_is}
 use Rattle.access_points.proofs.Replaying.{all_led, none_yet}
 use Rattle.access_points.proofs.edges.led_from.Goals as goal
 

@@ -1,10 +1,10 @@
 -- Each entry of the run may be asked, and is put.
 use Rattle.std.proofs.Common.{sym, subst, ◌∙◌}
 use Rattle.rma_types.specs.declared.schedules.Delay.TheVariants.{Seeded}
-use Rattle.vector_clocks.specs.Places.{no_entry}
-use Rattle.vector_clocks.specs.Wide.{IsWide}
-use Rattle.vector_clocks.proofs.Entered.{may_ask_at}
-use Rattle.vector_clocks.proofs.Mays.{few_calls}
+use Rattle.placed_entries.specs.Places.{no_entry}
+use Rattle.placed_entries.specs.Wide.{IsWide}
+use Rattle.placed_entries.proofs.Placings.{may_ask_at}
+use Rattle.placed_entries.proofs.Mays.{few_calls}
 use Rattle.access_points.proofs.Replaying.{put_at}
 use Rattle.access_points.proofs.edges.replay.Goals as goal
 

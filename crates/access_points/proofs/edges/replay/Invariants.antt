@@ -1,5 +1,5 @@
 use Rattle.std.proofs.Common.{◌≡◌, []}
-use Rattle.vector_clocks.specs.Wide.{IsWide}
+use Rattle.placed_entries.specs.Wide.{IsWide}
 use Rattle.access_points.specs.Edges.{Replayed}
 use Rattle.access_points.proofs.edges.replay.Given as goal
 

@@ -5,7 +5,8 @@ use Rattle.order_rules.specs.Before.{IsOrder}
 use Rattle.vector_clocks.specs.Marks.{AreSorted, before_in}
 use Rattle.rma_types.specs.declared.schedules.Delay.TheVariants.{Seeded}
 use Rattle.sync_board.specs.Boards.{BoardState}
-use Rattle.vector_clocks.proofs.Entered.{order_is, first_replayed, clocks_decide_order}
+use Rattle.placed_entries.proofs.Placings.{order_is}
+use Rattle.vector_clocks.proofs.Entered.{first_replayed, clocks_decide_order}
 use Rattle.vector_clocks.proofs.Replaying.{sorted_clocks}
 use Rattle.vector_clocks.proofs.clocks.clocks_of.Goals as goal
 

@@ -1,10 +1,11 @@
 -- Each entry of the run may be asked, and is replayed.
 use Rattle.std.proofs.Common.{sym, subst, ◌∙◌}
 use Rattle.rma_types.specs.declared.schedules.Delay.TheVariants.{Seeded}
-use Rattle.vector_clocks.specs.Places.{no_entry}
-use Rattle.vector_clocks.specs.Wide.{IsWide}
-use Rattle.vector_clocks.proofs.Entered.{may_ask_at, put_at}
-use Rattle.vector_clocks.proofs.Mays.{few_calls}
+use Rattle.placed_entries.specs.Places.{no_entry}
+use Rattle.placed_entries.specs.Wide.{IsWide}
+use Rattle.placed_entries.proofs.Placings.{may_ask_at}
+use Rattle.vector_clocks.proofs.Entered.{put_at}
+use Rattle.placed_entries.proofs.Mays.{few_calls}
 use Rattle.vector_clocks.proofs.replays.replay.Goals as goal
 
 pub enter-requires-clause-asked : goal.enter-requires-clause-asked

@@ -1,6 +1,6 @@
 use Rattle.std.proofs.Common.{◌≡◌, [], length}
 use Rattle.vector_clocks.specs.Replays.{Replayed}
-use Rattle.vector_clocks.specs.Wide.{IsWide}
+use Rattle.placed_entries.specs.Wide.{IsWide}
 use Rattle.vector_clocks.proofs.replays.replay.Given as goal
 
 abbrev pub invariant-loop-at : goal.invariant-loop-at

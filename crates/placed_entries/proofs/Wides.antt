@@ -7,7 +7,7 @@ use Rattle.std.specs.Option.{option_map_or}
 use Rattle.std.proofs.lemmas.List.{length-replicate, replicate-append-replicate}
 use Rattle.rma_types.specs.declared.scripts.CallBase.{CallBase}
 use Rattle.rma_types.specs.declared.scripts.MemoryPart.{MemoryPart}
-use Rattle.vector_clocks.specs.Wide.{IsWide}
+use Rattle.placed_entries.specs.Wide.{IsWide}
 
 -- the part of memory that each rank has
 abbrev pub whole_part : MemoryPart

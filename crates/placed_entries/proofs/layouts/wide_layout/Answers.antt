@@ -1,8 +1,8 @@
 -- A part and a list more at each turn.
 use Rattle.std.proofs.Common.{◌++◌, [], ◌∷◌, List, replicate, ap, ◌∙◌, arith}
 use Rattle.rma_types.specs.declared.scripts.CallBase.{CallBase}
-use Rattle.vector_clocks.proofs.Wides.{one_more_of, whole_part, wide_by}
-use Rattle.vector_clocks.proofs.replays.wide_layout.Goals as goal
+use Rattle.placed_entries.proofs.Wides.{one_more_of, whole_part, wide_by}
+use Rattle.placed_entries.proofs.layouts.wide_layout.Goals as goal
 
 pub loop-init : goal.loop-init
 loop-init c = record { parts = c.new-parts.ensures; bases = c.new-bases.ensures }

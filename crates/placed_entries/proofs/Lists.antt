@@ -6,8 +6,8 @@ use Rattle.std.proofs.lemmas.List.Sums.{sum_by-append, sum_by-cons}
 use Rattle.rma_record.specs.declared.items.Item.{Item}
 use Rattle.lawful_runs.specs.Items.{is_entry}
 use Rattle.lawful_runs.specs.Logs.{Named, named_in, named_logs}
-use Rattle.vector_clocks.specs.Places.{with_item, with_items, entries_in}
-use Rattle.vector_clocks.specs.declared.places.Placed.{Placed}
+use Rattle.placed_entries.specs.Places.{with_item, with_items, entries_in}
+use Rattle.placed_entries.specs.declared.places.Placed.{Placed}
 
 pub with_append : (list : List Placed) (xs ys : List Named) → with_items list (xs ++ ys)
     ≡ with_items (with_items list xs) ys

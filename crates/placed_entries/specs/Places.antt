@@ -8,7 +8,7 @@ use Rattle.rma_record.specs.declared.items.Item.TheVariants.{Issue, Null, Touch,
 use Rattle.rma_record.specs.declared.items.Item.TheVariants.{Ended}
 use Rattle.lawful_runs.specs.Items.{is_entry}
 use Rattle.lawful_runs.specs.Logs.{Named}
-use Rattle.vector_clocks.specs.declared.places.Placed.{Placed}
+use Rattle.placed_entries.specs.declared.places.Placed.{Placed}
 
 -- an entry as it stands in a log
 abbrev pub placed_item : Placed → Named

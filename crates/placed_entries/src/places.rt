@@ -2,11 +2,11 @@
 ghost use Rattle.std.specs.Prelude.{◌≡◌, ◌<◌, ◌≤◌, length, replicate, slice_get, Some, IfOk, OnOk};
 ghost use Rattle.std.specs.List.{count_by};
 ghost use Rattle.lawful_runs.specs.Items.{is_entry};
-ghost use Rattle.lawful_runs.specs.Logs.{named_in, named_logs};
-ghost use Rattle.vector_clocks.specs.Places.{entries_in, no_entry, with_item, with_items};
+ghost use Rattle.lawful_runs.specs.Logs.{calls_of, named_in, named_logs};
+ghost use Rattle.placed_entries.specs.Places.{entries_in, no_entry, with_item, with_items};
 
 use rma_record::{Item, Logs};
-use rma_types::{Id, NoMemory, Step};
+use rma_types::{Call, Id, NoMemory, Script, Step};
 use std::alloc::Global;
 
 /// An entry of the board as it stands in a log: its name, the number of its call, its place and its step.
@@ -123,4 +123,17 @@ pub fn entries_by_place(alloc: Global, logs: &Logs) -> Result<Vec<Placed>, NoMem
     };
     put_logs(list.as_mut_slice(), logs)?;
     Ok(list)
+}
+
+/// The call of this number of a rank.
+pub fn call_at<'s>(script: &'s Script, rank: u8, number: u32) -> Result<&'s Call, NoMemory>
+    ensures { IfOk result (λ call. slice_get (calls_of script.now rank) number ≡ Some call.now) }
+{
+    match script.calls.get(rank as usize) {
+        Some(calls) => match calls.get(number as usize) {
+            Some(call) => Ok(call),
+            None => Err(NoMemory),
+        },
+        None => Err(NoMemory),
+    }
 }

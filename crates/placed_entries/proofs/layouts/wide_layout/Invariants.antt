@@ -1,6 +1,6 @@
 use Rattle.std.proofs.Common.{◌≡◌, [], replicate}
-use Rattle.vector_clocks.proofs.Wides.{whole_part}
-use Rattle.vector_clocks.proofs.replays.wide_layout.Given as goal
+use Rattle.placed_entries.proofs.Wides.{whole_part}
+use Rattle.placed_entries.proofs.layouts.wide_layout.Given as goal
 
 abbrev pub invariant-loop : goal.invariant-loop
 invariant-loop l = record {

@@ -16,8 +16,8 @@ use Rattle.rma_record.specs.declared.runs.Run.{Run}
 use Rattle.call_rules.specs.Pieces.{numbers_from}
 use Rattle.lawful_runs.specs.BoardLaw.{HasEntries}
 use Rattle.lawful_runs.specs.Logs.{Named, named_items, is_named_entry_at, is_some_entry, entry_at, entries_of}
-use Rattle.vector_clocks.specs.Places.{placed_item, with_item, with_items, no_entry}
-use Rattle.vector_clocks.specs.declared.places.Placed.{Placed}
+use Rattle.placed_entries.specs.Places.{placed_item, with_item, with_items, no_entry}
+use Rattle.placed_entries.specs.declared.places.Placed.{Placed}
 
 set_long : (list : List Placed) (k : ℕ) (one : Placed) → length (slice_set list k one) ≡ length list
 set_long [] k one = refl

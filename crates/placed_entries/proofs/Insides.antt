@@ -13,8 +13,8 @@ use Rattle.call_rules.specs.WellFormed.{IsWrittenAction}
 use Rattle.rank_rules.specs.Windows.{RankWindows}
 use Rattle.rank_rules.specs.WindowTests.{window_class}
 use Rattle.sync_board.specs.Boards.{BringsInside}
-use Rattle.vector_clocks.specs.Wide.{IsWide}
-use Rattle.vector_clocks.proofs.Asks.{at_most, creation_is_inside, attach_is_inside}
+use Rattle.placed_entries.specs.Wide.{IsWide}
+use Rattle.placed_entries.proofs.Asks.{at_most, creation_is_inside, attach_is_inside}
 
 pub inside : (ranks : ℕ) (layout : Layout) → IsWide ranks layout → (rank number : ℕ) → rank < ranks →
     (known : RankWindows) → known.space ≤ 65536 →

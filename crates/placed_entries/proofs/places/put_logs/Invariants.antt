@@ -1,8 +1,8 @@
 use Rattle.std.proofs.Common.{◌≡◌}
 use Rattle.std.specs.Prelude.{drop}
 use Rattle.lawful_runs.specs.Logs.{named_logs}
-use Rattle.vector_clocks.specs.Places.{with_items}
-use Rattle.vector_clocks.proofs.places.put_logs.Given as goal
+use Rattle.placed_entries.specs.Places.{with_items}
+use Rattle.placed_entries.proofs.places.put_logs.Given as goal
 
 -- what is left is put after what was
 abbrev pub invariant-loop-at : goal.invariant-loop-at

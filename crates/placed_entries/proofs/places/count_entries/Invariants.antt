@@ -2,7 +2,7 @@ use Rattle.std.proofs.Common.{◌≡◌, ◌≤◌}
 use Rattle.std.specs.Prelude.{take}
 use Rattle.std.specs.List.{count_by}
 use Rattle.lawful_runs.specs.Items.{is_entry}
-use Rattle.vector_clocks.proofs.places.count_entries.Given as goal
+use Rattle.placed_entries.proofs.places.count_entries.Given as goal
 
 abbrev pub invariant-loop-item : goal.invariant-loop-item
 invariant-loop-item l = record {

@@ -24,12 +24,12 @@ use Rattle.lawful_runs.specs.Stages.{known_at}
 use Rattle.order_laws.proofs.Events.{from_in, each_in, get_in, entries_placed, IsEntryOf}
 use Rattle.order_laws.proofs.Members.{In, in_filter, contains_in}
 use Rattle.sync_board.specs.Boards.{MayAsk, NamesRanks, is_step_of}
-use Rattle.vector_clocks.specs.Places.{placed_item}
-use Rattle.vector_clocks.specs.Wide.{IsWide}
-use Rattle.vector_clocks.specs.declared.places.Placed.{Placed}
-use Rattle.vector_clocks.proofs.Asks.{windows_allow, epochs_allow, names_ranks, known_stays}
-use Rattle.vector_clocks.proofs.Insides.{inside}
-use Rattle.vector_clocks.proofs.Judged.{each_judged}
+use Rattle.placed_entries.specs.Places.{placed_item}
+use Rattle.placed_entries.specs.Wide.{IsWide}
+use Rattle.placed_entries.specs.declared.places.Placed.{Placed}
+use Rattle.placed_entries.proofs.Asks.{windows_allow, epochs_allow, names_ranks, known_stays}
+use Rattle.placed_entries.proofs.Insides.{inside}
+use Rattle.placed_entries.proofs.Judged.{each_judged}
 
 at_index : {X : Type 0} (P : X → Type 0) (xs : List X) (k : ℕ) (d : X) → AllByRecursion P xs → P d →
     P (slice_index_or xs k d)
