@@ -20,6 +20,8 @@ mod round_tests;
 mod row_tests;
 mod sequences;
 mod steps;
+#[cfg(test)]
+mod test_calls;
 mod windows;
 mod written;
 

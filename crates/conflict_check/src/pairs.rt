@@ -8,9 +8,9 @@ ghost use Rattle.vector_clocks.specs.Marks.{before_in};
 ghost use Rattle.judged_points.specs.Alike.{judged_by};
 ghost use Rattle.conflict_check.specs.Reached.{AreGroups, AreSeen, IsReached, IsSeen};
 
-use judged_points::JudgedPoints;
 use crate::reaches::{Reached, Seen, comes_first, comes_last, seen_by, with_reach};
 use crate::standing::may_stand;
+use judged_points::JudgedPoints;
 use rma_rules::forbidden_kind;
 use rma_types::{Finding, Items, Model, NoMemory, Rule};
 use std::alloc::Global;
