@@ -19,7 +19,7 @@ use Rattle.order_rules.specs.CallSteps.{CallStep, IssuedAccess, accesses_in, acc
 use Rattle.order_rules.specs.CallSteps.{is_step_on, steps_in, steps_of_item}
 use Rattle.order_rules.specs.DonePoints.{arrives_at_fence, completes_start, done_points, follows_next}
 use Rattle.order_rules.specs.DonePoints.{ids_of, is_done_at, is_done_by_epoch, next_step, timeline_of}
-use Rattle.order_rules.specs.Findings.{judged}
+use Rattle.order_rules.specs.Findings.{judged_access}
 use Rattle.order_rules.specs.Ordered.{JudgedAccess}
 use Rattle.order_rules.specs.Roles.{is_rma_read, role_of}
 use Rattle.order_rules.specs.VisiblePoints.{is_given_out_at, is_taken_in_at, takes_in}
@@ -242,7 +242,7 @@ module _ (script : Script) (run : Run) (records : List RankRecord) (recorded : I
         ≡ option_map_or (λ (a : IssuedAccess). a ∷ []) (find has_name (accesses_in script run)) []
     once = named_once (λ (a : IssuedAccess). a.id) id (accesses_in script run)
         (pairs_unmapped (λ (a b : JudgedAccess). IsSmaller a.id b.id)
-        (judged Separate (λ c d. false) (timeline_of script run)) (accesses_in script run)
+        (judged_access Separate (λ c d. false) (timeline_of script run)) (accesses_in script run)
         (ascend script run Separate (λ c d. false)))
 
     module _ (f : IssuedAccess → List Id) where

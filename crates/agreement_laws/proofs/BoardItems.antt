@@ -16,8 +16,9 @@ use Rattle.lawful_runs.specs.Items.{is_touch, is_entry}
 use Rattle.lawful_runs.specs.Stages.{Stage}
 use Rattle.rank_rules.specs.Courses.{Course, OneNull, OneIssue, LookUpAndIssue, OneFlush, OneRequest, ArriveAndLeave}
 use Rattle.rank_rules.specs.Courses.{EntryOrTested, OneEntry, course_of}
-use Rattle.step_runs.specs.Agents.{Agent, finished, opened, next_call}
-use Rattle.step_runs.specs.BoardSteps.{AtBoard, next_row, waiting, entered, enter_by, test_by, leave, leave_if_entered}
+use Rattle.step_runs.specs.Agents.{Agent, end_call, enter_call, next_call}
+use Rattle.step_runs.specs.BoardSteps.{AtBoard, next_row, stay_waiting, put_entry, enter_by, test_by, leave}
+use Rattle.step_runs.specs.BoardSteps.{leave_if_entered}
 use Rattle.step_runs.specs.BoardSteps.{first_entry, entry_of, board_step}
 
 -- the items of a step at the board, the first entry of which has this place, and the rows that it puts
@@ -38,7 +39,7 @@ pub record Adds (agent : Agent) (rows : List Row) (step : AtBoard) : Type 0 wher
   pub are : AreItemsOfRows (length rows) items more
   pub mine : step.agent.rank ≡ agent.rank
 
-adds_none : (agent : Agent) (rows : List Row) → Adds agent rows (waiting agent rows)
+adds_none : (agent : Agent) (rows : List Row) → Adds agent rows (stay_waiting agent rows)
 adds_none agent rows = record {
   items = [];
   more = [];
@@ -49,7 +50,7 @@ adds_none agent rows = record {
 }
 
 adds_finished : (stage : Stage) (agent : Agent) (rows : List Row) (call : Call) (step : Step) →
-    Adds agent rows (entered stage agent rows call step finished)
+    Adds agent rows (put_entry stage agent rows call step end_call)
 adds_finished stage agent rows call step = record {
   items = Entry agent.at (length rows) step ∷ [];
   more = next_row agent call step ∷ [];
@@ -60,7 +61,7 @@ adds_finished stage agent rows call step = record {
 }
 
 adds_opened : (stage : Stage) (agent : Agent) (rows : List Row) (call : Call) (step : Step) →
-    Adds agent rows (entered stage agent rows call step opened)
+    Adds agent rows (put_entry stage agent rows call step enter_call)
 adds_opened stage agent rows call step = record {
   items = Entry agent.at (length rows) step ∷ [];
   more = next_row agent call step ∷ [];
@@ -71,7 +72,7 @@ adds_opened stage agent rows call step = record {
 }
 
 finishes : (d : Decision) (stage : Stage) (agent : Agent) (rows : List Row) (call : Call) (step : Step) →
-    Adds agent rows (enter_by d stage agent rows call step finished)
+    Adds agent rows (enter_by d stage agent rows call step end_call)
 finishes (Refuse class) stage agent rows call step = record {
   items = Refused agent.at class (length rows) ∷ [];
   more = [];
@@ -84,7 +85,7 @@ finishes Allow stage agent rows call step = adds_finished stage agent rows call 
 finishes NotYet stage agent rows call step = adds_none agent rows
 
 opens : (d : Decision) (stage : Stage) (agent : Agent) (rows : List Row) (call : Call) (step : Step) →
-    Adds agent rows (enter_by d stage agent rows call step opened)
+    Adds agent rows (enter_by d stage agent rows call step enter_call)
 opens (Refuse class) stage agent rows call step = record {
   items = Refused agent.at class (length rows) ∷ [];
   more = [];
@@ -119,8 +120,8 @@ tests NotYet stage agent rows call = record {
 -- the Leave after an Arrive in one step; it is never refused
 leaves : (d : Decision) (stage : Stage) (agent : Agent) (rows : List Row) (call : Call) →
     ((class : Class) → d ≡ Refuse class → ⊥) →
-    (let arrived = entered stage agent rows call Arrive opened in
-    Adds agent rows (enter_by d stage arrived.agent arrived.rows call Leave finished))
+    (let arrived = put_entry stage agent rows call Arrive enter_call in
+    Adds agent rows (enter_by d stage arrived.agent arrived.rows call Leave end_call))
 leaves (Refuse class) stage agent rows call never = absurd (never class refl)
 leaves Allow stage agent rows call never = record {
   items = Entry agent.at (length rows) Arrive ∷ Entry agent.at
@@ -148,15 +149,15 @@ leave_or_wait true class e = cc e
 leave_or_wait false class e = cc e
 
 arrives : (d : Decision) (stage : Stage) (agent : Agent) (rows : List Row) (call : Call) → agent.entered ≡ false →
-    Adds agent rows (leave_if_entered stage call (enter_by d stage agent rows call Arrive opened))
+    Adds agent rows (leave_if_entered stage call (enter_by d stage agent rows call Arrive enter_call))
 arrives (Refuse class) stage agent rows call new = opens (Refuse class) stage agent rows call Arrive
 arrives Allow stage agent rows call new =
-    let arrived = entered stage agent rows call Arrive opened in
+    let arrived = put_entry stage agent rows call Arrive enter_call in
     leaves (decide stage.script.ranks arrived.rows (next_row arrived.agent call Leave)) stage agent rows call
     (λ class e. leave_or_wait
     (all_arrived (question stage.script.ranks arrived.rows (next_row arrived.agent call Leave))) class e)
 arrives NotYet stage agent rows call new =
-    subst (λ b. Adds agent rows (cond b (leave stage agent rows call) (waiting agent rows))) (sym new)
+    subst (λ b. Adds agent rows (cond b (leave stage agent rows call) (stay_waiting agent rows))) (sym new)
     (adds_none agent rows)
 
 first_adds : (course : Course) (stage : Stage) (agent : Agent) (rows : List Row) (call : Call) → agent.entered ≡ false →
@@ -189,6 +190,7 @@ entry_adds stage agent rows call = by_entered agent.entered refl
 pub board_adds : (stage : Stage) (agent : Agent) (rows : List Row) → Adds agent rows (board_step stage agent rows)
 board_adds stage agent rows = by_call (next_call stage agent)
   where
-    by_call : (o : Option Call) → Adds agent rows (option_map_or (entry_of stage agent rows) o (waiting agent rows))
+    by_call : (o : Option Call) → Adds agent rows
+        (option_map_or (entry_of stage agent rows) o (stay_waiting agent rows))
     by_call None = adds_none agent rows
     by_call (Some call) = entry_adds stage agent rows call

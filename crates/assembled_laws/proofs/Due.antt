@@ -17,11 +17,11 @@ use Rattle.assembled_laws.proofs.NextItems.{next_after_none, next_stays, next_wi
 use Rattle.board_rules.specs.Entries.{Row}
 use Rattle.call_rules.specs.Pieces.{numbers_from}
 use Rattle.lawful_runs.specs.Accesses.{issued_at}
-use Rattle.lawful_runs.specs.DelayLaw.{is_unfinished, pending_at, next_untouched, leads_to, is_due_at, is_due}
+use Rattle.lawful_runs.specs.DelayLaw.{is_unfinished, pending_at, next_untouched, gives_way_to, is_due_at, is_due}
 use Rattle.lawful_runs.specs.DelayLaw.{is_remote}
 use Rattle.lawful_runs.specs.Items.{is_touch}
 use Rattle.lawful_runs.specs.Stages.{Stage, RankOfRun, calls_here}
-use Rattle.lawful_runs.specs.TouchLaw.{issued_in, is_local, is_awaiting, issue_of, issues_touched}
+use Rattle.lawful_runs.specs.TouchLaw.{issued_in, is_local, is_awaiting, issue_touched, issues_touched}
 use Rattle.rank_laws.proofs.Awaiting.{rank_of}
 use Rattle.rank_laws.proofs.Lists.{each_back, each_at, each_drop, place_in, get_front, get_rest}
 use Rattle.rank_laws.proofs.Touching.{IsTouchOf, issued_front, issued_before_touches}
@@ -35,7 +35,7 @@ use Rattle.rank_rules.specs.declared.pending.PendingAccess.{PendingAccess}
 abbrev is_owed : RankOfRun → List Item → Option Item → List PendingAccess → ℕ → Bool
 is_owed here before o pending issue = list_any (λ at. option_map_or
     (λ (one : PendingAccess). option_map_or (is_awaiting here before one) o false
-    && (one.index == issue || leads_to pending at issue)) (slice_get pending at) false)
+    && (one.index == issue || gives_way_to pending at issue)) (slice_get pending at) false)
     (numbers_from 0 (length pending))
 
 -- each touch of an RMA access is due, whatever the entries
@@ -56,7 +56,7 @@ pub record IsOwed (stage : Stage) (rank : ℕ) (log : List Item) (next : Option 
   pub at : ℕ
   pub one : PendingAccess
   pub there : slice_get (pending_at (rank_of stage rank []) log index) at ≡ Some one
-  pub leads : (one.index == issue || leads_to (pending_at (rank_of stage rank []) log index) at issue) ≡ true
+  pub leads : (one.index == issue || gives_way_to (pending_at (rank_of stage rank []) log index) at issue) ≡ true
   pub waits : WaitsNext next entered known one
 
 -- each touch of an RMA access that no other item follows is owed
@@ -74,9 +74,10 @@ touched_issue : (P : ℕ → Type 0) (log : List Item) (index issue element cell
 touched_issue P [] index issue element cell place bits e all = absurd (cc e)
 touched_issue P (item ∷ log) zero issue element cell place bits e all =
     let same : item ≡ Touch issue element cell place bits = cc e in
-    (subst (λ (i : Item). AllByRecursion P (issue_of i ++ issues_touched log)) same all).0
+    (subst (λ (i : Item). AllByRecursion P (issue_touched i ++ issues_touched log)) same all).0
 touched_issue P (item ∷ log) (suc index) issue element cell place bits e all =
-    touched_issue P log index issue element cell place bits e (each_back P (issue_of item) (issues_touched log) all)
+    touched_issue P log index issue element cell place bits e
+    (each_back P (issue_touched item) (issues_touched log) all)
 
 remote_front : (here : RankOfRun) (log more : List Item) (issue : ℕ) → issue < length log →
     is_remote here (log ++ more) issue ≡ is_remote here log issue
@@ -152,14 +153,14 @@ any_at_number test first (suc count) n e low high = elim (eqb_tells n first) [
 -- the item for which a touch is owed pays for it
 owed_is_due : (here : RankOfRun) (log : List Item) (item : Item) (pending : List PendingAccess) (at issue : ℕ)
     (one : PendingAccess) → slice_get pending at ≡ Some one →
-    (one.index == issue || leads_to pending at issue) ≡ true → is_awaiting here log one item ≡ true →
+    (one.index == issue || gives_way_to pending at issue) ≡ true → is_awaiting here log one item ≡ true →
     is_owed here log (Some item) pending issue ≡ true
 owed_is_due here log item pending at issue one there leads waits =
     any_at_number (λ n. option_map_or (λ (x : PendingAccess). is_awaiting here log x item
-    && (x.index == issue || leads_to pending n issue)) (slice_get pending n) false) 0 (length pending) at
+    && (x.index == issue || gives_way_to pending n issue)) (slice_get pending n) false) 0 (length pending) at
     (ap (λ (o : Option PendingAccess). option_map_or (λ (x : PendingAccess). is_awaiting here log x item
-    && (x.index == issue || leads_to pending at issue)) o false) there
-    ∙ ap (λ b. b && (one.index == issue || leads_to pending at issue)) waits ∙ leads)
+    && (x.index == issue || gives_way_to pending at issue)) o false) there
+    ∙ ap (λ b. b && (one.index == issue || gives_way_to pending at issue)) waits ∙ leads)
     (omega arith) (let less = slice_get_within pending at one there in omega arith)
 
 -- ---- one more item that is no touch
@@ -296,7 +297,7 @@ owed_touches stage rank of log items next entered known own owed new index issue
           at = is.at;
           one = is.one;
           there = ap (λ (pending : List PendingAccess). slice_get pending is.at) same ∙ is.there;
-          leads = ap (λ (pending : List PendingAccess). is.one.index == issue || leads_to pending is.at issue) same
+          leads = ap (λ (pending : List PendingAccess). is.one.index == issue || gives_way_to pending is.at issue) same
               ∙ is.leads;
           waits = is.waits;
         }

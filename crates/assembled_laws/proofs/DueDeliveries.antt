@@ -20,7 +20,7 @@ use Rattle.assembled_laws.proofs.Unfinished.{HasElements, pending_between}
 use Rattle.call_rules.specs.Actions.{Transfer}
 use Rattle.call_rules.specs.Pieces.{pieces}
 use Rattle.lawful_runs.specs.Accesses.{transfer_at, issued_by}
-use Rattle.lawful_runs.specs.DelayLaw.{pending_at, leads_to, is_unfinished, is_remote}
+use Rattle.lawful_runs.specs.DelayLaw.{pending_at, gives_way_to, is_unfinished, is_remote}
 use Rattle.lawful_runs.specs.Stages.{Stage, calls_at}
 use Rattle.lawful_runs.specs.TouchLaw.{issued_in, is_local}
 use Rattle.rank_laws.proofs.Awaiting.{rank_of}
@@ -104,8 +104,8 @@ owed_by stage agent at one log index end there same (IsAwaited call here new pas
       one = x;
       there = ap (λ (pending : List PendingAccess). slice_get pending found.0) same
           ∙ slice_get-get_or agent.pending found.0 one first.0;
-      leads = ap (λ (pending : List PendingAccess). x.index == one.index || leads_to pending found.0 one.index) same
-          ∙ or_second (x.index == one.index) (leads_to agent.pending found.0 one.index)
+      leads = ap (λ (pending : List PendingAccess). x.index == one.index || gives_way_to pending found.0 one.index) same
+          ∙ or_second (x.index == one.index) (gives_way_to agent.pending found.0 one.index)
           (ap (λ n. option_map_or (λ (y : PendingAccess). y.index == one.index) (slice_get agent.pending n) false)
           found.2
           ∙ ap (λ (o : Option PendingAccess). option_map_or (λ (y : PendingAccess). y.index == one.index) o false) there
@@ -117,7 +117,7 @@ owed_by stage agent at one log index end there same (IsAtEnd none zeroth) = reco
   one = one;
   there = ap (λ (pending : List PendingAccess). slice_get pending at) same ∙ there;
   leads = or_first (one.index == one.index)
-      (leads_to (pending_at (rank_of stage agent.rank []) log index) at one.index)
+      (gives_way_to (pending_at (rank_of stage agent.rank []) log index) at one.index)
       (eq-eqb one.index one.index refl);
   waits = ForEnd none;
 }

@@ -17,13 +17,13 @@ use Rattle.rank_laws.proofs.Lists.{each_append}
 use Rattle.rank_laws.proofs.Moves.{Point, course_at, Move, move_weaker, Learns, Rises, Ends, RefusesAlone, IsRefused}
 use Rattle.rank_laws.proofs.Moves.{Tests, Passes, Enters, Issues, IssuesWhole, Draws, Delivers}
 use Rattle.rank_laws.proofs.TouchMoves.{plain_by_course}
-use Rattle.step_runs.specs.Agents.{Agent, next_call, kept}
+use Rattle.step_runs.specs.Agents.{Agent, next_call, keep_item}
 use Rattle.step_runs.specs.BoardSteps.{next_row}
 use Rattle.step_runs.specs.DataSteps.{no_shapes}
 
 -- the rank ends
 ends_due : (stage : Stage) (agent : Agent) → KeepsAwaited stage agent → HasDue stage agent →
-    HasDue stage (record (kept no_shapes stage agent Ended) { ended = true })
+    HasDue stage (record (keep_item no_shapes stage agent Ended) { ended = true })
 ends_due stage agent awaited h =
     let more = pushed stage agent Ended (next_call stage agent) agent.entered agent.known awaited h refl
     (λ rows one waits. refl) in record {

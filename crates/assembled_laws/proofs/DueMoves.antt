@@ -32,7 +32,7 @@ use Rattle.rank_rules.specs.Courses.{EntryOrTested, OneEntry}
 use Rattle.rank_rules.specs.Knowledge.{Knowledge, own_class}
 use Rattle.rank_rules.specs.Pending.{must_wait}
 use Rattle.rank_rules.specs.Requests.{Requests}
-use Rattle.step_runs.specs.Agents.{Agent, next_call, kept, finished, opened}
+use Rattle.step_runs.specs.Agents.{Agent, next_call, keep_item, end_call, enter_call}
 
 -- ---- ranks
 
@@ -167,9 +167,9 @@ pushed stage agent item next entered known awaited h plain pays = (
 pub ending : (stage : Stage) (agent : Agent) (shapes : ℕ → List Part) (item : Item) → KeepsAwaited stage agent →
     HasDue stage agent → is_touch item ≡ false → number_in item ≡ Some agent.at →
     Pays stage agent.rank agent.log (next_call stage agent) agent.entered agent.known item →
-    HasDue stage (finished (kept shapes stage agent item))
+    HasDue stage (end_call (keep_item shapes stage agent item))
 ending stage agent shapes item awaited h plain number pays =
-    let next = finished (kept shapes stage agent item) in
+    let next = end_call (keep_item shapes stage agent item) in
     let all = begun_push agent.at agent.log item h.begun number in
     let more = pushed stage agent item (next_call stage next) next.entered next.known awaited h plain pays in record {
       begun = all_later (agent.at + 1) (agent.at + 1 + 1) (omega arith) (agent.log ++ item ∷ []) all;
@@ -183,9 +183,9 @@ ending stage agent shapes item awaited h plain number pays =
 opening : (stage : Stage) (agent : Agent) (shapes : ℕ → List Part) (item : Item) → KeepsAwaited stage agent →
     HasDue stage agent → is_touch item ≡ false → number_in item ≡ Some agent.at →
     Pays stage agent.rank agent.log (next_call stage agent) agent.entered agent.known item →
-    HasDue stage (opened (kept shapes stage agent item))
+    HasDue stage (enter_call (keep_item shapes stage agent item))
 opening stage agent shapes item awaited h plain number pays =
-    let next = opened (kept shapes stage agent item) in
+    let next = enter_call (keep_item shapes stage agent item) in
     let more = pushed stage agent item (next_call stage next) next.entered next.known awaited h plain pays in record {
       begun = begun_push agent.at agent.log item h.begun number;
       unbegun = λ new. absurd (cc new);
@@ -212,7 +212,7 @@ refused_later number class entries before e = ap (λ n. is_own_refusal (Refused 
 pub entering : (stage : Stage) (agent : Agent) (call : Call) (step : Step) (after : Agent → Agent)
     (shapes : ℕ → List Part)
     (place : ℕ) → Entering stage agent call step after → KeepsAwaited stage agent → HasDue stage agent →
-    HasDue stage (after (kept shapes stage agent (Entry agent.at place step)))
+    HasDue stage (after (keep_item shapes stage agent (Entry agent.at place step)))
 entering stage agent call _ _ shapes place (OnlyEntry begins course) awaited h =
     ending stage agent shapes (Entry agent.at place One) awaited h refl refl
     (first_pays stage agent call (Entry agent.at place One) awaited h begins refl refl refl)

@@ -12,7 +12,7 @@ use Rattle.call_rules.specs.Ranks.{is_member}
 use Rattle.board_rules.specs.Entries.{Row, collective_of, is_collective}
 use Rattle.board_rules.specs.Locks.{Held, held_here, locks_asked, is_given_back, do_clash, lock_of, unlock_of}
 use Rattle.board_rules.specs.Posts.{group_of_post, group_of_start, is_complete, is_wait, naming, posts, starts}
-use Rattle.board_rules.specs.Posts.{completes, completed, last_posted}
+use Rattle.board_rules.specs.Posts.{completes, completed_groups, last_posted}
 use Rattle.board_rules.specs.Questions.{Question, question}
 use Rattle.board_rules.specs.Rounds.{rounds_begun}
 
@@ -68,7 +68,8 @@ group_completed a = slice_index_or (starts a.asked a.asked.rank) (completes a.as
 abbrev pub is_waited_for_by : Event → Event → Bool
 is_waited_for_by a b =
     is_member b.asked.rank (group_completed a) && is_member a.asked.rank (last_posted b.asked)
-    && naming b.asked.rank (completed a.asked a.asked.rank) + 1 == naming a.asked.rank (posts b.asked b.asked.rank)
+    && naming b.asked.rank (completed_groups a.asked a.asked.rank) + 1 ==
+    naming a.asked.rank (posts b.asked b.asked.rank)
 
 -- ---- locks
 

@@ -8,7 +8,8 @@ use Rattle.rma_types.specs.declared.accesses.Step.TheVariants.{Arrive, Leave, On
 use Rattle.rma_types.specs.declared.calls.Call.{Call}
 use Rattle.call_rules.specs.Actions.{Action, Creates, Frees, Attaches, Detaches, Synchronises, Meets, Moves}
 use Rattle.call_rules.specs.Actions.{EndsRequest, Synchronisation, Fences, Posts, Starts, Completes, Waits, Locks}
-use Rattle.call_rules.specs.Actions.{Unlocks, Flushes, Syncs, action_of, creation_of, synchronisation_of, window_named}
+use Rattle.call_rules.specs.Actions.{Unlocks, Flushes, Syncs, action_of, creation_of, synchronisation_of}
+use Rattle.call_rules.specs.Actions.{window_of_call}
 use Rattle.rank_rules.specs.Windows.{window_number}
 
 -- an entry: the rank, the number of its call in the rank's list, the call, and the step
@@ -28,7 +29,7 @@ is_creation call = is_some (creation_of call)
 
 -- the call names the window
 abbrev pub names_window : ℕ → Call → Bool
-names_window win call = option_map_or (λ name. name == win) (window_named call) false
+names_window win call = option_map_or (λ name. name == win) (window_of_call call) false
 
 -- the entry is the Arrive of a creation
 abbrev pub begins_window : Row → Bool
@@ -46,7 +47,7 @@ round_of before row win =
 
 -- the number of the window that an entry is on, after the entries before it; a barrier is on none
 abbrev pub window_of : List Row → Row → ℕ
-window_of before row = option_map_or (λ win. window_number (round_of before row win) win) (window_named row.call) 0
+window_of before row = option_map_or (λ win. window_number (round_of before row win) win) (window_of_call row.call) 0
 
 -- an entry with the number of its window
 pub record Act : Type 0 where

@@ -76,8 +76,8 @@ abbrev pub naming : ℕ → List (List ℕ) → ℕ
 naming rank groups = count_by (is_member rank) groups
 
 -- the groups of the starts that a rank has completed: as many as it has completes, from the first on
-abbrev pub completed : Question → ℕ → List (List ℕ)
-completed q rank = take (completes q rank) (starts q rank)
+abbrev pub completed_groups : Question → ℕ → List (List ℕ)
+completed_groups q rank = take (completes q rank) (starts q rank)
 
 -- each member of the start's group has posted to this rank once more than this rank has started to it
 abbrev pub start_has_posts : Question → List ℕ → Bool
@@ -91,7 +91,7 @@ last_posted q = slice_index_or (reverse (posts q q.rank)) 0 []
 -- each member of the last post has completed towards this rank as often as this rank has posted to it
 abbrev pub wait_has_completes : Question → Bool
 wait_has_completes q =
-    list_all (λ member. naming q.rank (completed q member) == naming member (posts q q.rank)) (last_posted q)
+    list_all (λ member. naming q.rank (completed_groups q member) == naming member (posts q q.rank)) (last_posted q)
 
 -- a rank is posted from its post to its wait or true testwin
 abbrev pub is_posted : Question → ℕ → Bool

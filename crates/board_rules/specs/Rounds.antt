@@ -28,7 +28,7 @@ round_arrivals q =
     flat_map (λ rank. option_map_or (λ call. call ∷ []) (slice_get (arrivals_of q rank) (rounds_begun q)) [])
     (numbers_from 0 q.ranks)
 
--- every rank has arrived as often as this one, so in each of its rounds
+-- every rank has arrived at least as often as this one, so in each of its rounds
 abbrev pub all_arrived : Question → Bool
 all_arrived q = list_all (λ rank. nat_le (rounds_begun q) (length (arrivals_of q rank))) (numbers_from 0 q.ranks)
 

@@ -26,7 +26,7 @@ use Rattle.rank_laws.proofs.Shapes.{acts_joined, creation_is_collective}
 use Rattle.rank_rules.specs.Courses.{LookUpAndIssue}
 use Rattle.rank_rules.specs.Knowledge.{Knowledge, learn}
 use Rattle.rank_rules.specs.Windows.{window_number, next_number}
-use Rattle.step_runs.specs.Agents.{Agent, next_call, kept, finished, opened}
+use Rattle.step_runs.specs.Agents.{Agent, next_call, keep_item, end_call, enter_call}
 use Rattle.step_runs.specs.BoardSteps.{next_row}
 
 -- ---- the creations of a rank
@@ -239,7 +239,7 @@ numbers_at stage agent rows call h here none win = by agent.entered refl
 pub begun_ending : (stage : Stage) (agent : Agent) (rows : List Row) (shapes : ℕ → List Part) (item : Item) →
     IsPlain (calls_at stage agent.rank) item →
     ((win : ℕ) → creations rows agent.rank win ≡ count_by (is_named win) agent.known.windows.created) →
-    HasBegunWindows stage (finished (kept shapes stage agent item)) rows
+    HasBegunWindows stage (end_call (keep_item shapes stage agent item)) rows
 begun_ending stage agent rows shapes item plain numbers = record {
   outside = λ new win. numbers win ∙ ap (count_by (is_named win))
       (sym (plain_created shapes (calls_at stage agent.rank) agent.known item plain));
@@ -249,7 +249,7 @@ begun_ending stage agent rows shapes item plain numbers = record {
 -- the Leave ends the call
 pub begun_leaving : (stage : Stage) (agent : Agent) (rows : List Row) (call : Call) (shapes : ℕ → List Part)
     (place : ℕ) → next_call stage agent ≡ Some call → IsOpen rows agent.rank agent.known.windows.created call →
-    HasBegunWindows stage (finished (kept shapes stage agent (Entry agent.at place Leave)))
+    HasBegunWindows stage (end_call (keep_item shapes stage agent (Entry agent.at place Leave)))
     (rows ++ next_row agent call Leave ∷ [])
 begun_leaving stage agent rows call shapes place here open_ = record {
   outside = λ new win. later_creates_none rows (next_row agent call Leave) agent.rank win refl
@@ -265,7 +265,7 @@ begun_leaving stage agent rows call shapes place here open_ = record {
 opened_begun : (stage : Stage) (agent : Agent) (rows : List Row) (call : Call) (shapes : ℕ → List Part) (item : Item) →
     next_call stage agent ≡ Some call → IsPlain (calls_at stage agent.rank) item →
     IsOpen rows agent.rank agent.known.windows.created call →
-    HasBegunWindows stage (opened (kept shapes stage agent item)) rows
+    HasBegunWindows stage (enter_call (keep_item shapes stage agent item)) rows
 opened_begun stage agent rows call shapes item here plain open_ = record {
   outside = λ new. absurd (cc new);
   inside = λ entered other there.
@@ -277,7 +277,7 @@ opened_begun stage agent rows call shapes item here plain open_ = record {
 
 pub begun_looking_up : (stage : Stage) (agent : Agent) (rows : List Row) (call : Call) (shapes : ℕ → List Part)
     (place : ℕ) → Begins stage agent call → course_at agent call ≡ LookUpAndIssue → HasBegunWindows stage agent rows →
-    HasBegunWindows stage (opened (kept shapes stage agent (Entry agent.at place One)))
+    HasBegunWindows stage (enter_call (keep_item shapes stage agent (Entry agent.at place One)))
     (rows ++ next_row agent call One ∷ [])
 begun_looking_up stage agent rows call shapes place begins course h =
     opened_begun stage agent (rows ++ next_row agent call One ∷ []) call shapes (Entry agent.at place One) begins.here
@@ -295,7 +295,7 @@ begun_looking_up stage agent rows call shapes place begins course h =
 
 pub begun_arriving : (stage : Stage) (agent : Agent) (rows : List Row) (call : Call) (shapes : ℕ → List Part)
     (place : ℕ) → Begins stage agent call → HasBegunWindows stage agent rows →
-    HasBegunWindows stage (opened (kept shapes stage agent (Entry agent.at place Arrive)))
+    HasBegunWindows stage (enter_call (keep_item shapes stage agent (Entry agent.at place Arrive)))
     (rows ++ next_row agent call Arrive ∷ [])
 begun_arriving stage agent rows call shapes place begins h =
     opened_begun stage agent (rows ++ row ∷ []) call shapes (Entry agent.at place Arrive) begins.here

@@ -14,7 +14,7 @@ use Rattle.call_laws.proofs.Standing.{Standing, IsOutside, IsInside, IsPast, pas
 use Rattle.call_laws.proofs.Stopping.{WaitsAt, WaitsFirst, WaitsToLeave, waits_there}
 use Rattle.call_laws.proofs.Teaching.{look_up_moves}
 use Rattle.call_laws.specs.Calls.{AssembledRunsHaveItemsOfCalls}
-use Rattle.lawful_runs.specs.CallItems.{untouched, AreFinished, may_stand, StandsAt, HasItemsOfCalls}
+use Rattle.lawful_runs.specs.CallItems.{other_items, AreFinished, may_stand, StandsAt, HasItemsOfCalls}
 use Rattle.lawful_runs.specs.LawfulRun.{rank_in}
 use Rattle.lawful_runs.specs.Stages.{Stage, stage_of, calls_at, known_at}
 use Rattle.rank_laws.proofs.Awaiting.{rank_of}
@@ -46,10 +46,10 @@ finished_now stage rank rows number items h =
 
 -- before the first entry of its call
 stands_first : (stage : Stage) (agent : Agent) (rows : List Row) (call : Call) →
-    KnowsAlways stage agent.rank rows (untouched agent.log) agent.known → agent.entered ≡ false →
-    WaitsAt stage agent rows call → StandsAt (rank_of stage agent.rank rows) (untouched agent.log) agent.at call []
+    KnowsAlways stage agent.rank rows (other_items agent.log) agent.known → agent.entered ≡ false →
+    WaitsAt stage agent rows call → StandsAt (rank_of stage agent.rank rows) (other_items agent.log) agent.at call []
 stands_first stage agent rows call knows new (WaitsFirst still passes may waits) =
-    let same = known_now stage agent.rank rows (untouched agent.log) agent.known knows in (
+    let same = known_now stage agent.rank rows (other_items agent.log) agent.known knows in (
       subst (λ (k : Knowledge). own_class k call ≡ None) same passes,
       inl (refl, subst (λ (k : Knowledge). IsTrue (may_stand (course_of k.windows call))) same may, waits),
     )
@@ -96,11 +96,11 @@ stands_at stage rank rows before number rest call here is =
     is
 
 ended_items : (stage : Stage) (p : Point) → HasCalls stage p → p.agent.ended ≡ true →
-    HasItemsOfCalls (rank_of stage p.agent.rank p.rows) (untouched p.agent.log)
+    HasItemsOfCalls (rank_of stage p.agent.rank p.rows) (other_items p.agent.log)
 ended_items stage p h ended = by h.standing
   where
     by : Standing stage p.agent.rank p.rows (view_of p.agent) →
-        HasItemsOfCalls (rank_of stage p.agent.rank p.rows) (untouched p.agent.log)
+        HasItemsOfCalls (rank_of stage p.agent.rank p.rows) (other_items p.agent.log)
     by (IsOutside o) = let going = o.going in absurd (cc (sym going ∙ ended))
     by (IsInside i) = let going = i.going in absurd (cc (sym going ∙ ended))
     by (IsPast past) = (
@@ -114,18 +114,18 @@ ended_items stage p h ended = by h.standing
 
 standing_items : (stage : Stage) (p : Point) (call : Call) → HasCalls stage p → next_call stage p.agent ≡ Some call →
     WaitsAt stage p.agent p.rows call →
-    HasItemsOfCalls (rank_of stage p.agent.rank p.rows) (untouched p.agent.log)
+    HasItemsOfCalls (rank_of stage p.agent.rank p.rows) (other_items p.agent.log)
 standing_items stage p call h here waits = by h.standing
   where
     by : Standing stage p.agent.rank p.rows (view_of p.agent) →
-        HasItemsOfCalls (rank_of stage p.agent.rank p.rows) (untouched p.agent.log)
+        HasItemsOfCalls (rank_of stage p.agent.rank p.rows) (other_items p.agent.log)
     by (IsOutside o) = (
       p.agent.at,
-      untouched p.agent.log,
+      other_items p.agent.log,
       [],
-      sym (append-nil (untouched p.agent.log)),
-      finished_now stage p.agent.rank p.rows p.agent.at (untouched p.agent.log) o.done,
-      inr (stands_at stage p.agent.rank p.rows (untouched p.agent.log) p.agent.at [] call here
+      sym (append-nil (other_items p.agent.log)),
+      finished_now stage p.agent.rank p.rows p.agent.at (other_items p.agent.log) o.done,
+      inr (stands_at stage p.agent.rank p.rows (other_items p.agent.log) p.agent.at [] call here
           (stands_first stage p.agent p.rows call
           (knows_untouched stage p.agent.rank p.rows p.agent.log p.agent.known h.known.knows) o.new waits)),
     )
@@ -143,7 +143,7 @@ standing_items stage p call h here waits = by h.standing
     by (IsPast past) = absurd (past_has_none stage p.agent.rank p.rows (view_of p.agent) call past here)
 
 stopped_items : (stage : Stage) (p : Point) → HasCalls stage p → Stops stage p.agent p.rows →
-    HasItemsOfCalls (rank_of stage p.agent.rank p.rows) (untouched p.agent.log)
+    HasItemsOfCalls (rank_of stage p.agent.rank p.rows) (other_items p.agent.log)
 stopped_items stage p h (inl ended) = ended_items stage p h ended
 stopped_items stage p h (inr waits) =
     let there = waits_there stage p.agent p.rows waits.0 waits.1 in standing_items stage p there.0 h there.1 there.2
@@ -151,13 +151,13 @@ stopped_items stage p h (inr waits) =
 -- ---- the deliveries after the last step
 
 delivered_items : (stage : Stage) (now next : Agent) (low after : Lows) (o : Option PendingAccess) →
-    IsDelivered stage now 0 o low next after → untouched next.log ≡ untouched now.log
-delivered_items stage now next low after None h = ap (λ (agent : Agent). untouched agent.log) h.0
-delivered_items stage now next low after (Some one) h = ap (λ (agent : Agent). untouched agent.log) h.2
+    IsDelivered stage now 0 o low next after → other_items next.log ≡ other_items now.log
+delivered_items stage now next low after None h = ap (λ (agent : Agent). other_items agent.log) h.0
+delivered_items stage now next low after (Some one) h = ap (λ (agent : Agent). other_items agent.log) h.2
     ∙ untouched_touches one.index now.log h.0 (touches_of_own stage one _ low h.0 after h.1)
 
 drained_items : (stage : Stage) (agent : Agent) (lows : Lows) (last : Agent) (low : Lows) →
-    Drains stage agent lows last low → untouched last.log ≡ untouched agent.log
+    Drains stage agent lows last low → other_items last.log ≡ other_items agent.log
 drained_items stage agent lows _ _ Stays = refl
 drained_items stage agent lows _ _ (Drained now next low after drains made) =
     delivered_items stage now next low after (slice_get now.pending 0) made
@@ -177,21 +177,21 @@ new_calls stage seed rank lows = record {
 }
 
 pub lived_items : (stage : Stage) (seed rank : ℕ) (puts : List Put) (agent : Agent) →
-    HasLived stage seed rank puts agent → HasItemsOfCalls (rank_of stage rank (rows_put puts)) (untouched agent.log)
+    HasLived stage seed rank puts agent → HasItemsOfCalls (rank_of stage rank (rows_put puts)) (other_items agent.log)
 lived_items stage seed rank puts agent lived =
     let stopped = stops_holding true stage seed rank (HasCalls stage) (calls_kept stage)
     (new_calls stage seed rank first_lows) puts
     agent lived in
     subst (HasItemsOfCalls (rank_of stage rank (rows_put puts)))
     (sym (drained_items stage lived.stopped lived.lows agent lived.last lived.drains))
-    (subst (λ r. HasItemsOfCalls (rank_of stage r (rows_put puts)) (untouched lived.stopped.log)) stopped.1
+    (subst (λ r. HasItemsOfCalls (rank_of stage r (rows_put puts)) (other_items lived.stopped.log)) stopped.1
     (stopped_items stage (point lived.stopped (rows_put puts) lived.lows) stopped.0 lived.stops))
 
 pub calls_are_lawful : AssembledRunsHaveItemsOfCalls
 calls_are_lawful script delay seed run is rank inside =
     let stage = stage_of script delay in
     let there = rank_there script delay seed run is rank inside in
-    subst (λ (log : List Item). HasItemsOfCalls (rank_in script delay run rank) (untouched log)) (sym there.log)
-    (subst (λ (rows : List Row). HasItemsOfCalls (rank_of stage rank rows) (untouched there.agent.log))
+    subst (λ (log : List Item). HasItemsOfCalls (rank_in script delay run rank) (other_items log)) (sym there.log)
+    (subst (λ (rows : List Row). HasItemsOfCalls (rank_of stage rank rows) (other_items there.agent.log))
     (sym (rows_are script delay seed run is))
     (lived_items stage seed rank is.puts there.agent there.lived))

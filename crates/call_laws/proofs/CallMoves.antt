@@ -18,7 +18,7 @@ use Rattle.call_laws.proofs.Standing.{Standing, standing_longer, outside_of, ins
 use Rattle.call_laws.proofs.Standing.{second_item, first_item, past_all}
 use Rattle.call_laws.proofs.Teaching.{nothing_learnt, arrive_accepts, look_up_accepts, look_up_moves}
 use Rattle.call_rules.specs.Actions.{Transfer, transfer_of}
-use Rattle.lawful_runs.specs.CallItems.{untouched, AreItemsBy, AreItemsOfCourse, IsBoardRefusal}
+use Rattle.lawful_runs.specs.CallItems.{other_items, AreItemsBy, AreItemsOfCourse, IsBoardRefusal}
 use Rattle.lawful_runs.specs.Items.{is_touch}
 use Rattle.lawful_runs.specs.Stages.{Stage, calls_at, shapes_in}
 use Rattle.rank_laws.proofs.BoardMoves.{refused_by}
@@ -31,7 +31,7 @@ use Rattle.rank_laws.proofs.Touching.{touches_own, touches_of_own}
 use Rattle.rank_rules.specs.Courses.{Course, OneNull, OneIssue, LookUpAndIssue, OneFlush, OneRequest, ArriveAndLeave}
 use Rattle.rank_rules.specs.Courses.{EntryOrTested, OneEntry, has_entry, access_of}
 use Rattle.rank_rules.specs.Knowledge.{Knowledge, own_class, learn}
-use Rattle.step_runs.specs.Agents.{Agent, next_call, kept, finished, opened}
+use Rattle.step_runs.specs.Agents.{Agent, next_call, keep_item, end_call, enter_call}
 use Rattle.step_runs.specs.BoardSteps.{next_row}
 use Rattle.step_runs.specs.DataSteps.{no_shapes}
 
@@ -44,13 +44,13 @@ pub record HasCalls (stage : Stage) (p : Point) : Type 0 where
 -- the one item of a call that has not begun
 only_item : (stage : Stage) (p : Point) (call : Call) (item : Item) (rows : List Row) (known : Knowledge) →
     Outside stage p.agent.rank rows (view_of p.agent) →
-    KnowsAlways stage p.agent.rank rows (untouched p.agent.log) p.agent.known →
+    KnowsAlways stage p.agent.rank rows (other_items p.agent.log) p.agent.known →
     next_call stage p.agent ≡ Some call → is_touch item ≡ false →
     AreItemsBy (own_class p.agent.known call) p.agent.known p.agent.at call (item ∷ []) →
     Standing stage p.agent.rank rows
-    (view_after (view_of p.agent) (untouched (p.agent.log ++ item ∷ [])) known)
+    (view_after (view_of p.agent) (other_items (p.agent.log ++ item ∷ [])) known)
 only_item stage p call item rows known o knows here plain is =
-    one_item stage p.agent.rank rows (view_of p.agent) call item (untouched (p.agent.log ++ item ∷ [])) known o knows
+    one_item stage p.agent.rank rows (view_of p.agent) call item (other_items (p.agent.log ++ item ∷ [])) known o knows
     here (untouched_push p.agent.log item plain) is
 
 -- where no entry is put
@@ -58,7 +58,7 @@ item_here : (stage : Stage) (p : Point) (call : Call) (item : Item) (known : Kno
     next_call stage p.agent ≡ Some call → p.agent.entered ≡ false → is_touch item ≡ false →
     AreItemsBy (own_class p.agent.known call) p.agent.known p.agent.at call (item ∷ []) →
     Standing stage p.agent.rank p.rows
-    (view_after (view_of p.agent) (untouched (p.agent.log ++ item ∷ [])) known)
+    (view_after (view_of p.agent) (other_items (p.agent.log ++ item ∷ [])) known)
 item_here stage p call item known h here new plain is =
     only_item stage p call item p.rows known
     (outside_of stage p.agent.rank p.rows (view_of p.agent) call h.standing here new)
@@ -69,7 +69,7 @@ passed_here : (stage : Stage) (p : Point) (call : Call) (item : Item) (known : K
     HasCalls stage p → Begins stage p.agent call → course_at p.agent call ≡ course → is_touch item ≡ false →
     IsBoardRefusal course p.agent.at (item ∷ []) ⊎ AreItemsOfCourse course p.agent.known p.agent.at call (item ∷ []) →
     Standing stage p.agent.rank p.rows
-    (view_after (view_of p.agent) (untouched (p.agent.log ++ item ∷ [])) known)
+    (view_after (view_of p.agent) (other_items (p.agent.log ++ item ∷ [])) known)
 passed_here stage p call item known course h begins is plain items =
     item_here stage p call item known h begins.here begins.new plain
     (accepted p.agent.known p.agent.at call (item ∷ []) course begins.passes is items)
@@ -144,19 +144,19 @@ looked_up OneEntry known number call access item other opens e = absurd opens
 issued_items : (stage : Stage) (p : Point) (call : Call) (t : Transfer) (access : Access) (known : Knowledge) →
     HasCalls stage p → Issuing stage p.agent call t access →
     Standing stage p.agent.rank p.rows
-    (view_after (view_of p.agent) (untouched (p.agent.log ++ Issue p.agent.at access ∷ [])) known)
+    (view_after (view_of p.agent) (other_items (p.agent.log ++ Issue p.agent.at access ∷ [])) known)
 issued_items stage p call t access known h issuing = by issuing.begun
   where
     by : (Begins stage p.agent call × (course_at p.agent call ≡ OneIssue)) ⊎ (p.agent.entered ≡ true) →
         Standing stage p.agent.rank p.rows
-        (view_after (view_of p.agent) (untouched (p.agent.log ++ Issue p.agent.at access ∷ [])) known)
+        (view_after (view_of p.agent) (other_items (p.agent.log ++ Issue p.agent.at access ∷ [])) known)
     by (inl begins) = passed_here stage p call (Issue p.agent.at access) known OneIssue h begins.0 begins.1 refl
         (inr (Issue p.agent.at access, issue_items p.agent.known p.agent.at call access issuing.reaches, refl))
     by (inr entered) =
         let i = inside_of stage p.agent.rank p.rows (view_of p.agent) call h.standing issuing.here entered in
         let same : call ≡ i.call = let there = i.here in let here = issuing.here in cc (here, there) in
         second_item stage p.agent.rank p.rows (view_of p.agent) (Issue p.agent.at access)
-        (untouched (p.agent.log ++ Issue p.agent.at access ∷ [])) known i
+        (other_items (p.agent.log ++ Issue p.agent.at access ∷ [])) known i
         (untouched_push p.agent.log (Issue p.agent.at access) refl)
         (accepted p.agent.known p.agent.at i.call (i.item ∷ Issue p.agent.at access ∷ []) (course_at p.agent i.call)
         i.passes refl
@@ -185,18 +185,18 @@ left OneEntry known number call item place other opens = absurd opens
 abbrev StandsAfter : Stage → Point → Call → Step → (Agent → Agent) → Type 0
 StandsAfter stage p call step after =
     let now = p.rows ++ next_row p.agent call step ∷ [] in
-    let next = after (kept (shapes_in stage now) stage p.agent (Entry p.agent.at (length p.rows) step)) in
+    let next = after (keep_item (shapes_in stage now) stage p.agent (Entry p.agent.at (length p.rows) step)) in
     Standing stage p.agent.rank now (view_of next)
 
 knows_there : (stage : Stage) (p : Point) (call : Call) (step : Step) → HasCalls stage p →
-    KnowsAlways stage p.agent.rank (p.rows ++ next_row p.agent call step ∷ []) (untouched p.agent.log) p.agent.known
+    KnowsAlways stage p.agent.rank (p.rows ++ next_row p.agent call step ∷ []) (other_items p.agent.log) p.agent.known
 knows_there stage p call step h = knows_untouched stage p.agent.rank (p.rows ++ next_row p.agent call step ∷ [])
     p.agent.log p.agent.known
     (knows_longer stage p.agent.rank p.rows (next_row p.agent call step ∷ []) p.agent.log p.agent.known h.known.knows)
 
 only_entry : (stage : Stage) (p : Point) (call : Call) → HasCalls stage p → Begins stage p.agent call →
     (course_at p.agent call ≡ OneEntry) ⊎ (course_at p.agent call ≡ EntryOrTested) →
-    StandsAfter stage p call One finished
+    StandsAfter stage p call One end_call
 only_entry stage p call h begins course =
     only_item stage p call (Entry p.agent.at (length p.rows) One) now
     (learn (shapes_in stage now) (calls_at stage p.agent.rank) p.agent.known (Entry p.agent.at (length p.rows) One))
@@ -219,11 +219,11 @@ first_entry : (stage : Stage) (p : Point) (call : Call) (step : Step) → HasCal
     OpensCall (course_at p.agent call) p.agent.at (Entry p.agent.at (length p.rows) step) →
     (let now = p.rows ++ next_row p.agent call step ∷ [] in
     learn (shapes_in stage now) (calls_at stage p.agent.rank) p.agent.known (Entry p.agent.at (length p.rows) step)
-    ≡ p.agent.known) → StandsAfter stage p call step opened
+    ≡ p.agent.known) → StandsAfter stage p call step enter_call
 first_entry stage p call step h begins opens same =
     let now = p.rows ++ next_row p.agent call step ∷ [] in
     first_item stage p.agent.rank now (view_of p.agent) call (Entry p.agent.at (length p.rows) step)
-    (untouched (p.agent.log ++ Entry p.agent.at (length p.rows) step ∷ []))
+    (other_items (p.agent.log ++ Entry p.agent.at (length p.rows) step ∷ []))
     (learn (shapes_in stage now) (calls_at stage p.agent.rank) p.agent.known (Entry p.agent.at (length p.rows) step))
     (outside_of stage p.agent.rank now (view_of p.agent) call
     (standing_longer stage p.agent.rank p.rows (next_row p.agent call step ∷ []) (view_of p.agent) h.standing)
@@ -232,7 +232,7 @@ first_entry stage p call step h begins opens same =
     (untouched_push p.agent.log (Entry p.agent.at (length p.rows) step) refl) begins.passes opens same
 
 leaving : (stage : Stage) (p : Point) (call : Call) → HasCalls stage p → next_call stage p.agent ≡ Some call →
-    p.agent.entered ≡ true → transfer_of call ≡ None → StandsAfter stage p call Leave finished
+    p.agent.entered ≡ true → transfer_of call ≡ None → StandsAfter stage p call Leave end_call
 leaving stage p call h here entered none =
     let now = p.rows ++ next_row p.agent call Leave ∷ [] in
     let item = Entry p.agent.at (length p.rows) Leave in
@@ -240,7 +240,7 @@ leaving stage p call h here entered none =
     (standing_longer stage p.agent.rank p.rows (next_row p.agent call Leave ∷ []) (view_of p.agent) h.standing)
     here entered in
     let same : call ≡ i.call = let there = i.here in cc (here, there) in
-    second_item stage p.agent.rank now (view_of p.agent) item (untouched (p.agent.log ++ item ∷ []))
+    second_item stage p.agent.rank now (view_of p.agent) item (other_items (p.agent.log ++ item ∷ []))
     (learn (shapes_in stage now) (calls_at stage p.agent.rank) p.agent.known item) i
     (untouched_push p.agent.log item refl)
     (accepted p.agent.known p.agent.at i.call (i.item ∷ item ∷ []) (course_at p.agent i.call) i.passes refl
@@ -268,7 +268,7 @@ entering_stands stage p call _ _ h (Leaving here inside moves) = leaving stage p
 entered_calls : (stage : Stage) (p : Point) (call : Call) (step : Step) (after : Agent → Agent) →
     Entering stage p.agent call step after →
     (let now = p.rows ++ next_row p.agent call step ∷ [] in
-    let next = after (kept (shapes_in stage now) stage p.agent (Entry p.agent.at (length p.rows) step)) in
+    let next = after (keep_item (shapes_in stage now) stage p.agent (Entry p.agent.at (length p.rows) step)) in
     KnowsLog stage (point next now p.lows) → StandsAfter stage p call step after →
     HasCalls stage (point next now p.lows))
 entered_calls stage p call _ _ (OnlyEntry begins course) known standing = record { known = known; standing = standing }
@@ -292,7 +292,7 @@ calls_kept stage p _ h (Rises after rise) = record {
 }
 calls_kept stage p _ h (Ends past empty going) = record {
   known = known_kept stage p _ h.known (Ends past empty going);
-  standing = past_all stage p.agent.rank p.rows (view_of p.agent) (untouched (p.agent.log ++ Ended ∷ [])) h.standing
+  standing = past_all stage p.agent.rank p.rows (view_of p.agent) (other_items (p.agent.log ++ Ended ∷ [])) h.standing
       past going (untouched_push p.agent.log Ended refl);
 }
 calls_kept stage p _ h (RefusesAlone call class here new refuses) = record {

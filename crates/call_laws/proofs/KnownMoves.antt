@@ -24,7 +24,7 @@ use Rattle.rank_laws.proofs.Moves.{Point, point, Entering, OnlyEntry, LookUp, Ar
 use Rattle.rank_laws.proofs.Moves.{RefusesAlone, IsRefused, Tests, Passes, Enters, Issues, IssuesWhole, Draws, Delivers}
 use Rattle.rank_laws.proofs.Touching.{IsTouchOf, touches_own, touches_of_own}
 use Rattle.rank_rules.specs.Knowledge.{Knowledge, learn}
-use Rattle.step_runs.specs.Agents.{Agent, next_call, kept, finished}
+use Rattle.step_runs.specs.Agents.{Agent, next_call, keep_item, end_call}
 use Rattle.step_runs.specs.BoardSteps.{next_row}
 use Rattle.step_runs.specs.DataSteps.{no_shapes}
 
@@ -71,9 +71,9 @@ some_rows (r ∷ rows) row e = cc e
 
 -- an item that makes no window, and puts no entry, ends the call
 knows_ending : (stage : Stage) (p : Point) (shapes : ℕ → List Part) (item : Item) → KnowsLog stage p →
-    HasBegunWindows stage (finished (kept shapes stage p.agent item)) p.rows →
+    HasBegunWindows stage (end_call (keep_item shapes stage p.agent item)) p.rows →
     IsPlain (calls_at stage p.agent.rank) item →
-    KnowsLog stage (record p { agent = finished (kept shapes stage p.agent item) })
+    KnowsLog stage (record p { agent = end_call (keep_item shapes stage p.agent item) })
 knows_ending stage p shapes item h begun plain = record {
   begun = begun;
   unmade = λ e. plain_unmade shapes (calls_at stage p.agent.rank) p.agent.known item plain (h.unmade e);
@@ -84,14 +84,14 @@ knows_ending stage p shapes item h begun plain = record {
 -- at a call that has not begun
 ending_new : (stage : Stage) (p : Point) (shapes : ℕ → List Part) (item : Item) → KnowsLog stage p →
     p.agent.entered ≡ false → IsPlain (calls_at stage p.agent.rank) item →
-    KnowsLog stage (record p { agent = finished (kept shapes stage p.agent item) })
+    KnowsLog stage (record p { agent = end_call (keep_item shapes stage p.agent item) })
 ending_new stage p shapes item h new plain = knows_ending stage p shapes item h
     (begun_ending stage p.agent p.rows shapes item plain (h.begun.outside new)) plain
 
 -- at a call that makes no window
 ending_at : (stage : Stage) (p : Point) (call : Call) (shapes : ℕ → List Part) (item : Item) → KnowsLog stage p →
     next_call stage p.agent ≡ Some call → IsPlain (calls_at stage p.agent.rank) item → creation_of call ≡ None →
-    KnowsLog stage (record p { agent = finished (kept shapes stage p.agent item) })
+    KnowsLog stage (record p { agent = end_call (keep_item shapes stage p.agent item) })
 ending_at stage p call shapes item h here plain none = knows_ending stage p shapes item h
     (begun_ending stage p.agent p.rows shapes item plain (numbers_at stage p.agent p.rows call h.begun here none)) plain
 
@@ -134,7 +134,8 @@ enters_knows : (stage : Stage) (p : Point) (call : Call) (step : Step) (after : 
     Entering stage p.agent call step after →
     decide stage.script.ranks p.rows (next_row p.agent call step) ≡ Allow →
     (let now = p.rows ++ next_row p.agent call step ∷ [] in
-    KnowsLog stage (point (after (kept (shapes_in stage now) stage p.agent (Entry p.agent.at (length p.rows) step))) now
+    KnowsLog stage (point (after (keep_item (shapes_in stage now) stage p.agent
+    (Entry p.agent.at (length p.rows) step))) now
     p.lows))
 enters_knows stage p call _ _ h (OnlyEntry begins course) answer = record {
   begun = record {

@@ -15,7 +15,7 @@ use Rattle.rma_record.specs.declared.items.Item.TheVariants.{Issue, Null, Touch,
 use Rattle.rma_record.specs.declared.items.Item.TheVariants.{Ended}
 use Rattle.board_rules.specs.Entries.{Row}
 use Rattle.call_laws.proofs.KnownMoves.{KnowsAlways, knows_longer}
-use Rattle.lawful_runs.specs.CallItems.{untouched, AreItemsOfCourse, IsBoardRefusal, AreItemsBy, AreItemsOf}
+use Rattle.lawful_runs.specs.CallItems.{other_items, AreItemsOfCourse, IsBoardRefusal, AreItemsBy, AreItemsOf}
 use Rattle.lawful_runs.specs.CallItems.{AreFinished}
 use Rattle.lawful_runs.specs.Items.{is_touch}
 use Rattle.lawful_runs.specs.Stages.{Stage, RankOfRun, calls_at, calls_here, first_knowledge, known_at, shapes_in}
@@ -40,24 +40,24 @@ touch_is_touch issue (Refused number class seen) is = absurd is
 touch_is_touch issue Ended is = absurd is
 
 pub untouched_push : (log : List Item) (item : Item) → is_touch item ≡ false →
-    untouched (log ++ item ∷ []) ≡ untouched log ++ item ∷ []
+    other_items (log ++ item ∷ []) ≡ other_items log ++ item ∷ []
 untouched_push log item e = filter-append (λ i. not (is_touch i)) log (item ∷ [])
-    ∙ ap (λ b. untouched log ++ cond (not b) (item ∷ []) []) e
+    ∙ ap (λ b. other_items log ++ cond (not b) (item ∷ []) []) e
 
-none_untouched : (issue : ℕ) (items : List Item) → AllByRecursion (IsTouchOf issue) items → untouched items ≡ []
+none_untouched : (issue : ℕ) (items : List Item) → AllByRecursion (IsTouchOf issue) items → other_items items ≡ []
 none_untouched issue [] own = refl
 none_untouched issue (item ∷ items) own =
-    ap (λ b. cond (not b) (item ∷ untouched items) (untouched items)) (touch_is_touch issue item own.0)
+    ap (λ b. cond (not b) (item ∷ other_items items) (other_items items)) (touch_is_touch issue item own.0)
     ∙ none_untouched issue items own.1
 
 pub untouched_touches : (issue : ℕ) (log items : List Item) → AllByRecursion (IsTouchOf issue) items →
-    untouched (log ++ items) ≡ untouched log
+    other_items (log ++ items) ≡ other_items log
 untouched_touches issue log items own = filter-append (λ i. not (is_touch i)) log items
-    ∙ ap (λ (rest : List Item). untouched log ++ rest) (none_untouched issue items own) ∙ append-nil (untouched log)
+    ∙ ap (λ (rest : List Item). other_items log ++ rest) (none_untouched issue items own) ∙ append-nil (other_items log)
 
 -- touches teach nothing
 fold_untouched : (shapes : ℕ → List Part) (calls : List Call) (known : Knowledge) (log : List Item) →
-    fold (learn shapes calls) known (untouched log) ≡ fold (learn shapes calls) known log
+    fold (learn shapes calls) known (other_items log) ≡ fold (learn shapes calls) known log
 fold_untouched shapes calls known [] = refl
 fold_untouched shapes calls known (Touch of element cell place bits ∷ log) = fold_untouched shapes calls known log
 fold_untouched shapes calls known (Issue number access ∷ log) =
@@ -75,7 +75,7 @@ fold_untouched shapes calls known (Refused number class seen ∷ log) = fold_unt
 fold_untouched shapes calls known (Ended ∷ log) = fold_untouched shapes calls known log
 
 pub knows_untouched : (stage : Stage) (rank : ℕ) (rows : List Row) (log : List Item) (known : Knowledge) →
-    KnowsAlways stage rank rows log known → KnowsAlways stage rank rows (untouched log) known
+    KnowsAlways stage rank rows log known → KnowsAlways stage rank rows (other_items log) known
 knows_untouched stage rank rows log known h more =
     fold_untouched (shapes_in stage (rows ++ more)) (calls_at stage rank) (first_knowledge stage rank) log ∙ h more
 
@@ -91,7 +91,7 @@ pub record View : Type 0 where
 
 abbrev pub view_of : Agent → View
 view_of agent = record {
-  items = untouched agent.log;
+  items = other_items agent.log;
   known = agent.known;
   at = agent.at;
   entered = agent.entered;

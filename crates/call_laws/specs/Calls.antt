@@ -3,7 +3,7 @@ use Rattle.std.specs.Prelude.{ℕ, ◌<◌}
 use Rattle.rma_types.specs.declared.schedules.Delay.{Delay}
 use Rattle.rma_types.specs.declared.scripts.Script.{Script}
 use Rattle.rma_record.specs.declared.runs.Run.{Run}
-use Rattle.lawful_runs.specs.CallItems.{HasItemsOfCalls, untouched}
+use Rattle.lawful_runs.specs.CallItems.{HasItemsOfCalls, other_items}
 use Rattle.lawful_runs.specs.LawfulRun.{rank_in}
 use Rattle.lawful_runs.specs.Logs.{log_of}
 use Rattle.rank_laws.specs.Assembled.{IsAssembled}
@@ -12,4 +12,4 @@ use Rattle.rank_laws.specs.Assembled.{IsAssembled}
 abbrev pub AssembledRunsHaveItemsOfCalls : Type 0
 AssembledRunsHaveItemsOfCalls = (script : Script) (delay : Delay) (seed : ℕ) (run : Run) →
     IsAssembled script delay seed run → (rank : ℕ) → rank < script.ranks →
-    HasItemsOfCalls (rank_in script delay run rank) (untouched (log_of run rank))
+    HasItemsOfCalls (rank_in script delay run rank) (other_items (log_of run rank))

@@ -219,8 +219,8 @@ window_in_action (Moves transfer) = Some transfer.win
 window_in_action (EndsRequest req) = None
 
 -- the window that a call names
-abbrev pub window_named : Call → Option ℕ
-window_named call = window_in_action (action_of call)
+abbrev pub window_of_call : Call → Option ℕ
+window_of_call call = window_in_action (action_of call)
 
 -- the creation that an action is
 abbrev pub creation_in : Action → Option Creation

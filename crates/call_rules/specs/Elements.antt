@@ -28,20 +28,20 @@ abbrev pub is_nonzero : ℕ → Bool
 is_nonzero n = not (n == 0)
 
 -- the new bit pattern of an element, from its old one and the operand's
-abbrev pub combined : Op → Dtype → ℕ → ℕ → ℕ
-combined Replace dtype old operand = operand
-combined NoOp dtype old operand = old
-combined Max dtype old operand = if int_lt (number_of dtype old) (number_of dtype operand) then operand else old
-combined Min dtype old operand = if int_lt (number_of dtype operand) (number_of dtype old) then operand else old
-combined Sum dtype old operand = pattern_of dtype (number_of dtype old +ℤ number_of dtype operand)
-combined Prod dtype old operand = pattern_of dtype (number_of dtype old *ℤ number_of dtype operand)
-combined Land dtype old operand = truth (is_nonzero old && is_nonzero operand)
-combined Band dtype old operand = bit_and old operand
-combined Lor dtype old operand = truth (is_nonzero old || is_nonzero operand)
-combined Bor dtype old operand = bit_or old operand
-combined Lxor dtype old operand =
+abbrev pub combine : Op → Dtype → ℕ → ℕ → ℕ
+combine Replace dtype old operand = operand
+combine NoOp dtype old operand = old
+combine Max dtype old operand = if int_lt (number_of dtype old) (number_of dtype operand) then operand else old
+combine Min dtype old operand = if int_lt (number_of dtype operand) (number_of dtype old) then operand else old
+combine Sum dtype old operand = pattern_of dtype (number_of dtype old +ℤ number_of dtype operand)
+combine Prod dtype old operand = pattern_of dtype (number_of dtype old *ℤ number_of dtype operand)
+combine Land dtype old operand = truth (is_nonzero old && is_nonzero operand)
+combine Band dtype old operand = bit_and old operand
+combine Lor dtype old operand = truth (is_nonzero old || is_nonzero operand)
+combine Bor dtype old operand = bit_or old operand
+combine Lxor dtype old operand =
     truth ((is_nonzero old && not (is_nonzero operand)) || (not (is_nonzero old) && is_nonzero operand))
-combined Bxor dtype old operand = bit_xor old operand
+combine Bxor dtype old operand = bit_xor old operand
 
 -- a number as a bit pattern of the datatype: what is above the pattern's bits is cut off
 abbrev pub cut : Dtype → ℕ → ℕ
@@ -58,7 +58,7 @@ next bits change =
     let old = element_in bits change.first_byte change.dtype in
     if meets change.compare change.dtype old
     then with_element bits change.first_byte change.dtype
-    (cut change.dtype (combined change.op change.dtype old (cut change.dtype change.operand)))
+    (cut change.dtype (combine change.op change.dtype old (cut change.dtype change.operand)))
     else bits
 
 -- the element stands in the cell at a multiple of its size, and the operand and what it is compared with are its

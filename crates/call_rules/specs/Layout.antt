@@ -13,12 +13,12 @@ use Rattle.call_rules.specs.Actions.{Creation, creation_of}
 use Rattle.call_rules.specs.Ranks.{natural}
 
 -- up to a multiple of 8
-abbrev pub rounded : ℕ → ℕ
-rounded bytes = 8 * ((bytes + 7) / 8)
+abbrev pub round_up : ℕ → ℕ
+round_up bytes = 8 * ((bytes + 7) / 8)
 
 -- the bytes of memory that a creation of a flavor brings: an allocate alone brings some (MPI 3.1, section 11.2.2)
 abbrev pub own_bytes : Flavor → ℤ → ℕ
-own_bytes Allocate bytes = rounded (natural bytes)
+own_bytes Allocate bytes = round_up (natural bytes)
 own_bytes Create bytes = 0
 own_bytes Dynamic bytes = 0
 
@@ -28,7 +28,7 @@ call_bytes call = option_map_or (λ (creation : Creation). own_bytes creation.fl
 
 -- the bytes of a rank's memory: its space, and then a part for each allocate
 abbrev pub memory_bytes : ℕ → List Call → ℕ
-memory_bytes space calls = rounded space + sum_by call_bytes calls
+memory_bytes space calls = round_up space + sum_by call_bytes calls
 
 -- a base for a creation of this flavor: for an allocate alone
 abbrev pub base_for : ℕ → ℕ → Flavor → List CallBase
@@ -62,7 +62,7 @@ parts_from cell (rank ∷ ranks) =
 abbrev pub layout : Script → Layout
 layout script = record {
   parts = parts_from 0 (ranks_of script);
-  bases = map (λ rank. bases_from 0 (rounded rank.0) rank.1) (ranks_of script);
+  bases = map (λ rank. bases_from 0 (round_up rank.0) rank.1) (ranks_of script);
 }
 
 -- the cells of all ranks
@@ -74,10 +74,10 @@ abbrev pub memory_of : Script → ℕ
 memory_of script = sum_by (λ rank. memory_bytes rank.0 rank.1) (ranks_of script)
 
 -- the calls of all ranks
-abbrev pub calls_of : Script → ℕ
-calls_of script = sum_by length script.calls
+abbrev pub call_count : Script → ℕ
+call_count script = sum_by length script.calls
 
 -- the totals of a script are within their limits
 pub record IsWithinLimits (script : Script) : Type 0 where
-  pub calls : calls_of script ≤ 65536
+  pub calls : call_count script ≤ 65536
   pub memory : memory_of script ≤ 65536

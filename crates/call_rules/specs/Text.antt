@@ -9,8 +9,8 @@ abbrev pub line : List ℕ → List ℕ
 line bytes = bytes ++ 10 ∷ []
 
 -- tokens, with one space between any two
-abbrev pub spaced : List (List ℕ) → List ℕ
-spaced tokens = join_with_byte 32 tokens
+abbrev pub join_by_spaces : List (List ℕ) → List ℕ
+join_by_spaces tokens = join_with_byte 32 tokens
 
 -- a natural number in decimal, without leading zeros
 abbrev pub number : ℕ → List ℕ

@@ -18,13 +18,13 @@ abbrev pub cell_at : List Cell → ℕ → Cell
 cell_at cells cell = slice_index_or cells cell empty_cell
 
 -- the cell after an update
-abbrev pub updated : Cell → Change → Cell
-updated cell change = record { bits = next cell.bits change; place = cell.place + 1 }
+abbrev pub update_cell : Cell → Change → Cell
+update_cell cell change = record { bits = next cell.bits change; place = cell.place + 1 }
 
 -- the cells after one more touch, which changes its cell where it is an update
 abbrev pub cells_after : List Cell → ℕ → Option Change → List Cell
 cells_after cells cell None = cells
-cells_after cells cell (Some change) = slice_set cells cell (updated (cell_at cells cell) change)
+cells_after cells cell (Some change) = slice_set cells cell (update_cell (cell_at cells cell) change)
 
 -- the cells and the Touch items that touches leave
 pub record Touched : Type 0 where

@@ -4,7 +4,7 @@ ghost use Rattle.std.specs.Option.{ForSome};
 ghost use Rattle.std.specs.Int.{w64};
 ghost use Rattle.rma_types.specs.Datatypes.{size_of};
 ghost use Rattle.call_rules.specs.Elements.{Fits, element_in as element_of, with_element as element_set};
-ghost use Rattle.call_rules.specs.Elements.{truth as truth_of, combined as combined_of, meets as meets_of, next};
+ghost use Rattle.call_rules.specs.Elements.{truth as truth_of, combine as combined_of, meets as meets_of, next};
 ghost use Rattle.call_rules.specs.Numbers.{number_of, pattern_of, patterns_of};
 
 use call_rules::{Change, patterns};

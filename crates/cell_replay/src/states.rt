@@ -6,7 +6,7 @@ ghost use Rattle.call_rules.specs.Elements.{Fits};
 ghost use Rattle.rma_types.specs.declared.schedules.Delay.TheVariants.{Seeded};
 ghost use Rattle.call_rules.specs.WellFormed.{IsWellFormed};
 ghost use Rattle.lawful_runs.specs.Accesses.{Touching};
-ghost use Rattle.lawful_runs.specs.Cells.{changed as changed_by, has_place, state};
+ghost use Rattle.lawful_runs.specs.Cells.{bits_after as changed_by, has_place, state};
 ghost use Rattle.lawful_runs.specs.LawfulRun.{IsLawful};
 ghost use Rattle.order_rules.specs.OrderedReads.{updates_of};
 ghost use Rattle.cell_replay.specs.Kept.{DoFit, touching_of, touchings_of};

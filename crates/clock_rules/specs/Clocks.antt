@@ -26,10 +26,10 @@ abbrev pub precedes : NamedEvent → NamedEvent → Bool
 precedes a b = stands_before a.id b.id || is_edge_between a b
 
 -- the greater of each two numbers
-abbrev pub joined : List ℕ → List ℕ → List ℕ
-joined [] others = others
-joined (count ∷ counts) [] = count ∷ counts
-joined (count ∷ counts) (other ∷ others) = max count other ∷ joined counts others
+abbrev pub join_counts : List ℕ → List ℕ → List ℕ
+join_counts [] others = others
+join_counts (count ∷ counts) [] = count ∷ counts
+join_counts (count ∷ counts) (other ∷ others) = max count other ∷ join_counts counts others
 
 -- the numbers of an item by itself: it and the items before it in its log
 abbrev pub own_counts : ℕ → Id → List ℕ
@@ -39,7 +39,8 @@ own_counts ranks id = slice_set (replicate ranks 0) id.rank (id.index + 1)
 abbrev pub joined_with : List Stamp → NamedEvent → List ℕ → List ℕ
 joined_with [] entry counts = counts
 joined_with (stamp ∷ stamps) entry counts =
-    let rest = joined_with stamps entry counts in if precedes stamp.entry entry then joined stamp.counts rest else rest
+    let rest = joined_with stamps entry counts in
+    if precedes stamp.entry entry then join_counts stamp.counts rest else rest
 
 -- the stamp of an entry, after those of the entries before it
 abbrev pub stamp_after : ℕ → List Stamp → NamedEvent → Stamp

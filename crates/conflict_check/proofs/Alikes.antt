@@ -5,7 +5,7 @@ use Rattle.std.specs.Prelude.{Contains, IsTrue, ◌||◌, if◌then◌else◌}
 use Rattle.std.specs.Option.{option_map_or}
 use Rattle.rma_types.specs.declared.accesses.Id.{Id}
 use Rattle.rma_types.specs.declared.findings.Model.{Model}
-use Rattle.order_rules.specs.Findings.{findings_after, first_finding, forbidden, unless_ordered}
+use Rattle.order_rules.specs.Findings.{findings_after, first_finding, pair_rule, unless_ordered}
 use Rattle.order_rules.specs.Ordered.{JudgedAccess, is_ordered, points_for, role_in}
 use Rattle.order_rules.specs.Roles.{Role, RmaUpdate, RmaRead, Store, Load, role_of}
 use Rattle.order_rules.specs.Rules.{forbidden_kind}
@@ -40,7 +40,7 @@ module _ (before : Id → Id → Bool) (ids : List Id) where
       (second.named i))
 
   forbidden_alike : (model : Model) (a c b d : JudgedAccess) → IsAlike before ids a c → IsAlike before ids b d →
-      Contains ids a.id → Contains ids b.id → forbidden model before a b ≡ forbidden model before c d
+      Contains ids a.id → Contains ids b.id → pair_rule model before a b ≡ pair_rule model before c d
   forbidden_alike model a c b d first second of_a of_b =
       let one = ordered_alike a c b d first second of_b in
       let two = ordered_alike b d a c second first of_a in

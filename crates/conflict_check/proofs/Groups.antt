@@ -10,7 +10,7 @@ use Rattle.rma_types.specs.declared.accesses.Id.{Id}
 use Rattle.rma_types.specs.declared.accesses.Kind.TheVariants.{Get}
 use Rattle.rma_types.specs.declared.findings.Model.{Model}
 use Rattle.rma_rules.specs.declared.pairs.Part.TheVariants.{Update}
-use Rattle.order_rules.specs.Findings.{first_finding, forbidden, unless_ordered}
+use Rattle.order_rules.specs.Findings.{first_finding, pair_rule, unless_ordered}
 use Rattle.order_rules.specs.Ordered.{JudgedAccess}
 use Rattle.order_rules.specs.Roles.{role_of}
 use Rattle.order_rules.specs.Rules.{pair_of, rule_for}
@@ -69,7 +69,7 @@ module _ (before : Id → Id → Bool) (at : ℕ) where
   -- ---- accesses that reach other memory
 
   apart : (model : Model) (a b : JudgedAccess) → (a.access.target == b.access.target) ≡ false →
-      forbidden model before a b ≡ None
+      pair_rule model before a b ≡ None
   apart model a b other = ap
       (λ same. option_map_or (unless_ordered before a b)
       (if same && nat_lt 0 a.access.len && nat_lt 0 b.access.len
@@ -85,7 +85,7 @@ module _ (before : Id → Id → Bool) (at : ℕ) where
         ap (λ t. first_finding model before
         (if t then a ∷ at_target b.access.target xs else at_target b.access.target xs) b) same
         ∙ ap (λ o. option_map_or (λ rule. Some (record { first = a.id; second = b.id; rule = rule }))
-        (forbidden model before a b) o) (of_one_target model xs b)
+        (pair_rule model before a b) o) (of_one_target model xs b)
     | inr other ↦
         ap (λ t. first_finding model before
         (if t then a ∷ at_target b.access.target xs else at_target b.access.target xs) b) other

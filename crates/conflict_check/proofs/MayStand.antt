@@ -14,7 +14,7 @@ use Rattle.rma_types.specs.declared.dtypes.Dtype.{Dtype}
 use Rattle.rma_types.specs.declared.ops.Op.{Op}
 use Rattle.call_rules.specs.Sameness.{is_same_dtype, is_same_op}
 use Rattle.call_rules.specs.Transfers.{is_no_op}
-use Rattle.order_rules.specs.Findings.{forbidden, unless_ordered}
+use Rattle.order_rules.specs.Findings.{pair_rule, unless_ordered}
 use Rattle.order_rules.specs.Ordered.{JudgedAccess, is_ordered}
 use Rattle.order_rules.specs.Roles.{Role, RmaUpdate, RmaRead, Store, Load, role_of}
 use Rattle.order_rules.specs.Rules.{Pair, accumulation_of, are_alike, forbidden_kind, pair_of, rma_rule, rule_for}
@@ -143,7 +143,7 @@ quiet a b x y first second none = by_rule a b (λ one model.
 -- ---- pairs that are not forbidden
 
 module _ (model : Model) (before : Id → Id → Bool) (x y : JudgedAccess) where
-  pub stands : MayStand x.access y.access → forbidden model before x y ≡ None
+  pub stands : MayStand x.access y.access → pair_rule model before x y ≡ None
   stands none = ap (λ o. option_map_or (unless_ordered before x y) o None) (none x.id.rank y.id.rank model)
 
   ordered : (o : Option Rule) (first second : Bool) → (first || second) ≡ true →
@@ -151,7 +151,7 @@ module _ (model : Model) (before : Id → Id → Bool) (x y : JudgedAccess) wher
   ordered None first second one = refl
   ordered (Some rule) first second one = ap (λ b. if b then None else Some rule) one
 
-  pub ordered_first : is_ordered before x y ≡ true → forbidden model before x y ≡ None
+  pub ordered_first : is_ordered before x y ≡ true → pair_rule model before x y ≡ None
   ordered_first one = ordered (forbidden_kind x.access x.id.rank y.access y.id.rank model) (is_ordered before x y)
       (is_ordered before y x) (ap (λ b. b || is_ordered before y x) one)
 
@@ -159,7 +159,7 @@ module _ (model : Model) (before : Id → Id → Bool) (x y : JudgedAccess) wher
   either true second one = refl
   either false second one = one
 
-  pub ordered_last : is_ordered before y x ≡ true → forbidden model before x y ≡ None
+  pub ordered_last : is_ordered before y x ≡ true → pair_rule model before x y ≡ None
   ordered_last one = ordered (forbidden_kind x.access x.id.rank y.access y.id.rank model) (is_ordered before x y)
       (is_ordered before y x) (either (is_ordered before x y) (is_ordered before y x) one)
 
@@ -170,6 +170,6 @@ module _ (model : Model) (before : Id → Id → Bool) (x y : JudgedAccess) wher
       ∙ ap (λ b. if b then None else Some rule) other
 
   pub unordered : is_ordered before x y ≡ false → is_ordered before y x ≡ false →
-      forbidden model before x y ≡ forbidden_kind x.access x.id.rank y.access y.id.rank model
+      pair_rule model before x y ≡ forbidden_kind x.access x.id.rank y.access y.id.rank model
   unordered one other = free (forbidden_kind x.access x.id.rank y.access y.id.rank model) (is_ordered before x y)
       (is_ordered before y x) one other

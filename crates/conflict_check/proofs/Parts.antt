@@ -5,7 +5,7 @@ use Rattle.std.specs.Option.{option_map_or}
 use Rattle.std.proofs.lemmas.List.{map-append}
 use Rattle.rma_types.specs.declared.accesses.Id.{Id}
 use Rattle.rma_types.specs.declared.findings.Model.{Model}
-use Rattle.order_rules.specs.Findings.{findings_after, first_finding, forbidden}
+use Rattle.order_rules.specs.Findings.{findings_after, first_finding, pair_rule}
 use Rattle.order_rules.specs.Ordered.{JudgedAccess}
 use Rattle.judged_points.specs.Alike.{judged_by}
 use Rattle.judged_points.specs.declared.accesses.JudgedPoints.{JudgedPoints}
@@ -71,11 +71,11 @@ pub first_step : (model : Model) (before : Id → Id → Bool) (b : JudgedAccess
     (a : JudgedPoints) → k < length accesses →
     a ≡ slice_index_or accesses k a →
     option_map_or (λ rule. Some (record { first = a.id; second = b.id; rule = rule }))
-    (forbidden model before (judged_by a) b) (first_finding model before (map judged_by (drop (k + 1) accesses)) b)
+    (pair_rule model before (judged_by a) b) (first_finding model before (map judged_by (drop (k + 1) accesses)) b)
     ≡ first_finding model before (map judged_by (drop k accesses)) b
 first_step model before b accesses k a within is =
     ap (λ n. option_map_or (λ rule. Some (record { first = a.id; second = b.id; rule = rule }))
-    (forbidden model before (judged_by a) b) (first_finding model before (map judged_by (drop n accesses)) b)) next
+    (pair_rule model before (judged_by a) b) (first_finding model before (map judged_by (drop n accesses)) b)) next
     ∙ ap (λ (x : JudgedPoints). first_finding model before (map judged_by (x ∷ drop (suc k) accesses)) b) is
     ∙ ap (λ l. first_finding model before (map judged_by l) b) (sym (drop_at accesses k a within))
   where

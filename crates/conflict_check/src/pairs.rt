@@ -2,7 +2,7 @@
 ghost use Rattle.std.specs.Prelude.{◌≡◌, ◌∷◌, ◌++◌, [], ℕ, Bool, length, List, map, IfOk, OnOk};
 ghost use Rattle.rma_types.specs.declared.accesses.Id.{Id as IdValue};
 ghost use Rattle.order_rules.specs.Findings.{findings_after, first_finding as first_of_accesses};
-ghost use Rattle.order_rules.specs.Findings.{forbidden as forbidden_by};
+ghost use Rattle.order_rules.specs.Findings.{pair_rule as forbidden_by};
 ghost use Rattle.order_rules.specs.Ordered.{JudgedAccess};
 ghost use Rattle.vector_clocks.specs.Marks.{before_in};
 ghost use Rattle.judged_points.specs.Alike.{judged_by};

@@ -21,7 +21,7 @@ use Rattle.board_rules.specs.Entries.{Act, Collective, Creation as CreationOf, F
 use Rattle.board_rules.specs.Entries.{Barrier as BarrierOf, arrivals, collective_in, collective_of, is_arrive, is_by_on}
 use Rattle.board_rules.specs.Entries.{is_collective}
 use Rattle.board_rules.specs.Locks.{is_exclusive}
-use Rattle.board_rules.specs.Posts.{completed, completes, last_posted, naming, posts, starts}
+use Rattle.board_rules.specs.Posts.{completed_groups, completes, last_posted, naming, posts, starts}
 use Rattle.board_rules.specs.Questions.{Question}
 use Rattle.board_rules.specs.Rounds.{rounds_begun}
 use Rattle.entry_gains.specs.Deeds.{IsDeed, IsReach, IsSynchronisationDeed}
@@ -153,7 +153,7 @@ synchronisation_given q ledger deed CompletesOne tables few right is at below =
     ∙ number_alike at (is_member at (group_ended q)) q.window q.rank
     (slice_index (ordinals_at ledger.started
     (start_key q.window q.rank (side_at ledger.sides (side_key q.window q.rank)).completes)) at)
-    (naming at (completed q q.rank))
+    (naming at (completed_groups q q.rank))
     (λ within. ap (λ n. slice_index (ordinals_at ledger.started (start_key q.window q.rank n)) at)
     (tables.sides q.window q.rank).completes
     ∙ tables.started q.window q.rank (completes q q.rank) at within)

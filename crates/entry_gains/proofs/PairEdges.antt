@@ -10,7 +10,7 @@ use Rattle.call_rules.specs.Actions.{Synchronisation, Posts as PostsTo, Starts, 
 use Rattle.call_rules.specs.Ranks.{is_member, members_of, natural}
 use Rattle.board_rules.specs.Edges.{Event, are_on_one_window, group_completed, is_edge_by}
 use Rattle.board_rules.specs.Locks.{Held, do_clash, held_locks, is_exclusive, is_given_back}
-use Rattle.board_rules.specs.Posts.{completed, last_posted, naming, posts, starts}
+use Rattle.board_rules.specs.Posts.{completed_groups, last_posted, naming, posts, starts}
 use Rattle.board_rules.specs.Questions.{Question}
 use Rattle.entry_gains.specs.Given.{group_ended, is_held_at, is_reached, kind_held, reached_slot, slot_given, slot_read}
 use Rattle.entry_gains.specs.Plans.{unlock_slot_of}
@@ -74,7 +74,7 @@ pub waited_edge : (a b : Event) (tests : Bool) (from to : ℕ) (slot : Slot) →
     Edge a b Completes (Waits tests)
 waited_edge a b tests from to slot filled read =
     let f : ((nat_lt from 16 && is_member from (group_ended a.asked))
-    ≡ true) × (Complete a.asked.window a.asked.rank from (naming from (completed a.asked a.asked.rank) + 1)
+    ≡ true) × (Complete a.asked.window a.asked.rank from (naming from (completed_groups a.asked a.asked.rank) + 1)
     ≡ slot) = if_holds _ _ slot filled in
     let r : ((nat_lt to 16 && is_member to (last_posted b.asked))
     ≡ true) × (Complete b.asked.window to b.asked.rank (naming to (posts b.asked b.asked.rank)) ≡ slot) =
@@ -82,15 +82,15 @@ waited_edge a b tests from to slot filled read =
     let one : a.asked.window ≡ b.asked.window = cc (f.1, r.1) in
     let sender : a.asked.rank ≡ to = cc (f.1, r.1) in
     let receiver : from ≡ b.asked.rank = cc (f.1, r.1) in
-    let number : naming from (completed a.asked a.asked.rank) + 1 ≡ naming to (posts b.asked b.asked.rank) =
+    let number : naming from (completed_groups a.asked a.asked.rank) + 1 ≡ naming to (posts b.asked b.asked.rank) =
     cc (f.1, r.1) in
     let ended : is_member b.asked.rank (group_completed a) ≡ true =
     ap (λ k. is_member k (group_completed a)) (sym receiver) ∙ and_right (nat_lt from 16) _ f.0 in
     let posted : is_member a.asked.rank (last_posted b.asked) ≡ true =
     ap (λ k. is_member k (last_posted b.asked)) sender ∙ and_right (nat_lt to 16) _ r.0 in
-    let counted : naming b.asked.rank (completed a.asked a.asked.rank) + 1
+    let counted : naming b.asked.rank (completed_groups a.asked a.asked.rank) + 1
     ≡ naming a.asked.rank (posts b.asked b.asked.rank) =
-    ap (λ k. naming k (completed a.asked a.asked.rank) + 1) (sym receiver)
+    ap (λ k. naming k (completed_groups a.asked a.asked.rank) + 1) (sym receiver)
     ∙ (number ∙ ap (λ k. naming k (posts b.asked b.asked.rank)) (sym sender)) in (
       eq-eqb a.asked.window b.asked.window one,
       or_first _ _ (and_both _ _ (and_both _ _ ended posted) (eq-eqb _ _ counted)),
@@ -156,17 +156,19 @@ edge_of a b (PostsTo g x) (Locks kind locked asserts) from to slot later filled 
     (if_holds (is_reached b.asked.ranks locked to)
     (Unlock b.asked.window to (not (is_exclusive kind))) slot read).1 in cc (f, r)
 edge_of a b Completes (Starts h y) from to slot later filled read =
-    let f : Complete a.asked.window a.asked.rank from (naming from (completed a.asked a.asked.rank) + 1) ≡ slot =
+    let f : Complete a.asked.window a.asked.rank from (naming from (completed_groups a.asked a.asked.rank) + 1) ≡ slot =
     (if_holds (nat_lt from 16 && is_member from (group_ended a.asked))
-    (Complete a.asked.window a.asked.rank from (naming from (completed a.asked a.asked.rank) + 1)) slot filled).1 in
+    (Complete a.asked.window a.asked.rank from (naming from (completed_groups a.asked a.asked.rank) + 1)) slot
+    filled).1 in
     let r : Post b.asked.window to b.asked.rank (naming to (starts b.asked b.asked.rank)) ≡ slot =
     (if_holds (nat_lt to 16 && is_member to (members_of h))
     (Post b.asked.window to b.asked.rank (naming to (starts b.asked b.asked.rank))) slot read).1 in cc (f, r)
 edge_of a b Completes (Waits tests) from to slot later filled read = waited_edge a b tests from to slot filled read
 edge_of a b Completes (Locks kind locked asserts) from to slot later filled read =
-    let f : Complete a.asked.window a.asked.rank from (naming from (completed a.asked a.asked.rank) + 1) ≡ slot =
+    let f : Complete a.asked.window a.asked.rank from (naming from (completed_groups a.asked a.asked.rank) + 1) ≡ slot =
     (if_holds (nat_lt from 16 && is_member from (group_ended a.asked))
-    (Complete a.asked.window a.asked.rank from (naming from (completed a.asked a.asked.rank) + 1)) slot filled).1 in
+    (Complete a.asked.window a.asked.rank from (naming from (completed_groups a.asked a.asked.rank) + 1)) slot
+    filled).1 in
     let r : Unlock b.asked.window to (not (is_exclusive kind)) ≡ slot =
     (if_holds (is_reached b.asked.ranks locked to)
     (Unlock b.asked.window to (not (is_exclusive kind))) slot read).1 in cc (f, r)

@@ -13,7 +13,7 @@ use Rattle.rank_rules.specs.EpochTests.{is_wrong_rank, names_wrong_rank}
 use Rattle.board_rules.specs.Edges.{Event, are_on_one_window, group_completed, is_edge_by, is_locked_after}
 use Rattle.board_rules.specs.Edges.{is_started_by, is_waited_for_by}
 use Rattle.board_rules.specs.Locks.{Held, do_clash, excludes, held_locks, is_exclusive, is_given_back, targets_of}
-use Rattle.board_rules.specs.Posts.{completed, last_posted, naming, posts, starts}
+use Rattle.board_rules.specs.Posts.{completed_groups, last_posted, naming, posts, starts}
 use Rattle.board_rules.specs.Questions.{Question}
 use Rattle.entry_gains.specs.Given.{is_held_at, is_reached, kind_held, reached_slot, slot_given, slot_read}
 use Rattle.entry_gains.specs.Plans.{unlock_slot_of}
@@ -82,12 +82,12 @@ pub waited_pair : (a b : Event) (tests : Bool) → a.asked.rank < 16 → b.asked
 waited_pair a b tests few more window e =
     let ended : is_member b.asked.rank (group_completed a) ≡ true = and_left _ _ (and_left _ _ e) in
     let posted : is_member a.asked.rank (last_posted b.asked) ≡ true = and_right _ _ (and_left _ _ e) in
-    let number : naming b.asked.rank (completed a.asked a.asked.rank) + 1
+    let number : naming b.asked.rank (completed_groups a.asked a.asked.rank) + 1
     ≡ naming a.asked.rank (posts b.asked b.asked.rank) = eqb-true _ _ (and_right _ _ e) in
     let one : a.asked.window ≡ b.asked.window = eqb-true a.asked.window b.asked.window window in
     record {
       slot = Complete a.asked.window a.asked.rank b.asked.rank
-          (naming b.asked.rank (completed a.asked a.asked.rank) + 1);
+          (naming b.asked.rank (completed_groups a.asked a.asked.rank) + 1);
       from = b.asked.rank;
       to = a.asked.rank;
       from_below = omega arith;

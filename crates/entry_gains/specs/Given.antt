@@ -15,7 +15,7 @@ use Rattle.board_rules.specs.Edges.{Event}
 use Rattle.board_rules.specs.Entries.{Collective, Creation as CreationOf, Freeing as FreeingOf, Fence as FenceOf}
 use Rattle.board_rules.specs.Entries.{Barrier as BarrierOf, collective_of}
 use Rattle.board_rules.specs.Locks.{Held, held_locks, is_exclusive}
-use Rattle.board_rules.specs.Posts.{completed, completes, last_posted, naming, posts, starts}
+use Rattle.board_rules.specs.Posts.{completed_groups, completes, last_posted, naming, posts, starts}
 use Rattle.board_rules.specs.Questions.{Question}
 use Rattle.board_rules.specs.Rounds.{rounds_begun}
 use Rattle.std.specs.Prelude.{slice_index_or, []}
@@ -69,7 +69,7 @@ slot_given q (PostsTo group asserts) at =
 slot_given q (Starts group asserts) at = None
 slot_given q Completes at =
     slot_if (nat_lt at 16 && is_member at (group_ended q))
-    (Complete q.window q.rank at (naming at (completed q q.rank) + 1))
+    (Complete q.window q.rank at (naming at (completed_groups q q.rank) + 1))
 slot_given q (Waits tests) at = None
 slot_given q (Locks kind target asserts) at = None
 slot_given q (Unlocks target) at =

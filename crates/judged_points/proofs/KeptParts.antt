@@ -13,7 +13,7 @@ use Rattle.rma_types.specs.declared.scripts.Script.{Script}
 use Rattle.rma_record.specs.declared.items.Item.{Item}
 use Rattle.rma_record.specs.declared.runs.Run.{Run}
 use Rattle.call_rules.specs.Actions.{Synchronisation, Fences, Posts, Starts, Completes, Waits, Locks, Unlocks, Flushes}
-use Rattle.call_rules.specs.Actions.{Syncs, action_of, synchronisation_of, window_named}
+use Rattle.call_rules.specs.Actions.{Syncs, action_of, synchronisation_of, window_of_call}
 use Rattle.call_rules.specs.Pieces.{numbers_from}
 use Rattle.call_rules.specs.Ranks.{natural}
 use Rattle.rank_rules.specs.Knowledge.{Knowledge}
@@ -157,7 +157,7 @@ module _ (script : Script) where
   sought_same sought k x kept a step access =
       let on : is_on_window kept k ≡ is_step_on a.issued.access.window x =
       (λ i. option_map_or (λ number. number == (access.access i).window) (step.window i) false)
-      ∙ window_on x.known (window_named x.call) a.issued.access.window in
+      ∙ window_on x.known (window_of_call x.call) a.issued.access.window in
       let called : call_at script k ≡ Some x.call =
       ap (λ (id : Id). slice_get (calls_of script id.rank) k.call) step.named ∙ step.called in
       let is : option_map_or (does sought (issued_as kept) k.step) (call_at script k) false

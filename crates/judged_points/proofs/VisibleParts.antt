@@ -19,7 +19,7 @@ use Rattle.board_rules.specs.Entries.{Fence as FenceCollective, collective_in, i
 use Rattle.board_rules.specs.Entries.{is_same_collective}
 use Rattle.order_rules.specs.CallSteps.{CallStep, IssuedAccess, accesses_in, is_step_on, steps_in}
 use Rattle.order_rules.specs.DonePoints.{done_points, timeline_of}
-use Rattle.order_rules.specs.Findings.{judged, judged_accesses}
+use Rattle.order_rules.specs.Findings.{judged_access, judged_accesses}
 use Rattle.order_rules.specs.Ordered.{JudgedAccess}
 use Rattle.order_rules.specs.Roles.{Role, RmaUpdate, RmaRead, Store, Load, role_of}
 use Rattle.order_rules.specs.VisiblePoints.{is_given_out_at, is_taken_in_at, separate_points, takes_in, unified_points}
@@ -167,7 +167,7 @@ module _ (script : Script) (run : Run) (before : Id → Id → Bool) (judged_run
   -- the access with its kept points is alike to the access with all of its points
   pub one_alike : (model : Model) (ids : List Id) → ((id : Id) → Contains ids id → IsOther script run id) →
       IsAlike before ids (with_points script records before model kept)
-      (judged model before (timeline_of script run) a)
+      (judged_access model before (timeline_of script run) a)
   one_alike model ids others = record {
     named = access.named;
     reached = access.access;
@@ -189,7 +189,7 @@ module _ (script : Script) (run : Run) (before : Id → Id → Bool) (judged_run
       (accesses : List IssuedAccess) → EachKept IsKeptAccess kepts accesses →
       ((a : IssuedAccess) → In a accesses → In a (accesses_in script run)) →
       AreAlike before ids (map (with_points script records before model) kepts)
-      (map (judged model before (timeline_of script run)) accesses)
+      (map (judged_access model before (timeline_of script run)) accesses)
   each_alike ids others [] [] all of_run = tt
   each_alike ids others [] (a ∷ accesses) all of_run = absurd all
   each_alike ids others (kept ∷ kepts) [] all of_run = absurd all

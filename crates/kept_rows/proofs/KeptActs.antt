@@ -8,7 +8,7 @@ use Rattle.rma_types.specs.declared.calls.Call.{Call}
 use Rattle.rma_types.specs.declared.calls.Call.TheVariants.{Put, Acc, GetAcc, Store}
 use Rattle.rma_types.specs.declared.scripts.Layout.{Layout}
 use Rattle.call_rules.specs.Actions.{Action, Moves, Transfer, action_of, creation_in, creation_of, synchronisation_in}
-use Rattle.call_rules.specs.Actions.{synchronisation_of, window_in_action, window_named}
+use Rattle.call_rules.specs.Actions.{synchronisation_of, window_in_action, window_of_call}
 use Rattle.call_rules.specs.Pieces.{numbers_from}
 use Rattle.rank_rules.specs.Ranges.{Range}
 use Rattle.rank_rules.specs.Windows.{no_part, window_number}
@@ -30,7 +30,7 @@ unless_moved f same (GetAcc req win target disp dtype op values) = same _ _ refl
 unless_moved f same (Store win disp dtype values) = same _ _ refl
 unless_moved f same call = refl
 
-pub name_kept : (call : Call) → window_named (kept_call call) ≡ window_named call
+pub name_kept : (call : Call) → window_of_call (kept_call call) ≡ window_of_call call
 name_kept call = unless_moved window_in_action (λ t u e. ap Some e) call
 
 pub creation_kept : (call : Call) → creation_of (kept_call call) ≡ creation_of call
@@ -105,7 +105,7 @@ creations_kept rows rank win = count_kept kept_row
     (λ row. rw (creation_kept row.call, name_kept row.call) refl) rows
 
 pub window_kept : (rows : List Row) (row : Row) → window_of (kept_rows rows) row ≡ window_of rows row
-window_kept rows row = at (window_named row.call)
+window_kept rows row = at (window_of_call row.call)
   where
     at : (name : Option ℕ) → option_map_or (λ win. window_number (round_of (kept_rows rows) row win) win) name 0
         ≡ option_map_or (λ win. window_number (round_of rows row win) win) name 0

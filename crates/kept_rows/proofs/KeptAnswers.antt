@@ -20,7 +20,7 @@ use Rattle.board_rules.specs.Board.{may_enter_now, may_synchronise_now, meets_po
 use Rattle.board_rules.specs.Board.{synchronisation_refusal}
 use Rattle.board_rules.specs.Entries.{Row, arrivals, collective_of}
 use Rattle.board_rules.specs.Locks.{Held, are_free, do_clash, held_here, is_locked, locks_asked}
-use Rattle.board_rules.specs.Posts.{completed, completes, group_of_post, group_of_start, is_complete, is_posted}
+use Rattle.board_rules.specs.Posts.{completed_groups, completes, group_of_post, group_of_start, is_complete, is_posted}
 use Rattle.board_rules.specs.Posts.{is_wait, last_posted, made_by, naming, posts, start_has_posts, starts}
 use Rattle.board_rules.specs.Posts.{wait_has_completes}
 use Rattle.board_rules.specs.Questions.{Question, question}
@@ -66,7 +66,7 @@ starts_kept q rank = ap (flat_map group_of_start) (made_kept q rank)
 pub completes_kept : (q : Question) (rank : ℕ) → completes (after_kept q) rank ≡ completes q rank
 completes_kept q rank = ap (count_by is_complete) (made_kept q rank)
 
-pub completed_kept : (q : Question) (rank : ℕ) → completed (after_kept q) rank ≡ completed q rank
+pub completed_kept : (q : Question) (rank : ℕ) → completed_groups (after_kept q) rank ≡ completed_groups q rank
 completed_kept q rank = ap (λ made. take (count_by is_complete made) (flat_map group_of_start made)) (made_kept q rank)
 
 pub last_kept : (q : Question) → last_posted (after_kept q) ≡ last_posted q
@@ -134,14 +134,15 @@ has_posts_kept q group = all_same
 
 has_completes_kept : (q : Question) → wait_has_completes (after_kept q) ≡ wait_has_completes q
 has_completes_kept q =
-    ap (list_all (λ member. naming q.rank (completed (after_kept q) member) == naming member
+    ap (list_all (λ member. naming q.rank (completed_groups (after_kept q) member) == naming member
     (posts (after_kept q) q.rank))) (last_kept q)
     ∙ all_same
-    (λ member. naming q.rank (completed (after_kept q) member) == naming member (posts (after_kept q) q.rank))
-    (λ member. naming q.rank (completed q member) == naming member (posts q q.rank))
+    (λ member. naming q.rank (completed_groups (after_kept q) member) == naming member (posts (after_kept q) q.rank))
+    (λ member. naming q.rank (completed_groups q member) == naming member (posts q q.rank))
     (λ member. ap (λ groups. naming q.rank groups == naming member (posts (after_kept q) q.rank))
     (completed_kept q member)
-    ∙ ap (λ groups. naming q.rank (completed q member) == naming member groups) (posts_kept q q.rank)) (last_posted q)
+    ∙ ap (λ groups. naming q.rank (completed_groups q member) == naming member groups) (posts_kept q q.rank))
+    (last_posted q)
 
 fence_kept : (q : Question) (s : Synchronisation) → fence_refusal (after_kept q) s ≡ fence_refusal q s
 fence_kept q (Fences asserts) = ap (λ calls. refuse_if (list_any (is_differing_fence asserts) calls) AssertClass)

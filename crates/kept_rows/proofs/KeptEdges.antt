@@ -14,7 +14,7 @@ use Rattle.board_rules.specs.Edges.{is_edge, is_edge_by, is_locked_after, is_mat
 use Rattle.board_rules.specs.Edges.{is_waited_for_by}
 use Rattle.board_rules.specs.Entries.{arrivals, collective_of, is_collective, is_same_collective}
 use Rattle.board_rules.specs.Locks.{do_clash, is_given_back, lock_of, locks_asked, unlock_of}
-use Rattle.board_rules.specs.Posts.{completed, completes, group_of_post, group_of_start, is_complete, is_wait}
+use Rattle.board_rules.specs.Posts.{completed_groups, completes, group_of_post, group_of_start, is_complete, is_wait}
 use Rattle.board_rules.specs.Posts.{last_posted, naming, posts, starts}
 use Rattle.board_rules.specs.Rounds.{rounds_begun}
 use Rattle.kept_rows.specs.KeptRowLaws.{kept_acts, kept_event}
@@ -75,7 +75,7 @@ ended_kept a =
 waited_from : (a b : Event) → is_waited_for_by (kept_event a) b ≡ is_waited_for_by a b
 waited_from a b =
     ap (λ group. is_member b.asked.rank group && is_member a.asked.rank (last_posted b.asked)
-    && naming b.asked.rank (completed (kept_event a).asked a.asked.rank) + 1 == naming a.asked.rank
+    && naming b.asked.rank (completed_groups (kept_event a).asked a.asked.rank) + 1 == naming a.asked.rank
     (posts b.asked b.asked.rank)) (ended_kept a)
     ∙ ap (λ groups. is_member b.asked.rank (group_completed a) && is_member a.asked.rank (last_posted b.asked)
     && naming b.asked.rank groups + 1 == naming a.asked.rank (posts b.asked b.asked.rank))
@@ -84,10 +84,10 @@ waited_from a b =
 waited_to : (a b : Event) → is_waited_for_by a (kept_event b) ≡ is_waited_for_by a b
 waited_to a b =
     ap (λ group. is_member b.asked.rank (group_completed a) && is_member a.asked.rank group
-    && naming b.asked.rank (completed a.asked a.asked.rank) + 1 == naming a.asked.rank
+    && naming b.asked.rank (completed_groups a.asked a.asked.rank) + 1 == naming a.asked.rank
     (posts (kept_event b).asked b.asked.rank)) (last_kept b.asked)
     ∙ ap (λ groups. is_member b.asked.rank (group_completed a) && is_member a.asked.rank (last_posted b.asked)
-    && naming b.asked.rank (completed a.asked a.asked.rank) + 1 == naming a.asked.rank groups)
+    && naming b.asked.rank (completed_groups a.asked a.asked.rank) + 1 == naming a.asked.rank groups)
     (posts_kept b.asked b.asked.rank)
 
 locked_from : (a b : Event) (unlocked : Option ℤ) (lock : Lock × Option ℤ) →

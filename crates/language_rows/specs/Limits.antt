@@ -7,7 +7,7 @@ use Rattle.std.specs.Prelude.{pos, Some, None}
 use Rattle.rma_types.specs.declared.calls.Call.TheVariants.{Barrier, Put, Post}
 use Rattle.rma_types.specs.declared.dtypes.Dtype.TheVariants.{Int8}
 use Rattle.script_language.specs.Calls.{no_asserts}
-use Rattle.script_language.specs.Drafts.{repeated}
+use Rattle.script_language.specs.Drafts.{repeat_calls}
 
 -- a number past its range
 abbrev pub LimitsOfNumbers : Type 0
@@ -86,7 +86,7 @@ abbrev pub longest : List (List ℕ)
 longest = codes "ranks 1" ∷ codes "rank 0" ∷ codes "repeat 65536" ∷ codes "barrier" ∷ codes "end" ∷ []
 
 abbrev pub IsTheLongest : Type 0
-IsTheLongest = Say longest (script (repeated 65536 (Barrier ∷ []) ∷ []))
+IsTheLongest = Say longest (script (repeat_calls 65536 (Barrier ∷ []) ∷ []))
 
 -- all ranks together have at most 65,536 calls
 abbrev pub LimitsOfCalls : Type 0

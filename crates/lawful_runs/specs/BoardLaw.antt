@@ -37,7 +37,8 @@ abbrev pub AreAllowed : ℕ → List Row → List Row → Type 0
 AreAllowed ranks before [] = Unit {0}
 AreAllowed ranks before (row ∷ rows) = (decide ranks before row ≡ Allow) × AreAllowed ranks (before ++ row ∷ []) rows
 
--- a look of the rank saw what it says: the board refuses the call by this class, or makes the testwin wait
+-- a look of the rank saw what it says: the board refuses the call by this class, or does not yet allow the testwin,
+-- which is then false
 abbrev pub IsLook : ℕ → List Row → ℕ → List Call → Item → Type 0
 IsLook ranks rows rank calls (Refused number class zero) = Unit {0}
 IsLook ranks rows rank calls (Refused number class (suc before)) =

@@ -18,8 +18,8 @@ use Rattle.rank_rules.specs.Courses.{EntryOrTested, OneEntry, course_of, has_ent
 use Rattle.rank_rules.specs.Knowledge.{Knowledge, own_class}
 
 -- the items other than touches
-abbrev pub untouched : List Item → List Item
-untouched log = filter (λ item. not (is_touch item)) log
+abbrev pub other_items : List Item → List Item
+other_items log = filter (λ item. not (is_touch item)) log
 
 -- the item is the Issue of the call of this number
 abbrev pub IsIssueOf : Knowledge → ℕ → Call → Item → Type 0

@@ -16,15 +16,15 @@ abbrev pub has_place : ℕ → Touching → Bool
 has_place place touch = touch.place == place
 
 -- the value after the touch's change, if it makes one
-abbrev pub changed : ℕ → Option Change → ℕ
-changed bits None = bits
-changed bits (Some change) = next bits change
+abbrev pub bits_after : ℕ → Option Change → ℕ
+bits_after bits None = bits
+bits_after bits (Some change) = next bits change
 
 -- the value of a cell, at first 0, after its updates with the places below k, in this order
 abbrev pub state : List Touching → ℕ → ℕ
 state updates zero = 0
 state updates (suc k) = option_map_or
-    (λ (update : Touching). changed (state updates k) update.change) (find (has_place k) updates) (state updates k)
+    (λ (update : Touching). bits_after (state updates k) update.change) (find (has_place k) updates) (state updates k)
 
 -- one of two touches on one cell stands before the other in a log: an update's place is passed, and a read's not fallen
 -- below

@@ -31,14 +31,14 @@ next_untouched index [] = None
 next_untouched index (item ∷ items) = if is_touch item then next_untouched (index + 1) items else Some index
 
 -- the access at a place of the pending ones gives way in the end to the one whose Issue has this index
-abbrev pub leads_to : List PendingAccess → ℕ → ℕ → Bool
-leads_to pending at issue =
+abbrev pub gives_way_to : List PendingAccess → ℕ → ℕ → Bool
+gives_way_to pending at issue =
     option_map_or (λ (one : PendingAccess). one.index == issue) (slice_get pending (way pending at)) false
 
 -- the item at the index must wait for the pending access at a place, which is that of the Issue or gave way to it
 abbrev pub is_due_for : RankOfRun → List Item → List PendingAccess → ℕ → ℕ → ℕ → Bool
 is_due_for here log pending issue index at = option_map_or
-    (λ (one : PendingAccess). waits_at here log index one && (one.index == issue || leads_to pending at issue))
+    (λ (one : PendingAccess). waits_at here log index one && (one.index == issue || gives_way_to pending at issue))
     (slice_get pending at) false
 
 -- the item at the index must wait for the access of this Issue, or for one that gave way to it

@@ -8,7 +8,7 @@ use Rattle.rma_record.specs.declared.runs.Run.{Run}
 use Rattle.call_rules.specs.Pieces.{numbers_from}
 use Rattle.lawful_runs.specs.Accesses.{EachPair}
 use Rattle.lawful_runs.specs.BoardLaw.{HasLawfulBoard}
-use Rattle.lawful_runs.specs.CallItems.{HasItemsOfCalls, untouched}
+use Rattle.lawful_runs.specs.CallItems.{HasItemsOfCalls, other_items}
 use Rattle.lawful_runs.specs.Cells.{HasLawfulCells}
 use Rattle.lawful_runs.specs.DelayLaw.{KeepsDelay}
 use Rattle.lawful_runs.specs.Items.{has_ended}
@@ -19,7 +19,7 @@ use Rattle.lawful_runs.specs.TouchLaw.{IsLookUpFollowed, issued_in, issues_touch
 
 -- the log of a rank
 pub record IsLawfulLog (here : RankOfRun) (log : List Item) : Type 0 where
-  pub calls : HasItemsOfCalls here (untouched log)
+  pub calls : HasItemsOfCalls here (other_items log)
   pub look_ups : AllByRecursion (IsLookUpFollowed here log) (numbers_from 0 (length log))
   pub touches : AllByRecursion (IsTouchedWhole here log) (issued_in here log)
   pub issues : AllByRecursion (HasItsIssue here log) (numbers_from 0 (length log))

@@ -76,13 +76,13 @@ KeepsIssueOrder here log first second =
     (λ later. IfSome (issued second) (λ earlier. gives_way later earlier ≡ false))
 
 -- the index of the Issue of a touch
-abbrev pub issue_of : Item → List ℕ
-issue_of (Touch issue element cell place bits) = issue ∷ []
-issue_of item = []
+abbrev pub issue_touched : Item → List ℕ
+issue_touched (Touch issue element cell place bits) = issue ∷ []
+issue_touched item = []
 
 -- the indices of the Issues of the touches, in the order of the touches
 abbrev pub issues_touched : List Item → List ℕ
-issues_touched log = flat_map issue_of log
+issues_touched log = flat_map issue_touched log
 
 -- ---- what must be touched before an item
 

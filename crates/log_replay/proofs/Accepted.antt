@@ -16,7 +16,7 @@ use Rattle.rma_record.specs.declared.items.Item.TheVariants.{Ended}
 use Rattle.call_rules.specs.Actions.{Action, Creates, Frees, Attaches, Detaches, Synchronises, Meets, Moves}
 use Rattle.call_rules.specs.Actions.{EndsRequest, Synchronisation, Fences, Posts, Starts, Completes, Waits, Locks}
 use Rattle.call_rules.specs.Actions.{Unlocks, Flushes, Syncs, action_of, transfer_in}
-use Rattle.lawful_runs.specs.CallItems.{untouched, AreItemsOfCourse, AreItemsBy, AreItemsOf, AreFinished, StandsAt}
+use Rattle.lawful_runs.specs.CallItems.{other_items, AreItemsOfCourse, AreItemsBy, AreItemsOf, AreFinished, StandsAt}
 use Rattle.lawful_runs.specs.CallItems.{EndsOrStands, HasItemsOfCalls}
 use Rattle.lawful_runs.specs.Items.{is_touch}
 use Rattle.lawful_runs.specs.Stages.{RankOfRun, calls_here, known_at, shapes_in, first_knowledge}
@@ -180,21 +180,21 @@ module _ (shapes : ℕ → List Part) (calls : List Call) where
   touch_ends (Refused number class seen) h = absurd (cc h)
   touch_ends Ended h = absurd (cc h)
 
-  with_touches : (known : Knowledge) (log : List Item) → ArePassed known (untouched log) → ArePassed known log
+  with_touches : (known : Knowledge) (log : List Item) → ArePassed known (other_items log) → ArePassed known log
   with_touches known [] h = tt
   with_touches known (x ∷ log) h =
       by_test (is_touch x) refl (λ k rest. with_touches k log rest) h
     where
       by_test : (b : Bool) → is_touch x ≡ b →
-          ((k : Knowledge) → ArePassed k (untouched log) → ArePassed k log) →
-          ArePassed known (cond (not b) (x ∷ untouched log) (untouched log)) → ArePassed known (x ∷ log)
+          ((k : Knowledge) → ArePassed k (other_items log) → ArePassed k log) →
+          ArePassed known (cond (not b) (x ∷ other_items log) (other_items log)) → ArePassed known (x ∷ log)
       by_test true touch rest all =
           let none = touch_ends x touch in
           let same : learn shapes calls known x ≡ known =
           ap (λ o. option_map_or (known_after_number shapes calls known) o known) none in (
             λ number call accepted of. absurd (cc (none, accepted)),
             rest (learn shapes calls known x)
-                (subst (λ k. ArePassed k (untouched log)) (sym same) all),
+                (subst (λ k. ArePassed k (other_items log)) (sym same) all),
           )
       by_test false other rest all = (all.0, rest (learn shapes calls known x) all.1)
 
@@ -253,9 +253,9 @@ module _ (here : RankOfRun) where
       (finished_passed number before finished) (ending_passed before number rest end))
 
   -- an item of a lawful log
-  pub passed_at : (log : List Item) (k : ℕ) (item : Item) → HasItemsOfCalls here (untouched log) →
+  pub passed_at : (log : List Item) (k : ℕ) (item : Item) → HasItemsOfCalls here (other_items log) →
       slice_get log k ≡ Some item → IsPassed (calls_here here) (known_at here (take k log)) item
   passed_at log k item has e =
       passed_get shapes (calls_here here) (first_knowledge here.stage here.rank) log k item
       (with_touches shapes (calls_here here) (first_knowledge here.stage here.rank) log
-      (items_passed (untouched log) has)) e
+      (items_passed (other_items log) has)) e

@@ -11,8 +11,8 @@ use Rattle.call_rules.specs.Actions.{Unlocks, Flushes, Syncs, Transfer, Target, 
 use Rattle.call_rules.specs.Ranks.{is_member, natural}
 use Rattle.rank_rules.specs.Epochs.{AccessEpoch, Idle, FenceUnused, FenceUsed, StartTo, LocksAt, LockAll, Epochs}
 use Rattle.rank_rules.specs.Epochs.{ExposureEpoch, access_after, after_transfer, after_use}
-use Rattle.rank_rules.specs.Epochs.{epochs_at, is_fence_unused, is_fence_used, is_posted}
-use Rattle.rank_rules.specs.Epochs.{locks_at, may_lock, may_synchronise, no_epochs, targets_locked}
+use Rattle.rank_rules.specs.Epochs.{epochs_at, is_fence_unused, is_fence_used, is_exposed}
+use Rattle.rank_rules.specs.Epochs.{epoch_of_locks, may_lock, may_synchronise, no_epochs, targets_locked}
 use Rattle.log_replay.specs.Deeds.{turn_by}
 use Rattle.log_replay.specs.declared.deeds.Turn.TheVariants as turn
 use Rattle.log_replay.specs.declared.tables.Epoch.TheVariants.{Locks}
@@ -102,7 +102,7 @@ locks_are (StartTo group) = refl
 locks_are (LocksAt targets) = refl
 locks_are LockAll = refl
 
-fewer_locks : (xs : List ℕ) → epoch_by (locks_at xs) ≡ one_less (length xs + 1)
+fewer_locks : (xs : List ℕ) → epoch_by (epoch_of_locks xs) ≡ one_less (length xs + 1)
 fewer_locks [] = refl
 fewer_locks (x ∷ xs) =
     let more : nat_lt 1 (length (x ∷ xs) + 1) ≡ true = grind (arith, nat_tests) in
@@ -138,7 +138,7 @@ turn_follows access exposure (Fences asserts) may apart =
     × AreApart (targets_locked (cond b Idle FenceUnused))) [ true ↦ (refl, tt) | false ↦ (refl, tt) ]
 turn_follows access exposure (Posts group asserts) may apart =
     post_follows access (not_true (is_fence_used access)
-    (and_true (not (is_fence_used access)) (not (is_posted exposure)) may).0) apart
+    (and_true (not (is_fence_used access)) (not (is_exposed exposure)) may).0) apart
 turn_follows access exposure (Starts group asserts) may apart = (refl, tt)
 turn_follows access exposure Completes may apart = (refl, tt)
 turn_follows access exposure (Waits tests) may apart = (refl, apart)
@@ -160,7 +160,7 @@ turn_follows access exposure (Unlocks (Some target)) may apart =
           (apart_without (natural target) (targets_locked access) apart),
     )
   where
-    apart_of : (xs : List ℕ) → AreApart xs → AreApart (targets_locked (locks_at xs))
+    apart_of : (xs : List ℕ) → AreApart xs → AreApart (targets_locked (epoch_of_locks xs))
     apart_of [] h = tt
     apart_of (x ∷ xs) h = h
 turn_follows access exposure (Flushes target local) may apart = (refl, apart)

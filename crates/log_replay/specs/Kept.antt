@@ -5,7 +5,7 @@ use Rattle.std.specs.List.{flat_map}
 use Rattle.std.specs.Option.{option_map, option_map_or}
 use Rattle.rma_types.specs.declared.scripts.Script.{Script}
 use Rattle.rma_record.specs.declared.runs.Run.{Run}
-use Rattle.call_rules.specs.Actions.{action_of, window_named}
+use Rattle.call_rules.specs.Actions.{action_of, window_of_call}
 use Rattle.lawful_runs.specs.Logs.{calls_of, log_of, named_in}
 use Rattle.order_rules.specs.CallSteps.{CallStep, IssuedAccess, accesses_of, steps_of_item}
 use Rattle.order_rules.specs.DonePoints.{request_ended}
@@ -23,7 +23,7 @@ use Rattle.log_replay.specs.declared.kept.RankRecord.{RankRecord}
 abbrev pub number_known : CallStep → Option ℕ
 number_known x = option_map_or
     (λ win. option_map (λ (window : Window). window.number) (window_of_name x.known.windows win))
-    (window_named x.call) None
+    (window_of_call x.call) None
 
 -- the number of the call that made the live request which the call of a step ends, as its rank knew it
 abbrev pub maker_known : CallStep → Option ℕ

@@ -18,7 +18,7 @@ use Rattle.lawful_runs.specs.Accesses.{EachPair, transfer_at, issued_by, issued_
 use Rattle.lawful_runs.specs.Logs.{log_of, calls_of}
 use Rattle.order_rules.specs.CallSteps.{IssuedAccess, issued_access, accesses_of, accesses_in}
 use Rattle.order_rules.specs.DonePoints.{timeline_of}
-use Rattle.order_rules.specs.Findings.{judged}
+use Rattle.order_rules.specs.Findings.{judged_access}
 use Rattle.order_rules.specs.Ordered.{JudgedAccess}
 use Rattle.order_laws.specs.FindingLaws.{IsSmaller, AccessesAscend}
 
@@ -163,6 +163,6 @@ module _ (script : Script) (run : Run) where
 
 pub ascend : AccessesAscend
 ascend script run model before =
-    pair_mapped (λ (a b : JudgedAccess). IsSmaller a.id b.id) (judged model before (timeline_of script run))
+    pair_mapped (λ (a b : JudgedAccess). IsSmaller a.id b.id) (judged_access model before (timeline_of script run))
     (accesses_in script run)
     (ranks_ascend script run 0 script.ranks)

@@ -25,7 +25,7 @@ use Rattle.board_rules.specs.Entries.{Act, Collective, Creation, Freeing, Fence,
 use Rattle.board_rules.specs.Entries.{is_same_collective, arrivals, is_by_on, is_arrive, synchronisations}
 use Rattle.board_rules.specs.Locks.{lock_of, unlock_of}
 use Rattle.board_rules.specs.Posts.{group_of_post, group_of_start, is_complete, is_wait, naming, posts, starts}
-use Rattle.board_rules.specs.Posts.{completed, last_posted, start_has_posts, wait_has_completes}
+use Rattle.board_rules.specs.Posts.{completed_groups, last_posted, start_has_posts, wait_has_completes}
 use Rattle.board_rules.specs.Questions.{Question}
 use Rattle.board_rules.specs.Rounds.{arrivals_of, rounds_begun, all_arrived}
 use Rattle.order_laws.proofs.Members.{In, here, there, any_in, all_in, in_numbers, some_of}
@@ -258,17 +258,18 @@ waited_ascends : (qa qb : Question) (more : List Act) (pa pb : ℕ) → qa.entri
 waited_ascends qa qb more pa pb entries window has h =
     let group = group_completed (record { place = pa; step = One; asked = qa }) in
     let two = and_parts (is_member qb.rank group && is_member qa.rank (last_posted qb))
-    (naming qb.rank (completed qa qa.rank) + 1 == naming qa.rank (posts qb qb.rank)) h in
+    (naming qb.rank (completed_groups qa qa.rank) + 1 == naming qa.rank (posts qb qb.rank)) h in
     let named = and_parts (is_member qb.rank group) (is_member qa.rank (last_posted qb)) two.0 in
-    let counts : naming qb.rank (completed qa qa.rank) + 1 ≡ naming qa.rank (posts qb qb.rank) = eqb-true _ _ two.1 in
-    let equal : naming qb.rank (completed qb qa.rank) ≡ naming qa.rank (posts qb qb.rank) =
-    eqb-true _ _ (all_in (λ member. naming qb.rank (completed qb member) == naming member (posts qb qb.rank)) has
+    let counts : naming qb.rank (completed_groups qa qa.rank) + 1 ≡ naming qa.rank (posts qb qb.rank) =
+    eqb-true _ _ two.1 in
+    let equal : naming qb.rank (completed_groups qb qa.rank) ≡ naming qa.rank (posts qb qb.rank) =
+    eqb-true _ _ (all_in (λ member. naming qb.rank (completed_groups qb member) == naming member (posts qb qb.rank)) has
     (member_in qa.rank (last_posted qb) named.1)) in
     let grown = completed_grows qb.entries more qa.rank qb.window qb.rank in
     let f : List Act → ℕ → ℕ = λ e w. naming qb.rank
     (take (count_by is_complete (synchronisations e qa.rank w))
     (flat_map group_of_start (synchronisations e qa.rank w))) in
-    let same : naming qb.rank (completed qa qa.rank) ≡ f (qb.entries ++ more) qb.window =
+    let same : naming qb.rank (completed_groups qa qa.rank) ≡ f (qb.entries ++ more) qb.window =
     ap (λ e. f e qa.window) entries ∙ ap (f (qb.entries ++ more)) window in
     omega arith
 

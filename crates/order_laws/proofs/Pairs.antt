@@ -10,7 +10,7 @@ use Rattle.rma_types.specs.declared.accesses.Id.{Id}
 use Rattle.rma_types.specs.declared.findings.Finding.{Finding}
 use Rattle.rma_types.specs.declared.findings.Model.{Model}
 use Rattle.rma_types.specs.declared.findings.Rule.{Rule}
-use Rattle.order_rules.specs.Findings.{judged_accesses, unless_ordered, forbidden, first_finding, findings_after}
+use Rattle.order_rules.specs.Findings.{judged_accesses, unless_ordered, pair_rule, first_finding, findings_after}
 use Rattle.order_rules.specs.Findings.{findings}
 use Rattle.order_rules.specs.Ordered.{JudgedAccess, role_in}
 use Rattle.order_rules.specs.Roles.{Role, RmaUpdate, RmaRead, Store, Load}
@@ -60,8 +60,8 @@ module _ (model : Model) (before : Id → Id → Bool) where
     back : List JudgedAccess
     partner : accesses ≡ front ++ first ∷ back
     names : finding ≡ record { first = first.id; second = b.id; rule = finding.rule }
-    forbids : forbidden model before first b ≡ Some finding.rule
-    least : AllByRecursion (λ (one : JudgedAccess). forbidden model before one b ≡ None) front
+    forbids : pair_rule model before first b ≡ Some finding.rule
+    least : AllByRecursion (λ (one : JudgedAccess). pair_rule model before one b ≡ None) front
 
   made : JudgedAccess → JudgedAccess → Rule → Finding
   made a b rule = record { first = a.id; second = b.id; rule = rule }
@@ -70,7 +70,7 @@ module _ (model : Model) (before : Id → Id → Bool) where
       first_finding model before accesses b ≡ Some finding → IsFirst accesses b finding
   unfolding made
   first_is [] b finding h = absurd (cc h)
-  first_is (a ∷ rest) b finding h = elim (cases_option (forbidden model before a b)) [
+  first_is (a ∷ rest) b finding h = elim (cases_option (pair_rule model before a b)) [
     | inl none ↦
         let later = first_is rest b finding
         (sym (ap (λ o. option_map_or (λ rule. Some (made a b rule)) o (first_finding model before rest b)) none)
@@ -136,11 +136,11 @@ module _ (model : Model) (before : Id → Id → Bool) where
   -- ---- no pair is left out
 
   some_first : (accesses : List JudgedAccess) (b first : JudgedAccess) (rule : Rule) → In first accesses →
-      forbidden model before first b ≡ Some rule → (finding : Finding)
+      pair_rule model before first b ≡ Some rule → (finding : Finding)
       × (first_finding model before accesses b ≡ Some finding) × (finding.second ≡ b.id)
   unfolding made
   some_first [] b first rule m h = elim m [ ]
-  some_first (a ∷ rest) b first rule m h = elim (cases_option (forbidden model before a b)) [
+  some_first (a ∷ rest) b first rule m h = elim (cases_option (pair_rule model before a b)) [
     | inr some ↦ (
       made a b some.0,
       ap
@@ -157,7 +157,7 @@ module _ (model : Model) (before : Id → Id → Bool) where
   ]
     where
       in_rest : (a : JudgedAccess) (rest : List JudgedAccess) (first : JudgedAccess) →
-          forbidden model before a b ≡ None → forbidden model before first b ≡ Some rule → In first (a ∷ rest) →
+          pair_rule model before a b ≡ None → pair_rule model before first b ≡ Some rule → In first (a ∷ rest) →
           In first rest
       in_rest a rest first none h here = absurd (cc (sym none ∙ h))
       in_rest a rest first none h (there m) = m

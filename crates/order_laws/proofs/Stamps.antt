@@ -12,7 +12,7 @@ use Rattle.board_rules.specs.Edges.{Event}
 use Rattle.lawful_runs.specs.LawfulRun.{IsLawful}
 use Rattle.lawful_runs.specs.Logs.{rows_of}
 use Rattle.order_rules.specs.Before.{NamedEvent, events_in}
-use Rattle.clock_rules.specs.Clocks.{Stamp, count_in, precedes, joined, own_counts, joined_with, stamp_after}
+use Rattle.clock_rules.specs.Clocks.{Stamp, count_in, precedes, join_counts, own_counts, joined_with, stamp_after}
 use Rattle.clock_rules.specs.Clocks.{stamps_after, stamps_in, IsCountedFrom}
 use Rattle.order_laws.specs.ClockLaws.{StampsKeepLaws}
 use Rattle.order_laws.proofs.Decide.{precedes_ascends}
@@ -22,7 +22,7 @@ use Rattle.order_laws.proofs.Order.{event_at}
 
 -- ---- joins
 
-joined_at : (xs ys : List ℕ) (rank : ℕ) → slice_index (joined xs ys) rank ≡ max (slice_index xs rank)
+joined_at : (xs ys : List ℕ) (rank : ℕ) → slice_index (join_counts xs ys) rank ≡ max (slice_index xs rank)
     (slice_index ys rank)
 joined_at [] ys rank = omega arith
 joined_at (x ∷ xs) [] rank = omega arith
@@ -30,17 +30,17 @@ joined_at (x ∷ xs) (y ∷ ys) zero = refl
 joined_at (x ∷ xs) (y ∷ ys) (suc rank) = joined_at xs ys rank
 
 step_rest : (counts rest : List ℕ) (test : Bool) (rank : ℕ) → slice_index rest rank ≤ slice_index
-    (if test then joined counts rest else rest) rank
+    (if test then join_counts counts rest else rest) rank
 step_rest counts rest true rank = let at = joined_at counts rest rank in omega arith
 step_rest counts rest false rank = omega arith
 
 step_counts : (counts rest : List ℕ) (test : Bool) (rank : ℕ) → test ≡ true → slice_index counts rank ≤ slice_index
-    (if test then joined counts rest else rest) rank
+    (if test then join_counts counts rest else rest) rank
 step_counts counts rest true rank passes = let at = joined_at counts rest rank in omega arith
 step_counts counts rest false rank passes = absurd (cc passes)
 
 step_from : (counts rest : List ℕ) (test : Bool) (rank n : ℕ) →
-    n < slice_index (if test then joined counts rest else rest) rank → (n < slice_index rest rank)
+    n < slice_index (if test then join_counts counts rest else rest) rank → (n < slice_index rest rank)
     ⊎ ((test ≡ true) × (n < slice_index counts rank))
 step_from counts rest true rank n below =
     let at = joined_at counts rest rank in

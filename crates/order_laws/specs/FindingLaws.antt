@@ -10,7 +10,7 @@ use Rattle.rma_types.specs.declared.scripts.Script.{Script}
 use Rattle.rma_record.specs.declared.runs.Run.{Run}
 use Rattle.lawful_runs.specs.Accesses.{EachPair}
 use Rattle.lawful_runs.specs.LawfulRun.{IsLawful}
-use Rattle.order_rules.specs.Findings.{judged_accesses, forbidden, findings, AreFindings}
+use Rattle.order_rules.specs.Findings.{judged_accesses, pair_rule, findings, AreFindings}
 use Rattle.order_rules.specs.Ordered.{JudgedAccess, role_in}
 use Rattle.order_rules.specs.Roles.{Role, RmaUpdate, RmaRead, Store, Load}
 
@@ -23,7 +23,7 @@ is_update Load = false
 -- two accesses of which neither is an update are no forbidden pair
 abbrev pub ReadsAreNoPair : Type 0
 ReadsAreNoPair = (model : Model) (before : Id → Id → Bool) (a b : JudgedAccess) →
-    is_update (role_in a) ≡ false → is_update (role_in b) ≡ false → forbidden model before a b ≡ None
+    is_update (role_in a) ≡ false → is_update (role_in b) ≡ false → pair_rule model before a b ≡ None
 
 -- the first name is smaller: by rank, and then by index
 abbrev pub IsSmaller : Id → Id → Type 0
@@ -46,8 +46,8 @@ pub record IsFirstPair (model : Model) (before : Id → Id → Bool)
   pub back : List JudgedAccess
   pub partner : earlier ≡ front ++ first ∷ back
   pub names : finding ≡ record { first = first.id; second = second.id; rule = finding.rule }
-  pub forbids : forbidden model before first second ≡ Some finding.rule
-  pub least : AllByRecursion (λ (one : JudgedAccess). forbidden model before one second ≡ None) front
+  pub forbids : pair_rule model before first second ≡ Some finding.rule
+  pub least : AllByRecursion (λ (one : JudgedAccess). pair_rule model before one second ≡ None) front
 
 -- each finding has the least partner
 abbrev pub PartnersAreLeast : Type 0
@@ -60,7 +60,7 @@ abbrev pub EachPairIsFound : Type 0
 EachPairIsFound = (script : Script) (run : Run) (model : Model) (before : Id → Id → Bool)
     (earlier : List JudgedAccess) (second : JudgedAccess) (later : List JudgedAccess) →
     judged_accesses script run model before ≡ earlier ++ second ∷ later →
-    (first : JudgedAccess) → Contains earlier first → (rule : Rule) → forbidden model before first second ≡ Some rule →
+    (first : JudgedAccess) → Contains earlier first → (rule : Rule) → pair_rule model before first second ≡ Some rule →
     (finding : Finding) × Contains (findings script run model before) finding × (finding.second ≡ second.id)
 
 -- a lawful run has one list of findings

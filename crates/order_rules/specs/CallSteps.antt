@@ -14,7 +14,7 @@ use Rattle.rma_record.specs.declared.items.Item.{Item}
 use Rattle.rma_record.specs.declared.items.Item.TheVariants.{Issue, Null, Touch, Flush, Request, Entry, Tested, Refused}
 use Rattle.rma_record.specs.declared.items.Item.TheVariants.{Ended}
 use Rattle.rma_record.specs.declared.runs.Run.{Run}
-use Rattle.call_rules.specs.Actions.{Transfer, window_named}
+use Rattle.call_rules.specs.Actions.{Transfer, window_of_call}
 use Rattle.call_rules.specs.Pieces.{numbers_from}
 use Rattle.rank_rules.specs.Epochs.{AccessEpoch, Idle, epochs_at}
 use Rattle.rank_rules.specs.Knowledge.{Knowledge}
@@ -70,7 +70,7 @@ is_numbered known number win =
 
 -- the step is on the window of this number
 abbrev pub is_step_on : ℕ → CallStep → Bool
-is_step_on number x = option_map_or (is_numbered x.known number) (window_named x.call) false
+is_step_on number x = option_map_or (is_numbered x.known number) (window_of_call x.call) false
 
 -- ---- accesses
 

@@ -15,8 +15,8 @@ use Rattle.order_rules.specs.Ordered.{JudgedAccess, is_ordered}
 use Rattle.order_rules.specs.Rules.{forbidden_kind}
 use Rattle.order_rules.specs.VisiblePoints.{visible_points}
 
-abbrev pub judged : Model → (Id → Id → Bool) → Timeline → IssuedAccess → JudgedAccess
-judged model before timeline a = record {
+abbrev pub judged_access : Model → (Id → Id → Bool) → Timeline → IssuedAccess → JudgedAccess
+judged_access model before timeline a = record {
   id = a.id;
   access = a.issued.access;
   done = done_points timeline a;
@@ -25,22 +25,23 @@ judged model before timeline a = record {
 
 -- the accesses of a run with their points, in the order of their names
 abbrev pub judged_accesses : Script → Run → Model → (Id → Id → Bool) → List JudgedAccess
-judged_accesses script run model before = map (judged model before (timeline_of script run)) (accesses_in script run)
+judged_accesses script run model before =
+    map (judged_access model before (timeline_of script run)) (accesses_in script run)
 
 -- the rule, where neither access is ordered before the other
 abbrev pub unless_ordered : (Id → Id → Bool) → JudgedAccess → JudgedAccess → Rule → Option Rule
 unless_ordered before a b rule = if is_ordered before a b || is_ordered before b a then None else Some rule
 
 -- the rule by which the two accesses are a forbidden pair
-abbrev pub forbidden : Model → (Id → Id → Bool) → JudgedAccess → JudgedAccess → Option Rule
-forbidden model before a b =
+abbrev pub pair_rule : Model → (Id → Id → Bool) → JudgedAccess → JudgedAccess → Option Rule
+pair_rule model before a b =
     option_map_or (unless_ordered before a b) (forbidden_kind a.access a.id.rank b.access b.id.rank model) None
 
 -- the forbidden pair of the first of some accesses that forms one with this access
 abbrev pub first_finding : Model → (Id → Id → Bool) → List JudgedAccess → JudgedAccess → Option Finding
 first_finding model before [] b = None
 first_finding model before (a ∷ rest) b =
-    option_map_or (λ rule. Some (record { first = a.id; second = b.id; rule = rule })) (forbidden model before a b)
+    option_map_or (λ rule. Some (record { first = a.id; second = b.id; rule = rule })) (pair_rule model before a b)
     (first_finding model before rest b)
 
 -- for each of some accesses, the forbidden pair with the first one before it that forms one

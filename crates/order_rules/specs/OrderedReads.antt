@@ -37,7 +37,7 @@ updates_of script run cell = updates_in (on_cell cell (all_touches script run))
 abbrev pub left_before : (Id → Id → Bool) → Id → List Touching → ℕ
 left_before before id updates = state (filter (λ (update : Touching). before update.id id) updates) (length updates)
 
--- the datatype of an access: that of its call's elements
+-- what is read at each piece of an access, by the datatype of its call
 abbrev pub elements_of : Script → IssuedAccess → (Dtype → Piece → ℕ) → List ℕ
 elements_of script f read = option_map_or
     (λ (t : Transfer). map (read t.dtype) (pieces_of (layout script) (calls_of script f.id.rank) f.issued))

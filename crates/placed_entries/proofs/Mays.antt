@@ -16,7 +16,7 @@ use Rattle.rma_record.specs.declared.runs.Run.{Run}
 use Rattle.call_rules.specs.Actions.{action_of}
 use Rattle.call_rules.specs.WellFormed.{IsWellFormed, IsWrittenCall}
 use Rattle.rank_rules.specs.Knowledge.{Knowledge, own_class}
-use Rattle.lawful_runs.specs.CallItems.{untouched}
+use Rattle.lawful_runs.specs.CallItems.{other_items}
 use Rattle.lawful_runs.specs.Items.{is_touch}
 use Rattle.lawful_runs.specs.LawfulRun.{IsLawful, rank_in}
 use Rattle.lawful_runs.specs.Logs.{log_of, calls_of, entries_of}
@@ -51,9 +51,9 @@ may_ask script delay run formed lawful layout wide one member call got =
     let log = log_of run one.id.rank in
     let whole : In (Entry one.call one.place one.step) (log_of run one.id.rank) = get_in
     (log_of run one.id.rank) one.id.index (Entry one.call one.place one.step) entry.logged in
-    let untouched_one : In (Entry one.call one.place one.step) (untouched (log_of run one.id.rank)) =
+    let untouched_one : In (Entry one.call one.place one.step) (other_items (log_of run one.id.rank)) =
     in_filter (λ item. not (is_touch item)) whole refl in
-    let judged = each_judged (rank_in script delay run one.id.rank) (untouched (log_of run one.id.rank))
+    let judged = each_judged (rank_in script delay run one.id.rank) (other_items (log_of run one.id.rank))
     (lawful.logs one.id.rank entry.within).calls one.call one.place one.step untouched_one in
     let same : judged.call ≡ call = same_call judged.call (sym judged.of_rank ∙ got) in
     let known : Knowledge = known_at (rank_in script delay run one.id.rank) judged.before in

@@ -9,7 +9,7 @@ use Rattle.std.proofs.lemmas.Bool.{and_from, or_left, eq-eqb, ne_eqb}
 use Rattle.rma_types.specs.declared.accesses.Step.TheVariants.{Arrive, Leave}
 use Rattle.rma_types.specs.declared.calls.Call.{Call}
 use Rattle.call_rules.specs.Actions.{Action, Creates, Frees, Attaches, Detaches, Synchronises, Meets, Moves}
-use Rattle.call_rules.specs.Actions.{EndsRequest, action_of, creation_in, window_named}
+use Rattle.call_rules.specs.Actions.{EndsRequest, action_of, creation_in, window_of_call}
 use Rattle.board_rules.specs.Edges.{Event, are_on_one_window, is_arrive_to_leave, are_of_one_round, is_matched_one}
 use Rattle.board_rules.specs.Edges.{is_edge}
 use Rattle.board_rules.specs.Entries.{Row, Act, acts, window_of, round_of, is_creation, is_by_on, is_arrive}
@@ -166,7 +166,7 @@ module _ (ranks rank number : ℕ) (call : Call) (before between : List Row) (fe
       sums a b c d e f g h k = omega arith
 
   same_window : window_of before arrive_row ≡ window_of until_leave leave_row
-  same_window = by_name (window_named call)
+  same_window = by_name (window_of_call call)
     where
       by_name : (o : Option ℕ) →
           option_map_or (λ win. window_number (round_of before arrive_row win) win) o 0

@@ -15,7 +15,7 @@ use Rattle.rma_record.specs.declared.items.Item.TheVariants.{Issue, Null, Touch,
 use Rattle.rma_record.specs.declared.items.Item.TheVariants.{Ended}
 use Rattle.board_rules.specs.Entries.{Row}
 use Rattle.call_rules.specs.WellFormed.{IsWellFormed, IsWrittenCall}
-use Rattle.lawful_runs.specs.CallItems.{untouched, AreItemsOfCourse, AreItemsBy, AreFinished}
+use Rattle.lawful_runs.specs.CallItems.{other_items, AreItemsOfCourse, AreItemsBy, AreFinished}
 use Rattle.lawful_runs.specs.Items.{is_touch}
 use Rattle.lawful_runs.specs.Logs.{row_by}
 use Rattle.lawful_runs.specs.Stages.{RankOfRun, calls_here, known_at, shapes_in, first_knowledge}
@@ -191,16 +191,16 @@ module _ (here : RankOfRun) where
   touch_teaches_none known Ended h = absurd (cc h)
 
   after_untouched : (known : Knowledge) (log : List Item) →
-      after_items known log ≡ after_items known (untouched log)
+      after_items known log ≡ after_items known (other_items log)
   after_untouched known [] = refl
   after_untouched known (x ∷ log) = by_test (is_touch x) refl (λ k. after_untouched k log)
     where
       by_test : (b : Bool) → is_touch x ≡ b →
-          ((k : Knowledge) → after_items k log ≡ after_items k (untouched log)) →
+          ((k : Knowledge) → after_items k log ≡ after_items k (other_items log)) →
           after_items (learn shapes calls known x) log ≡ after_items known
-          (cond (not b) (x ∷ untouched log) (untouched log))
+          (cond (not b) (x ∷ other_items log) (other_items log))
       by_test true is rest = ap (λ k. after_items k log) (touch_teaches_none known x is) ∙ rest known
       by_test false is rest = rest (learn shapes calls known x)
 
-  pub known_untouched : (log : List Item) → known_at here log ≡ known_at here (untouched log)
+  pub known_untouched : (log : List Item) → known_at here log ≡ known_at here (other_items log)
   known_untouched log = after_untouched (first_knowledge here.stage here.rank) log

@@ -9,7 +9,7 @@ use Rattle.std.proofs.lemmas.Bool.{ne_eqb}
 use Rattle.std.proofs.lemmas.List.{append-nil, length-replicate}
 use Rattle.std.proofs.lemmas.List.Sums.{sum_by-cons, sum_by-append}
 use Rattle.board_rules.specs.Entries.{Row, window_of, begins_window, names_window, creations}
-use Rattle.call_rules.specs.Actions.{Synchronisation, synchronisation_of, window_named}
+use Rattle.call_rules.specs.Actions.{Synchronisation, synchronisation_of, window_of_call}
 use Rattle.rank_rules.specs.Epochs.{epochs_at, no_epochs}
 use Rattle.rank_rules.specs.Knowledge.{Knowledge, nothing_known}
 use Rattle.rank_rules.specs.Windows.{Window, window_of_name, window_number}
@@ -67,7 +67,7 @@ module _ (rank win : ℕ) where
   -- the entry is no synchronisation on a window of the name
   abbrev pub IsApart : Row → Type 0
   IsApart row = (s : Synchronisation) → synchronisation_of row.call ≡ Some s →
-      (other : ℕ) × (window_named row.call ≡ Some other) × (other < 32) × (other ≡ win → ⊥)
+      (other : ℕ) × (window_of_call row.call ≡ Some other) × (other < 32) × (other ≡ win → ⊥)
 
   -- nor does it begin to create one
   pub record IsQuiet (row : Row) : Type 0 where
@@ -165,7 +165,7 @@ module _ (rank win : ℕ) where
   pub record IsMadeOn (row : Row) (s : Synchronisation) : Type 0 where
     pub rank_is : row.rank ≡ rank
     pub begins_none : begins_window row ≡ false
-    pub named : window_named row.call ≡ Some win
+    pub named : window_of_call row.call ≡ Some win
     pub call_is : synchronisation_of row.call ≡ Some s
 
   -- its window is the live one

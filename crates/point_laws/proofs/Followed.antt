@@ -10,7 +10,7 @@ use Rattle.rma_types.specs.declared.calls.Call.{Call}
 use Rattle.rma_types.specs.declared.classes.Class.{Class}
 use Rattle.rma_record.specs.declared.items.Item.{Item}
 use Rattle.rma_record.specs.declared.items.Item.TheVariants.{Issue, Null, Flush, Request, Entry, Tested, Refused, Ended}
-use Rattle.lawful_runs.specs.CallItems.{untouched, AreItemsOfCourse, AreItemsBy, AreItemsOf, AreFinished, StandsAt}
+use Rattle.lawful_runs.specs.CallItems.{other_items, AreItemsOfCourse, AreItemsBy, AreItemsOf, AreFinished, StandsAt}
 use Rattle.lawful_runs.specs.CallItems.{EndsOrStands, HasItemsOfCalls}
 use Rattle.lawful_runs.specs.Items.{is_touch}
 use Rattle.lawful_runs.specs.Stages.{RankOfRun, calls_here, known_at}
@@ -133,13 +133,13 @@ one_more number x items touch (inl all) = inl (touch, all)
 one_more number x items touch (inr (touches, left, rest, is, all)) =
     inr (x ∷ touches, left, rest, ap (λ l. x ∷ l) is, (touch, all))
 
-touches_first : (number : ℕ) (items : List Item) → IsMetBy true number (untouched items) → IsFollowed number items
+touches_first : (number : ℕ) (items : List Item) → IsMetBy true number (other_items items) → IsFollowed number items
 touches_first number [] h = inl tt
 touches_first number (x ∷ items) h = by_test (is_touch x) refl h (λ k. touches_first number items k)
   where
     by_test : (b : Bool) → is_touch x ≡ b →
-        IsMetBy true number (cond (not b) (x ∷ untouched items) (untouched items)) →
-        (IsMetBy true number (untouched items) → IsFollowed number items) → IsFollowed number (x ∷ items)
+        IsMetBy true number (cond (not b) (x ∷ other_items items) (other_items items)) →
+        (IsMetBy true number (other_items items) → IsFollowed number items) → IsFollowed number (x ∷ items)
     by_test true touch h rest = one_more number x items touch (rest h)
     by_test false other (inl none) rest = absurd (cc none.1)
     by_test false other (inr (left, more, e)) rest =
@@ -153,13 +153,13 @@ pub record IsArrived (log : List Item) (index number place : ℕ) : Type 0 where
   pub long : length earlier ≡ index
   pub followed : IsFollowed number later
 
-after_arrive : (log : List Item) → AreMet true (untouched log) → (index number place : ℕ) →
+after_arrive : (log : List Item) → AreMet true (other_items log) → (index number place : ℕ) →
     slice_get log index ≡ Some (Entry number place Arrive) → IsArrived log index number place
 after_arrive [] met index number place e = absurd (cc e)
 after_arrive (x ∷ log) met zero number place e =
     let same : x ≡ Entry number place Arrive = cc e in
-    let kept : AreMet true (x ∷ untouched log) =
-    subst (λ b. AreMet true (cond (not b) (x ∷ untouched log) (untouched log))) (ap is_touch same) met in
+    let kept : AreMet true (x ∷ other_items log) =
+    subst (λ b. AreMet true (cond (not b) (x ∷ other_items log) (other_items log))) (ap is_touch same) met in
     record {
       earlier = [];
       later = log;
@@ -177,13 +177,13 @@ after_arrive (x ∷ log) met (suc index) number place e =
       followed = rest.followed;
     }
   where
-    by_test : (b : Bool) → AreMet true (cond (not b) (x ∷ untouched log) (untouched log)) →
-        AreMet true (untouched log)
+    by_test : (b : Bool) → AreMet true (cond (not b) (x ∷ other_items log) (other_items log)) →
+        AreMet true (other_items log)
     by_test true h = h
     by_test false h = h.1
 
-pub arrived : (here : RankOfRun) (log : List Item) → HasItemsOfCalls here (untouched log) →
+pub arrived : (here : RankOfRun) (log : List Item) → HasItemsOfCalls here (other_items log) →
     (index number place : ℕ) → slice_get log index ≡ Some (Entry number place Arrive) →
     IsArrived log index number place
 arrived here log calls index number place e =
-    after_arrive log (items_met here (untouched log) calls) index number place e
+    after_arrive log (items_met here (other_items log) calls) index number place e

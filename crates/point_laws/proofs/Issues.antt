@@ -29,7 +29,7 @@ use Rattle.call_rules.specs.Ranks.{is_member, natural}
 use Rattle.call_rules.specs.Transfers.{rank_reached}
 use Rattle.call_rules.specs.WellFormed.{IsWellFormed, IsWrittenAction, IsWrittenCall}
 use Rattle.lawful_runs.specs.Accesses.{transfer_at, issued_from}
-use Rattle.lawful_runs.specs.CallItems.{untouched}
+use Rattle.lawful_runs.specs.CallItems.{other_items}
 use Rattle.lawful_runs.specs.LawfulRun.{IsLawful, rank_in}
 use Rattle.lawful_runs.specs.Logs.{log_of, calls_of}
 use Rattle.lawful_runs.specs.Stages.{RankOfRun, known_at}
@@ -172,7 +172,7 @@ module _ (script : Script) (run : Run) (formed : IsWellFormed script) (lawful : 
     front = take a.id.index (log_of run rank)
 
     -- a look-up is no synchronisation
-    quiet_look_up : (one : IsIssueAt here (untouched front) number access) (window : ℕ) →
+    quiet_look_up : (one : IsIssueAt here (other_items front) number access) (window : ℕ) →
         transfer_of one.call ≡ Some t →
         made rank window (rows_in script rank front) ≡ made rank window (rows_in script rank one.before)
     quiet_look_up one window moves =
@@ -201,7 +201,7 @@ module _ (script : Script) (run : Run) (formed : IsWellFormed script) (lawful : 
             ∙ ap (λ l. made rank window (rows_in script rank one.before) ++ l) (neither _ (in_call one.call) none)
             ∙ append-nil (made rank window (rows_in script rank one.before))
 
-    started_by : (one : IsIssueAt here (untouched front) number access) → transfer_of one.call ≡ Some t →
+    started_by : (one : IsIssueAt here (other_items front) number access) → transfer_of one.call ≡ Some t →
         access ≡ a.issued.access → is_rma (role_of a.issued.access.kind) ≡ true →
         is_start_epoch (epochs_at (known_at here one.before).epochs t.win).access ≡ true → IsStarted script run a rank
     started_by one moves same rma start =
@@ -252,10 +252,11 @@ module _ (script : Script) (run : Run) (formed : IsWellFormed script) (lawful : 
       let here = rank_in script Seeded run a.id.rank in
       let front = take a.id.index (log_of run a.id.rank) in
       let back = drop (suc a.id.index) (log_of run a.id.rank) in
-      let split = ap untouched (split_get (log_of run a.id.rank) a.id.index
+      let split = ap other_items (split_get (log_of run a.id.rank) a.id.index
       (Issue a.issued.number a.issued.access) logged)
       ∙ untouched_split front back (Issue a.issued.number a.issued.access) refl in
-      let one = issue_at here (untouched (log_of run a.id.rank)) (untouched front) (untouched back) a.issued.number
+      let one = issue_at here (other_items (log_of run a.id.rank)) (other_items front) (other_items back)
+      a.issued.number
       a.issued.access (lawful.logs a.id.rank access.within).calls split in
       let moves : transfer_of one.call ≡ Some issue.t =
       sym (ap (λ o. option_map_or transfer_of o None) one.of_rank) ∙ issue.moves in

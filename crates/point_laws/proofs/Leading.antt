@@ -18,7 +18,7 @@ use Rattle.rma_record.specs.declared.runs.Run.{Run}
 use Rattle.board_rules.specs.Edges.{are_on_one_window, is_edge_by, is_matched_one, is_waited_for_by, group_completed}
 use Rattle.board_rules.specs.Entries.{Row, acts, synchronisations, window_of}
 use Rattle.board_rules.specs.Posts.{group_of_post, group_of_start, is_complete, is_wait, naming, posts, starts}
-use Rattle.board_rules.specs.Posts.{completes, completed, last_posted}
+use Rattle.board_rules.specs.Posts.{completes, completed_groups, last_posted}
 use Rattle.call_rules.specs.Actions.{Synchronisation, Fences, Posts, Starts, Completes, Waits, Locks, Unlocks, Flushes}
 use Rattle.call_rules.specs.Actions.{Syncs, synchronisation_of}
 use Rattle.call_rules.specs.Ranks.{is_member}
@@ -133,7 +133,7 @@ module _ (script : Script) (run : Run) (formed : IsWellFormed script) (lawful : 
     group_is = (λ i. slice_index_or (starts_y i) (completes_y i) [])
         ∙ get_or_at g.ended g.group g.more [] (length g.ended) refl
 
-    completed_is : completed a.event.asked rank ≡ g.ended
+    completed_is : completed_groups a.event.asked rank ≡ g.ended
     completed_is = (λ i. take (completes_y i) (starts_y i)) ∙ take_at g.ended (g.group ∷ g.more) (length g.ended) refl
 
     posts_x : posts b.event.asked to ≡ groups ++ group ∷ []
@@ -144,7 +144,7 @@ module _ (script : Script) (run : Run) (formed : IsWellFormed script) (lawful : 
     last_is : last_posted b.event.asked ≡ group
     last_is = ap (λ l. slice_index_or (reverse l) 0 []) posts_x ∙ last_of groups group
 
-    counted : naming to (completed a.event.asked rank) + 1 ≡ naming rank (posts b.event.asked to)
+    counted : naming to (completed_groups a.event.asked rank) + 1 ≡ naming rank (posts b.event.asked to)
     counted =
         let left = ap (naming to) completed_is in
         let right = ap (naming rank) posts_x ∙ named_once_more rank groups group member in
@@ -152,10 +152,10 @@ module _ (script : Script) (run : Run) (formed : IsWellFormed script) (lawful : 
 
     waited : is_waited_for_by a.event b.event ≡ true
     waited = and_from (is_member to (group_completed a.event) && is_member rank (last_posted b.event.asked))
-        (naming to (completed a.event.asked rank) + 1 == naming rank (posts b.event.asked to))
+        (naming to (completed_groups a.event.asked rank) + 1 == naming rank (posts b.event.asked to))
         (and_from (is_member to (group_completed a.event)) (is_member rank (last_posted b.event.asked))
         (ap (is_member to) group_is ∙ g.member) (ap (is_member rank) last_is ∙ member))
-        (eq-eqb (naming to (completed a.event.asked rank) + 1) (naming rank (posts b.event.asked to)) counted)
+        (eq-eqb (naming to (completed_groups a.event.asked rank) + 1) (naming rank (posts b.event.asked to)) counted)
 
     matches : is_matched_one a.event b.event One One ≡ true
     matches =

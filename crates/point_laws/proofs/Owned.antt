@@ -18,7 +18,7 @@ use Rattle.rma_record.specs.declared.items.Item.TheVariants.{Issue, Null, Touch,
 use Rattle.rma_record.specs.declared.items.Item.TheVariants.{Ended}
 use Rattle.rma_record.specs.declared.runs.Run.{Run}
 use Rattle.board_rules.specs.Entries.{Row}
-use Rattle.lawful_runs.specs.CallItems.{untouched, HasItemsOfCalls}
+use Rattle.lawful_runs.specs.CallItems.{other_items, HasItemsOfCalls}
 use Rattle.lawful_runs.specs.Items.{belongs_to}
 use Rattle.lawful_runs.specs.LawfulRun.{IsLawful, rank_in}
 use Rattle.lawful_runs.specs.Logs.{log_of, calls_of, row_by, rows_of}
@@ -159,7 +159,7 @@ module _ (script : Script) (delay : Delay) (run : Run) (lawful : IsLawful script
       by_item (Refused number class seen) is next = no_row (ap (row_by script rank) (sym is)) next
       by_item Ended is next = no_row (ap (row_by script rank) (sym is)) next
 
-module _ (here : RankOfRun) (log : List Item) (has : HasItemsOfCalls here (untouched log)) where
+module _ (here : RankOfRun) (log : List Item) (has : HasItemsOfCalls here (other_items log)) where
   -- a call has one entry of step One
   one_before : (number i j p q : ℕ) → slice_get log i ≡ Some (Entry number p One) →
       slice_get log j ≡ Some (Entry number q One) → i < j → ⊥

@@ -15,7 +15,7 @@ use Rattle.rma_record.specs.declared.items.Item.TheVariants.{Issue, Null, Flush,
 use Rattle.board_rules.specs.Posts.{is_wait}
 use Rattle.call_rules.specs.Actions.{Synchronisation, Fences, Posts, Starts, Completes, Waits, Locks, Unlocks, Flushes}
 use Rattle.call_rules.specs.Actions.{Syncs, action_of, synchronisation_of}
-use Rattle.lawful_runs.specs.CallItems.{untouched, AreItemsOfCourse, AreItemsBy, AreItemsOf, AreFinished, StandsAt}
+use Rattle.lawful_runs.specs.CallItems.{other_items, AreItemsOfCourse, AreItemsBy, AreItemsOf, AreFinished, StandsAt}
 use Rattle.lawful_runs.specs.CallItems.{EndsOrStands, HasItemsOfCalls}
 use Rattle.lawful_runs.specs.Items.{is_touch}
 use Rattle.lawful_runs.specs.Stages.{RankOfRun, calls_here, known_at, shapes_in, first_knowledge}
@@ -67,10 +67,10 @@ split_get (y ∷ ys) zero x e = let same : y ≡ x = cc e in ap (λ i. i ∷ ys)
 split_get (y ∷ ys) (suc k) x e = ap (λ l. y ∷ l) (split_get ys k x e)
 
 pub untouched_split : (xs ys : List Item) (item : Item) → is_touch item ≡ false →
-    untouched (xs ++ item ∷ ys) ≡ untouched xs ++ item ∷ untouched ys
+    other_items (xs ++ item ∷ ys) ≡ other_items xs ++ item ∷ other_items ys
 untouched_split xs ys item other =
     filter-append (λ x. not (is_touch x)) xs (item ∷ ys)
-    ∙ ap (λ b. untouched xs ++ (if not b then item ∷ untouched ys else untouched ys)) other
+    ∙ ap (λ b. other_items xs ++ (if not b then item ∷ other_items ys else other_items ys)) other
 
 -- a post, a start, a complete or a wait
 abbrev pub is_paired : Synchronisation → Bool

@@ -12,7 +12,7 @@ use Rattle.std.proofs.lemmas.List.Sums.{sum_by-cons}
 use Rattle.rma_types.specs.declared.calls.Call.{Call}
 use Rattle.board_rules.specs.Entries.{Row, Act, acts_after, window_of, round_of, is_by_on, synchronisations}
 use Rattle.board_rules.specs.Entries.{begins_window, names_window, creations}
-use Rattle.call_rules.specs.Actions.{Synchronisation, synchronisation_of, window_named}
+use Rattle.call_rules.specs.Actions.{Synchronisation, synchronisation_of, window_of_call}
 
 -- ---- one entry more
 
@@ -187,7 +187,7 @@ creations_own rank win rows = count_kept
 
 pub window_own : (rank : ℕ) (rows : List Row) (row : Row) → row.rank ≡ rank → window_of (own rank rows) row ≡ window_of
     rows row
-window_own rank rows row is = by_name (window_named row.call)
+window_own rank rows row is = by_name (window_of_call row.call)
   where
     count : (win : ℕ) → creations (own rank rows) row.rank win ≡ creations rows row.rank win
     count win = subst (λ r. creations (own r rows) row.rank win ≡ creations rows row.rank win) is

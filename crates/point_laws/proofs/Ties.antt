@@ -15,8 +15,9 @@ use Rattle.call_rules.specs.Actions.{Syncs, Transfer, Target, Own, Null, Named}
 use Rattle.call_rules.specs.Ranks.{natural, members_of}
 use Rattle.rank_rules.specs.Epochs.{AccessEpoch, Idle, FenceUnused, FenceUsed, StartTo, LocksAt, LockAll, ExposureEpoch}
 use Rattle.rank_rules.specs.Epochs.{Unexposed, PostTo, Epochs, no_epochs, may_begin, is_fence_unused, is_fence_used}
-use Rattle.rank_rules.specs.Epochs.{is_start_epoch, is_posted, may_lock, may_unlock, may_synchronise, after_use}
-use Rattle.rank_rules.specs.Epochs.{after_transfer, after_lock, locks_at, after_unlock, access_after, exposure_after}
+use Rattle.rank_rules.specs.Epochs.{is_start_epoch, is_exposed, may_lock, may_unlock, may_synchronise, after_use}
+use Rattle.rank_rules.specs.Epochs.{after_transfer, after_lock, epoch_of_locks, after_unlock, access_after}
+use Rattle.rank_rules.specs.Epochs.{exposure_after}
 use Rattle.rank_rules.specs.Epochs.{after_synchronisation, targets_locked}
 
 -- ---- what ties epochs and synchronisations
@@ -175,7 +176,7 @@ locked_after : (a : AccessEpoch) (target : Option ℤ) → group_open (after_loc
 locked_after a None = refl
 locked_after a (Some target) = refl
 
-locks_closed : (targets : List ℕ) → group_open (locks_at targets) ≡ []
+locks_closed : (targets : List ℕ) → group_open (epoch_of_locks targets) ≡ []
 locks_closed [] = refl
 locks_closed (target ∷ targets) = refl
 
@@ -183,11 +184,11 @@ unlocked_after : (a : AccessEpoch) (target : Option ℤ) → group_open (after_u
 unlocked_after a None = refl
 unlocked_after a (Some target) = locks_closed (filter (λ one. not (one == natural target)) (targets_locked a))
 
-not_posted : (x : ExposureEpoch) → not (is_posted x) ≡ true → open_posts x ≡ 0
+not_posted : (x : ExposureEpoch) → not (is_exposed x) ≡ true → open_posts x ≡ 0
 not_posted Unexposed h = refl
 not_posted (PostTo group) h = absurd (cc h)
 
-posted_one : (x : ExposureEpoch) → is_posted x ≡ true → open_posts x ≡ 1
+posted_one : (x : ExposureEpoch) → is_exposed x ≡ true → open_posts x ≡ 1
 posted_one Unexposed h = absurd (cc h)
 posted_one (PostTo group) h = refl
 
@@ -224,10 +225,10 @@ module _ (epochs : Epochs) (made : List Synchronisation) (tied : IsTied epochs m
       IsTied (after_synchronisation epochs s) (made ++ s ∷ [])
   tied_after (Fences asserts) may =
       let parts = and_parts (may_begin epochs.access || is_fence_used epochs.access)
-      (not (is_posted epochs.exposure)) may in
+      (not (is_exposed epochs.exposure)) may in
       plain (Fences asserts) (fence_after asserts.nosucceed ∙ sym (fence_closed epochs.access parts.0)) refl refl refl
   tied_after (Posts group asserts) may =
-      let parts = and_parts (not (is_fence_used epochs.access)) (not (is_posted epochs.exposure)) may in
+      let parts = and_parts (not (is_fence_used epochs.access)) (not (is_exposed epochs.exposure)) may in
       let none = not_posted epochs.exposure parts.1 in
       plain (Posts group asserts) (post_same epochs.access) refl refl (omega (arith, none))
   tied_after (Starts group asserts) may = record {

@@ -13,9 +13,9 @@ use Rattle.rma_record.specs.declared.items.Item.{Item}
 use Rattle.rma_record.specs.declared.runs.Run.{Run}
 use Rattle.board_rules.specs.Entries.{Row, window_of}
 use Rattle.call_rules.specs.Actions.{Synchronisation, Synchronises, action_of}
-use Rattle.call_rules.specs.Actions.{synchronisation_of, window_in_action, window_named}
+use Rattle.call_rules.specs.Actions.{synchronisation_of, window_in_action, window_of_call}
 use Rattle.call_rules.specs.WellFormed.{IsWellFormed, IsWrittenAction, IsWrittenCall}
-use Rattle.lawful_runs.specs.CallItems.{untouched}
+use Rattle.lawful_runs.specs.CallItems.{other_items}
 use Rattle.lawful_runs.specs.LawfulRun.{IsLawful, rank_in}
 use Rattle.lawful_runs.specs.Logs.{log_of, calls_of}
 use Rattle.lawful_runs.specs.Stages.{RankOfRun, known_at}
@@ -58,7 +58,7 @@ pub record IsSynchronised (script : Script) (run : Run) (rank index : ℕ) (call
     pub placed : IsPlaced script run earlier (one_row rank number call) later (record { rank = rank; index = index })
     pub owned : own rank earlier ≡ rows_in script rank (take index (log_of run rank))
     pub win : ℕ
-    pub named : window_named call ≡ Some win
+    pub named : window_of_call call ≡ Some win
     pub live : Window
     pub known : window_of_name (known_before script run (record { rank = rank; index = index })).windows win ≡ Some live
     pub at : window_of earlier (one_row rank number call) ≡ live.number
@@ -123,20 +123,20 @@ module _ (script : Script) (run : Run) (formed : IsWellFormed script) (lawful : 
         IsSynchronised script run rank index call s
     synchronised_at item step logged step_is kind =
         let split = split_get (log_of run rank) index item logged in
-        let plain = ap untouched split
+        let plain = ap other_items split
         ∙ untouched_split front (drop (suc index) (log_of run rank)) item (step_untouched item number step step_is) in
-        let one = one_entry_at here (untouched (log_of run rank)) (untouched front)
-        (untouched (drop (suc index) (log_of run rank))) item number step call s (lawful.logs rank within).calls plain
+        let one = one_entry_at here (other_items (log_of run rank)) (other_items front)
+        (other_items (drop (suc index) (log_of run rank))) item number step call s (lawful.logs rank within).calls plain
         step_is of sync kind in
         let is = synchronises (action_of call) s sync in
         let small : is.0 < 32 = (subst IsWrittenAction is.1
         (each_get IsWrittenCall (calls_of script rank) number call (calls_written script rank formed) of)).0 in
         let owned = owned_entry script Seeded run lawful rank index number one.place call within
         (logged ∙ ap Some one.is) of in
-        placed_on is.0 is.1 (known_at here (untouched front)) (known_untouched here front) one.own owned
-        (subst (Fits rank is.0 (known_at here (untouched front)))
+        placed_on is.0 is.1 (known_at here (other_items front)) (known_untouched here front) one.own owned
+        (subst (Fits rank is.0 (known_at here (other_items front)))
         (sym (owned.owned ∙ rows_untouched script rank front))
-        (finished_fits here formed is.0 small number (untouched front) one.finished))
+        (finished_fits here formed is.0 small number (other_items front) one.finished))
 
   -- a step of a call
   pub synchronised_step : (x : CallStep) (s : Synchronisation) → IsStep script run x →

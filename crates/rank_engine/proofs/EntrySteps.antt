@@ -21,8 +21,8 @@ use Rattle.kept_rows.specs.KeptCalls.{kept_call, kept_row}
 use Rattle.call_rules.specs.Actions.{synchronisation_of}
 use Rattle.lawful_runs.specs.Logs.{row_by}
 use Rattle.lawful_runs.specs.Stages.{calls_at, shapes_in}
-use Rattle.step_runs.specs.Agents.{Agent, kept}
-use Rattle.step_runs.specs.BoardSteps.{AtBoard, next_row, waiting, entered, refused, enter_by, enter}
+use Rattle.step_runs.specs.Agents.{Agent, keep_item}
+use Rattle.step_runs.specs.BoardSteps.{AtBoard, next_row, stay_waiting, put_entry, refuse_entry, enter_by, enter}
 use Rattle.step_runs.specs.DataSteps.{with_item, without_delivery}
 use Rattle.sync_board.specs.Boards.{BoardState, rows_on}
 use Rattle.rank_engine.proofs.Ended.{no_row}
@@ -111,7 +111,7 @@ pub put_turn : (s after : RankState) (call : Call) (step : Step) (go : Agent →
     (board board_after : BoardState) (face face_after : Face) → ((a : Agent) → (go a).rank ≡ a.rank) →
     ((a : Agent) → (go a).log ≡ a.log) → ((a : Agent) → (go a).pending ≡ a.pending) → IsReady s call board face →
     IsPut (next_row s.agent call step) place board board_after face face_after → IsHandedOver face face_after →
-    after ≡ record s { agent = (entered s.stage s.agent (rows_on board) call step go).agent; free = after.free } →
+    after ≡ record s { agent = (put_entry s.stage s.agent (rows_on board) call step go).agent; free = after.free } →
     updates_ahead after ≤ updates_ahead s → s.free ≤ after.free + 1 → after.free ≤ s.free →
     IsTurn Did 1 (enter s.stage s.agent (rows_on board) call step go) s after board board_after face face_after
 put_turn s after call step go place board board_after face face_after ranks logs pendings ready put handed is ahead
@@ -153,11 +153,11 @@ put_turn s after call step go place board board_after face face_after ranks logs
     rows = rows_on board
 
     held : Agent
-    held = kept (shapes_in s.stage (rows_on board ++ next_row s.agent call step ∷ [])) s.stage s.agent
+    held = keep_item (shapes_in s.stage (rows_on board ++ next_row s.agent call step ∷ [])) s.stage s.agent
         (Entry s.agent.at (length (rows_on board)) step)
 
     next : Agent
-    next = go (kept (shapes_in s.stage (rows_on board ++ next_row s.agent call step ∷ [])) s.stage s.agent
+    next = go (keep_item (shapes_in s.stage (rows_on board ++ next_row s.agent call step ∷ [])) s.stage s.agent
         (Entry s.agent.at (length (rows_on board)) step))
 
     given : List Given
@@ -167,7 +167,7 @@ put_turn s after call step go place board board_after face face_after ranks logs
     allowed =
         ap (λ n. decide n (rows_on board) (next_row s.agent call step)) (sym ready.board_is.ranks) ∙ put.allowed
 
-    is_entered : enter s.stage s.agent (rows_on board) call step go ≡ entered s.stage s.agent
+    is_entered : enter s.stage s.agent (rows_on board) call step go ≡ put_entry s.stage s.agent
         (rows_on board) call step go
     is_entered = ap (λ d. enter_by d s.stage s.agent (rows_on board) call step go) allowed
 
@@ -244,14 +244,15 @@ pub waiting_turn : (s : RankState) (call : Call) (step : Step) (go : Agent → A
 waiting_turn s call step go board face face_after ready handed decided =
     subst (λ to. IsTurn NotYet 1 to s s board board face face_after) (sym is_waiting) (record {
       says = refl;
-      steps = still_steps (waiting s.agent (rows_on board)) s s call board face face_after ready refl refl refl refl
+      steps = still_steps (stay_waiting s.agent (rows_on board)) s s call board face face_after ready refl refl refl
+          refl
           refl
           (omega arith) (omega arith) handed;
       few = omega arith;
       above = omega arith;
     })
   where
-    is_waiting : enter s.stage s.agent (rows_on board) call step go ≡ waiting s.agent (rows_on board)
+    is_waiting : enter s.stage s.agent (rows_on board) call step go ≡ stay_waiting s.agent (rows_on board)
     is_waiting = ap (λ d. enter_by d s.stage s.agent (rows_on board) call step go)
         (ap (λ n. decide n (rows_on board) (next_row s.agent call step)) (sym ready.board_is.ranks) ∙ decided)
 
@@ -263,7 +264,8 @@ pub refused_turn : (s after : RankState) (call : Call) (step : Step) (go : Agent
 refused_turn s after call step go class seen board face face_after ready handed decided all move =
     subst (λ to. IsTurn Did 1 to s after board board face face_after) (sym is_refused) (record {
       says = refl;
-      steps = still_steps (refused s.stage s.agent (rows_on board) class) s after call board face face_after ready refl
+      steps = still_steps (refuse_entry s.stage s.agent (rows_on board) class) s after call board face face_after
+          ready refl
           refl
           (no_row s.stage s.agent.rank s.agent.log (s.agent.log ++ item ∷ []) item refl refl) refl is
           (ahead_less s after (with_item s.stage s.agent item) is refl refl refl) move.below handed;
@@ -289,7 +291,7 @@ refused_turn s after call step go class seen board face face_after ready handed 
     })
         same (item_moved s after (Refused s.agent.at class seen) move refl)
 
-    is_refused : enter s.stage s.agent (rows_on board) call step go ≡ refused s.stage s.agent (rows_on board) class
+    is_refused : enter s.stage s.agent (rows_on board) call step go ≡ refuse_entry s.stage s.agent (rows_on board) class
     is_refused = ap (λ d. enter_by d s.stage s.agent (rows_on board) call step go)
         (ap (λ n. decide n (rows_on board) (next_row s.agent call step)) (sym ready.board_is.ranks) ∙ decided)
 

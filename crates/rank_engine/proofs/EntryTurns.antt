@@ -25,8 +25,8 @@ use Rattle.rank_rules.specs.Requests.{Requests, requests_after}
 use Rattle.rank_rules.specs.Windows.{RankWindows, windows_after}
 use Rattle.step_laws.proofs.CallCourses.{collective_moves_none, learns_call, one_entry_moves_none}
 use Rattle.step_laws.proofs.EntryMoves.{IsOneEntry as IsOneEntryByLaws, learns_nothing, look_up_opens}
-use Rattle.step_runs.specs.Agents.{Agent, finished, opened}
-use Rattle.step_runs.specs.BoardSteps.{enter, entered, next_row}
+use Rattle.step_runs.specs.Agents.{Agent, end_call, enter_call}
+use Rattle.step_runs.specs.BoardSteps.{enter, put_entry, next_row}
 use Rattle.sync_board.specs.Boards.{BoardState, rows_on}
 use Rattle.window_regions.specs.declared.window.Shape.{Shape}
 use Rattle.rank_engine.proofs.EntryParts.{Makes, closing_parts}
@@ -67,14 +67,14 @@ pub opened_turn : (s after : RankState) (call : Call) (step : Step) (place : ℕ
     IsPut (next_row s.agent call step) place board board_after face face_after → IsHandedOver face face_after →
     log ≡ s.agent.log ++ Entry s.agent.at place step ∷ [] → home ≡ s.home → s.free ≤ free + 1 → free ≤ s.free →
     after ≡ record s { agent = record s.agent { log = log; entered = true }; free = free; home = home } →
-    IsTurn Did 1 (enter s.stage s.agent (rows_on board) call step opened) s after board board_after face face_after
+    IsTurn Did 1 (enter s.stage s.agent (rows_on board) call step enter_call) s after board board_after face face_after
 opened_turn s after call step place log free home board board_after face face_after ready opens put handed is homes
     above
     below after_is =
-    put_turn s after call step opened place board board_after face face_after (λ a. refl) (λ a. refl)
+    put_turn s after call step enter_call place board board_after face face_after (λ a. refl) (λ a. refl)
     (λ a. refl) ready put
-    handed after_to (ahead_same s after (entered s.stage s.agent
-    (rows_on board) call step opened).agent after_to refl refl refl)
+    handed after_to (ahead_same s after (put_entry s.stage s.agent
+    (rows_on board) call step enter_call).agent after_to refl refl refl)
     (subst (λ n. s.free ≤ n + 1) (sym frees) above) (subst (λ n. n ≤ s.free) (sym frees) below)
   where
     frees : after.free ≡ free
@@ -91,7 +91,7 @@ opened_turn s after call step place log free home board board_after face face_af
         (opening_opens s.agent.known.windows step call opens)
 
     after_to : after ≡ record s {
-      agent = (entered s.stage s.agent (rows_on board) call step opened).agent;
+      agent = (put_entry s.stage s.agent (rows_on board) call step enter_call).agent;
       free = after.free;
     }
     after_to =
@@ -108,12 +108,12 @@ opened_turn s after call step place log free home board board_after face face_af
           home = home;
         }) (sym learnt)
         ∙ (ap (λ h. record s {
-          agent = (entered s.stage s.agent (rows_on board) call step opened).agent;
+          agent = (put_entry s.stage s.agent (rows_on board) call step enter_call).agent;
           free = free;
           home = h;
         }) homes
         ∙ ap (λ n. record s {
-          agent = (entered s.stage s.agent (rows_on board) call step opened).agent;
+          agent = (put_entry s.stage s.agent (rows_on board) call step enter_call).agent;
           free = n;
         }) (sym frees))))
 
@@ -190,14 +190,14 @@ pub closed_turn : (s after : RankState) (call : Call) (step : Step) (place : ℕ
       free = free;
       home = home;
     } →
-    IsTurn Did 1 (enter s.stage s.agent (rows_on board) call step finished) s after board board_after face face_after
+    IsTurn Did 1 (enter s.stage s.agent (rows_on board) call step end_call) s after board board_after face face_after
 closed_turn s after call step place made log windows epochs free home board board_after face face_after sound ready
     closes put
     makes handed windows_are epochs_are is homes above below after_is =
-    put_turn s after call step finished place board board_after face face_after (λ a. refl) (λ a. refl)
+    put_turn s after call step end_call place board board_after face face_after (λ a. refl) (λ a. refl)
     (λ a. refl) ready put
     handed after_to
-    (ahead_less s after (entered s.stage s.agent (rows_on board) call step finished).agent after_to refl refl refl)
+    (ahead_less s after (put_entry s.stage s.agent (rows_on board) call step end_call).agent after_to refl refl refl)
     (subst (λ n. s.free ≤ n + 1) (sym frees) above) (subst (λ n. n ≤ s.free) (sym frees) below)
   where
     frees : after.free ≡ free
@@ -230,7 +230,7 @@ closed_turn s after call step place made log windows epochs free home board boar
         (rows_on board)) step call ready.here facts.2)))
 
     after_to : after ≡ record s {
-      agent = (entered s.stage s.agent (rows_on board) call step finished).agent;
+      agent = (put_entry s.stage s.agent (rows_on board) call step end_call).agent;
       free = after.free;
     }
     after_to =
@@ -241,12 +241,12 @@ closed_turn s after call step place made log windows epochs free home board boar
         (rows_on board)) step ∷ []) k free home)
         known_is
         ∙ (ap (λ h. record s {
-          agent = (entered s.stage s.agent (rows_on board) call step finished).agent;
+          agent = (put_entry s.stage s.agent (rows_on board) call step end_call).agent;
           free = free;
           home = h;
         }) homes
         ∙ ap (λ n. record s {
-          agent = (entered s.stage s.agent (rows_on board) call step finished).agent;
+          agent = (put_entry s.stage s.agent (rows_on board) call step end_call).agent;
           free = n;
         }) (sym frees))))
       where

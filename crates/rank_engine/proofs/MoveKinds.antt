@@ -20,7 +20,7 @@ use Rattle.rank_rules.specs.Courses.{EntryOrTested, OneEntry, access_of, course_
 use Rattle.rank_rules.specs.Knowledge.{own_class}
 use Rattle.rank_rules.specs.Pending.{made_pending}
 use Rattle.rank_rules.specs.declared.pending.PendingAccess.{PendingAccess}
-use Rattle.step_runs.specs.Agents.{Agent, awaited_by, has_pending, kept, must_draw, next_call}
+use Rattle.step_runs.specs.Agents.{Agent, awaited_by, has_pending, keep_item, must_draw, next_call}
 use Rattle.step_runs.specs.DataSteps.{Move, begin, draw, end, first_item, go_on, is_at_once, issue, issue_of, judge}
 use Rattle.step_runs.specs.DataSteps.{just_delivers, move_of, no_shapes, wait_or_go_on, with_item, without_delivery}
 use Rattle.rank_engine.proofs.MovesMade.{nothing_touched}
@@ -159,7 +159,7 @@ end_kind : (stage : Stage) (agent : Agent) → IsKind stage agent (end stage age
 end_kind stage agent = by_pending (has_pending agent)
   where
     over : Agent
-    over = record (kept no_shapes stage agent Ended) { ended = true }
+    over = record (keep_item no_shapes stage agent Ended) { ended = true }
 
     by_ended : (b : Bool) → IsKind stage agent (cond b (without_delivery agent) (without_delivery over))
     by_ended true = inl (same agent agent refl refl refl refl)

@@ -20,7 +20,7 @@ use Rattle.rma_types.specs.declared.schedules.Delay.TheVariants.{Seeded as Seede
 use Rattle.lawful_runs.specs.Stages.{Stage}
 use Rattle.step_runs.specs.Agents.{Agent, is_seeded, must_draw}
 use Rattle.step_runs.specs.DataSteps.{draw, is_at_once, just_delivers}
-use Rattle.step_runs.specs.Generator.{drawn_from, stirred}
+use Rattle.step_runs.specs.Generator.{drawn_from, next_state}
 use Rattle.rank_engine.proofs.Ways.{way_alone, way_twice}
 use Rattle.rank_engine.specs.Moves.{IsFirst, IsMove}
 use Rattle.rank_engine.specs.RankStates.{RankState}
@@ -58,7 +58,7 @@ awaited_first requests call pending at e = by_place (position (must_wait request
         subst (λ m. way pending m ≡ m) (sym is) (way_twice pending n)
 
 -- an odd draw names one
-pub draws_one : (s : RankState) (draws number place free : ℕ) → draws ≡ stirred s.agent.draws →
+pub draws_one : (s : RankState) (draws number place free : ℕ) → draws ≡ next_state s.agent.draws →
     number ≡ drawn_from draws → number % 2 ≡ 1 →
     place ≡ way s.agent.pending (number / 2 % length s.agent.pending) → place < length s.agent.pending →
     free ≡ s.free →
@@ -81,13 +81,13 @@ draws_one s draws number place free d n odd is within f = record {
     inside at = cond (nat_lt at (length s.agent.pending)) (Some at) None
 
     named : ℕ
-    named = way s.agent.pending (drawn_from (stirred s.agent.draws) / 2 % length s.agent.pending)
+    named = way s.agent.pending (drawn_from (next_state s.agent.draws) / 2 % length s.agent.pending)
 
     touches : s.touched ++ map (λ (_ : PendingAccess). 0) (drop (length s.agent.pending) s.agent.pending) ≡ s.touched
     touches = nothing_touched s.touched s.agent.pending
 
-    odd_test : (drawn_from (stirred s.agent.draws) % 2 == 1) ≡ true
-    odd_test = eq-eqb (drawn_from (stirred s.agent.draws) % 2) 1 (subst (λ m. m % 2 ≡ 1) (n ∙ ap drawn_from d) odd)
+    odd_test : (drawn_from (next_state s.agent.draws) % 2 == 1) ≡ true
+    odd_test = eq-eqb (drawn_from (next_state s.agent.draws) % 2) 1 (subst (λ m. m % 2 ≡ 1) (n ∙ ap drawn_from d) odd)
 
     same : named ≡ place
     same = sym (is ∙ ap (λ m. way s.agent.pending (m / 2 % length s.agent.pending)) (n ∙ ap drawn_from d))

@@ -11,7 +11,7 @@ use Rattle.call_rules.specs.Layout.{layout}
 use Rattle.delivery_queue.specs.Queues.{Queue, no_accesses}
 use Rattle.rank_rules.specs.Epochs.{Epochs, first_epochs}
 use Rattle.rank_rules.specs.Windows.{RankWindows, no_windows}
-use Rattle.step_runs.specs.Generator.{delivery_stream, seeded}
+use Rattle.step_runs.specs.Generator.{delivery_stream, first_state}
 use Rattle.rank_engine.specs.RankStates.{new_state, state_of}
 use Rattle.rank_engine.specs.Sound.{IsSound}
 
@@ -39,7 +39,7 @@ pub new_is : (script : Script) (memory : Layout) (delay : Delay) (rank : ℕ) (l
     (epochs : List Epochs) (queue : Queue) (draws seed free : ℕ) (home : List ℕ) →
     memory ≡ layout script → log ≡ [] →
     windows ≡ no_windows rank script.ranks (slice_index_or script.spaces rank 0) → epochs ≡ first_epochs →
-    queue ≡ no_accesses → draws ≡ seeded seed (delivery_stream rank) →
+    queue ≡ no_accesses → draws ≡ first_state seed (delivery_stream rank) →
     state_of script memory delay rank log windows epochs queue 0 false false draws false free home ≡
     new_state script delay seed rank free home
 new_is script memory delay rank log windows epochs queue draws seed free home l g w e q d =

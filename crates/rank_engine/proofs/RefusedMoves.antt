@@ -18,7 +18,7 @@ use Rattle.rank_rules.specs.Courses.{Course, OneNull, OneIssue, LookUpAndIssue, 
 use Rattle.rank_rules.specs.Courses.{EntryOrTested, OneEntry, access_of, course_of}
 use Rattle.rank_rules.specs.Knowledge.{own_class}
 use Rattle.rank_rules.specs.declared.pending.PendingAccess.{PendingAccess}
-use Rattle.step_runs.specs.Agents.{Agent, awaited_by, has_pending, kept, must_draw, next_call}
+use Rattle.step_runs.specs.Agents.{Agent, awaited_by, has_pending, keep_item, must_draw, next_call}
 use Rattle.step_runs.specs.DataSteps.{Move, begin, draw, end, first_item, go_on, issue, issue_of, judge, just_delivers}
 use Rattle.step_runs.specs.DataSteps.{move_of, no_shapes, wait_or_go_on, with_item, without_delivery}
 use Rattle.rank_engine.proofs.KeptLogs.{keeps_outcome}
@@ -86,7 +86,7 @@ end_outcome : (stage : Stage) (agent : Agent) → MoveOutcome agent (end stage a
 end_outcome stage agent = by_pending (has_pending agent)
   where
     over : Agent
-    over = record (kept no_shapes stage agent Ended) { ended = true }
+    over = record (keep_item no_shapes stage agent Ended) { ended = true }
 
     by_ended : (b : Bool) → MoveOutcome agent (cond b (without_delivery agent) (without_delivery over))
     by_ended true = inl (adds_none agent.log)

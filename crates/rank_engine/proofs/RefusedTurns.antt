@@ -14,9 +14,9 @@ use Rattle.cell_face.specs.Faces.{Face}
 use Rattle.lawful_runs.specs.Stages.{Stage}
 use Rattle.rank_rules.specs.Courses.{Course, OneNull, OneIssue, LookUpAndIssue, OneFlush, OneRequest, ArriveAndLeave}
 use Rattle.rank_rules.specs.Courses.{EntryOrTested, OneEntry, course_of}
-use Rattle.step_runs.specs.Agents.{Agent, finished, opened}
-use Rattle.step_runs.specs.BoardSteps.{AtBoard, enter_by, entered, entry_of, first_entry, leave, leave_if_entered}
-use Rattle.step_runs.specs.BoardSteps.{next_row, refused, test_by, waiting}
+use Rattle.step_runs.specs.Agents.{Agent, end_call, enter_call}
+use Rattle.step_runs.specs.BoardSteps.{AtBoard, enter_by, put_entry, entry_of, first_entry, leave, leave_if_entered}
+use Rattle.step_runs.specs.BoardSteps.{next_row, refuse_entry, test_by, stay_waiting}
 use Rattle.sync_board.specs.Boards.{BoardState, rows_on}
 use Rattle.rank_engine.proofs.RefusalItems.{AddsPlain, Outcome, Refuses, adds_none, adds_one, adds_then, plain_alone}
 use Rattle.rank_engine.proofs.RefusalItems.{refuses_alone}
@@ -26,7 +26,7 @@ use Rattle.rank_engine.specs.Refusals.{RefusesAlone}
 use Rattle.rank_engine.specs.declared.answers.Turned.{Turned}
 
 refused_outcome : (stage : Stage) (agent : Agent) (rows : List Row) (class : Class) →
-    Outcome agent (refused stage agent rows class).agent
+    Outcome agent (refuse_entry stage agent rows class).agent
 refused_outcome stage agent rows class =
     inr (record { class = class; seen = length rows; log = refl; known = refl; pending = refl })
 
@@ -51,21 +51,21 @@ leave_adds stage agent rows call =
     by_allowed (is_allowed_now (question stage.script.ranks rows (next_row agent call Leave)) Leave)
   where
     by_allowed : (b : Bool) →
-        AddsPlain agent.log (enter_by (cond b Allow NotYet) stage agent rows call Leave finished).agent.log
+        AddsPlain agent.log (enter_by (cond b Allow NotYet) stage agent rows call Leave end_call).agent.log
     by_allowed true = adds_one agent.log (Entry agent.at (length rows) Leave) refl
     by_allowed false = adds_none agent.log
 
 arrive_outcome : (d : Decision) (stage : Stage) (agent : Agent) (rows : List Row) (call : Call) →
-    Outcome agent (leave_if_entered stage call (enter_by d stage agent rows call Arrive opened)).agent
+    Outcome agent (leave_if_entered stage call (enter_by d stage agent rows call Arrive enter_call)).agent
 arrive_outcome (Refuse class) stage agent rows call = refused_outcome stage agent rows class
 arrive_outcome Allow stage agent rows call =
-    let arrived : AtBoard = entered stage agent rows call Arrive opened in
+    let arrived : AtBoard = put_entry stage agent rows call Arrive enter_call in
     inl (adds_then agent.log arrived.agent.log (leave stage arrived.agent arrived.rows call).agent.log
     (adds_one agent.log (Entry agent.at (length rows) Arrive) refl)
     (leave_adds stage arrived.agent arrived.rows call))
 arrive_outcome NotYet stage agent rows call = by_entered agent.entered
   where
-    by_entered : (b : Bool) → Outcome agent (cond b (leave stage agent rows call) (waiting agent rows)).agent
+    by_entered : (b : Bool) → Outcome agent (cond b (leave stage agent rows call) (stay_waiting agent rows)).agent
     by_entered true = inl (leave_adds stage agent rows call)
     by_entered false = inl (adds_none agent.log)
 
@@ -74,7 +74,7 @@ first_outcome : (course : Course) (stage : Stage) (agent : Agent) (rows : List R
 first_outcome OneNull stage agent rows call = inl (adds_none agent.log)
 first_outcome OneIssue stage agent rows call = inl (adds_none agent.log)
 first_outcome LookUpAndIssue stage agent rows call =
-    enter_outcome (decide stage.script.ranks rows (next_row agent call One)) stage agent rows call One opened
+    enter_outcome (decide stage.script.ranks rows (next_row agent call One)) stage agent rows call One enter_call
     (λ next. refl)
 first_outcome OneFlush stage agent rows call = inl (adds_none agent.log)
 first_outcome OneRequest stage agent rows call = inl (adds_none agent.log)
@@ -83,7 +83,7 @@ first_outcome ArriveAndLeave stage agent rows call =
 first_outcome EntryOrTested stage agent rows call =
     test_outcome (decide stage.script.ranks rows (next_row agent call One)) stage agent rows call
 first_outcome OneEntry stage agent rows call =
-    enter_outcome (decide stage.script.ranks rows (next_row agent call One)) stage agent rows call One finished
+    enter_outcome (decide stage.script.ranks rows (next_row agent call One)) stage agent rows call One end_call
     (λ next. refl)
 
 entry_outcome : (stage : Stage) (agent : Agent) (rows : List Row) (call : Call) →

@@ -23,8 +23,9 @@ use Rattle.lawful_runs.specs.Stages.{Stage, calls_at, shapes_in}
 use Rattle.rank_rules.specs.Knowledge.{Knowledge, own_class}
 use Rattle.step_laws.proofs.EntryMoves.{learns_nothing}
 use Rattle.rank_rules.specs.Courses.{ArriveAndLeave, course_of}
-use Rattle.step_runs.specs.Agents.{Agent, finished, next_call, opened}
-use Rattle.step_runs.specs.BoardSteps.{AtBoard, next_row, waiting, entered, turned_away, enter_by, enter, test_by, test}
+use Rattle.step_runs.specs.Agents.{Agent, end_call, next_call, enter_call}
+use Rattle.step_runs.specs.BoardSteps.{AtBoard, next_row, stay_waiting, put_entry, turn_away, enter_by, enter, test_by}
+use Rattle.step_runs.specs.BoardSteps.{test}
 use Rattle.step_runs.specs.BoardSteps.{leave, leave_if_entered, arrive}
 use Rattle.step_runs.specs.DataSteps.{with_item, without_delivery}
 use Rattle.sync_board.specs.Boards.{BoardState, rows_on}
@@ -82,7 +83,7 @@ kept_whole call some = by_collective (collective_of call) refl some
 -- a Leave gives no token
 leave_grows : (d : Decision) (stage : Stage) (agent : Agent) (rows : List Row) (call : Call) →
     is_some (collective_of call) ≡ true →
-    (more : List Row) × ((enter_by d stage agent rows call Leave finished).rows ≡ rows ++ more)
+    (more : List Row) × ((enter_by d stage agent rows call Leave end_call).rows ≡ rows ++ more)
     × AllByRecursion (λ (r : Row). gives r.step r.call ≡ false) (map kept_row more)
 leave_grows (Refuse class) stage agent rows call some = ([], sym (append-nil rows), tt)
 leave_grows Allow stage agent rows call some = (
@@ -95,7 +96,7 @@ leave_grows NotYetDecided stage agent rows call some = ([], sym (append-nil rows
 -- an Arrive after which the call is begun was put
 arrive_allowed : (d : Decision) (stage : Stage) (agent : Agent) (rows : List Row) (call : Call) →
     agent.entered ≡ false →
-    (enter_by d stage agent rows call Arrive opened).agent.entered ≡ true → d ≡ Allow
+    (enter_by d stage agent rows call Arrive enter_call).agent.entered ≡ true → d ≡ Allow
 arrive_allowed (Refuse class) stage agent rows call new e = absurd (cc e)
 arrive_allowed Allow stage agent rows call new e = refl
 arrive_allowed NotYetDecided stage agent rows call new e = absurd (cc (new, e))
@@ -103,18 +104,19 @@ arrive_allowed NotYetDecided stage agent rows call new e = absurd (cc (new, e))
 -- what holds after an Arrive that was put
 pub record HasArrived (s between : RankState) (call : Call) (board board_between : BoardState)
     (face face_between : Face) : Type 0 where
-  pub steps : StepsTo (entered s.stage s.agent (rows_on board) call Arrive opened) s between board board_between face
+  pub steps : StepsTo (put_entry s.stage s.agent (rows_on board) call Arrive enter_call) s between board board_between
+      face
       face_between
   pub few : length between.agent.log ≤ length s.agent.log + 1
   pub above : s.free ≤ between.free + 1
-  pub to : enter s.stage s.agent (rows_on board) call Arrive opened
-      ≡ entered s.stage s.agent (rows_on board) call Arrive opened
+  pub to : enter s.stage s.agent (rows_on board) call Arrive enter_call
+      ≡ put_entry s.stage s.agent (rows_on board) call Arrive enter_call
   pub whole : is_some (collective_of call) ≡ true
 
 pub has_arrived : (turned : Turned) (s between : RankState) (call : Call) (board board_between : BoardState)
     (face face_between : Face) → IsReady s call board face → s.agent.entered ≡ false →
     course_of s.agent.known.windows call ≡ ArriveAndLeave →
-    IsTurn turned 1 (enter s.stage s.agent (rows_on board) call Arrive opened) s between board board_between face
+    IsTurn turned 1 (enter s.stage s.agent (rows_on board) call Arrive enter_call) s between board board_between face
     face_between →
     between.agent.entered ≡ true → HasArrived s between call board board_between face face_between
 has_arrived turned s between call board board_between face face_between ready new course one begun = record {
@@ -125,9 +127,9 @@ has_arrived turned s between call board board_between face face_between ready ne
   whole = collective_call s.agent.known.windows call course;
 }
   where
-    to : enter s.stage s.agent (rows_on board) call Arrive opened
-        ≡ entered s.stage s.agent (rows_on board) call Arrive opened
-    to = ap (λ d. enter_by d s.stage s.agent (rows_on board) call Arrive opened)
+    to : enter s.stage s.agent (rows_on board) call Arrive enter_call
+        ≡ put_entry s.stage s.agent (rows_on board) call Arrive enter_call
+    to = ap (λ d. enter_by d s.stage s.agent (rows_on board) call Arrive enter_call)
         (arrive_allowed (decide s.stage.script.ranks (rows_on board) (next_row s.agent call Arrive)) s.stage s.agent
         (rows_on board) call new (sym (ap (λ (x : RankState). x.agent.entered) one.steps.rank) ∙ begun))
 
@@ -169,12 +171,12 @@ still_ready s between call board board_between face face_between ready free h = 
 }
   where
     is : between ≡ record s {
-      agent = (entered s.stage s.agent (rows_on board) call Arrive opened).agent;
+      agent = (put_entry s.stage s.agent (rows_on board) call Arrive enter_call).agent;
       free = between.free;
     }
     is = h.steps.rank
 
-    learnt : (entered s.stage s.agent (rows_on board) call Arrive opened).agent.known ≡ s.agent.known
+    learnt : (put_entry s.stage s.agent (rows_on board) call Arrive enter_call).agent.known ≡ s.agent.known
     learnt = learns_nothing (shapes_in s.stage (rows_on board ++ next_row s.agent call Arrive ∷ []))
         (calls_at s.stage s.agent.rank) s.agent.known s.agent.at (length (rows_on board)) Arrive call ready.here refl
 
@@ -195,7 +197,7 @@ still_closes s between call board board_between face face_between ready course h
 pub left_turn : (turned : Turned) (s between after : RankState) (call : Call)
     (board board_between board_after : BoardState)
     (face face_between face_after : Face) → HasArrived s between call board board_between face face_between →
-    IsTurn turned 1 (enter between.stage between.agent (rows_on board_between) call Leave finished) between after
+    IsTurn turned 1 (enter between.stage between.agent (rows_on board_between) call Leave end_call) between after
     board_between board_after face_between face_after →
     IsTurn turned 2 (arrive s.stage s.agent (rows_on board) call) s after board board_after face face_after
 left_turn turned s between after call board board_between board_after face face_between face_after h two =
@@ -209,53 +211,53 @@ left_turn turned s between after call board board_between board_after face face_
     })
   where
     first : AtBoard
-    first = entered s.stage s.agent (rows_on board) call Arrive opened
+    first = put_entry s.stage s.agent (rows_on board) call Arrive enter_call
 
     second : AtBoard
-    second = leave s.stage (entered s.stage s.agent (rows_on board) call Arrive opened).agent
+    second = leave s.stage (put_entry s.stage s.agent (rows_on board) call Arrive enter_call).agent
         (rows_on board ++ next_row s.agent call Arrive ∷ []) call
 
     rows : rows_on board ++ next_row s.agent call Arrive ∷ [] ≡ rows_on board_between
     rows = arrived_rows s between call board board_between face face_between h
 
     is_leave : arrive s.stage s.agent (rows_on board) call
-        ≡ leave s.stage (entered s.stage s.agent (rows_on board) call Arrive opened).agent
+        ≡ leave s.stage (put_entry s.stage s.agent (rows_on board) call Arrive enter_call).agent
         (rows_on board ++ next_row s.agent call Arrive ∷ []) call
     is_leave = ap (λ (t : AtBoard). leave_if_entered s.stage call t) h.to
 
-    at : IsTurn turned 1 (leave s.stage (entered s.stage s.agent (rows_on board) call Arrive opened).agent
+    at : IsTurn turned 1 (leave s.stage (put_entry s.stage s.agent (rows_on board) call Arrive enter_call).agent
         (rows_on board ++ next_row s.agent call Arrive ∷ []) call) between after board_between board_after face_between
         face_after
     at =
-        subst (λ l. IsTurn turned 1 (enter s.stage (entered s.stage s.agent
-        (rows_on board) call Arrive opened).agent l call
-        Leave finished) between after board_between board_after face_between face_after) (sym rows)
-        (subst (λ (x : RankState). IsTurn turned 1 (enter x.stage x.agent (rows_on board_between) call Leave finished)
+        subst (λ l. IsTurn turned 1 (enter s.stage (put_entry s.stage s.agent
+        (rows_on board) call Arrive enter_call).agent l call
+        Leave end_call) between after board_between board_after face_between face_after) (sym rows)
+        (subst (λ (x : RankState). IsTurn turned 1 (enter x.stage x.agent (rows_on board_between) call Leave end_call)
         between after board_between board_after face_between face_after) h.steps.rank two)
 
     grown : (more : List Row) × (second.rows ≡ first.rows ++ more)
         × AllByRecursion (λ (r : Row). gives r.step r.call ≡ false) (map kept_row more)
     grown = leave_grows (decide s.stage.script.ranks (rows_on board ++ next_row s.agent call Arrive ∷ [])
-        (next_row (entered s.stage s.agent (rows_on board) call Arrive opened).agent call Leave)) s.stage
-        (entered s.stage s.agent (rows_on board) call Arrive opened).agent
+        (next_row (put_entry s.stage s.agent (rows_on board) call Arrive enter_call).agent call Leave)) s.stage
+        (put_entry s.stage s.agent (rows_on board) call Arrive enter_call).agent
         (rows_on board ++ next_row s.agent call Arrive ∷ []) call h.whole
 
 -- ---- a false test
 
 waits_only : (d : Decision) (stage : Stage) (agent : Agent) (rows : List Row) (call : Call) →
-    (enter_by d stage agent rows call One finished).waits ≡ true → d ≡ NotYetDecided
+    (enter_by d stage agent rows call One end_call).waits ≡ true → d ≡ NotYetDecided
 waits_only (Refuse class) stage agent rows call e = absurd (cc e)
 waits_only Allow stage agent rows call e = absurd (cc e)
 waits_only NotYetDecided stage agent rows call e = refl
 
 pub waits_there : (s between : RankState) (call : Call) (board board_between : BoardState) (face face_between : Face) →
-    IsTurn NotYet 1 (enter s.stage s.agent (rows_on board) call One finished) s between board board_between face
+    IsTurn NotYet 1 (enter s.stage s.agent (rows_on board) call One end_call) s between board board_between face
     face_between → between ≡ record s { free = between.free }
 waits_there s between call board board_between face face_between one =
     one.steps.rank
     ∙ ap (λ d. record s {
       agent = (enter_by d s.stage s.agent
-          (rows_on board) call One finished).agent;
+          (rows_on board) call One end_call).agent;
       free = between.free;
     })
     (waits_only (decide s.stage.script.ranks (rows_on board) (next_row s.agent call One)) s.stage s.agent
@@ -264,7 +266,7 @@ waits_there s between call board board_between face face_between one =
 
 pub tested_turn : (s between after : RankState) (call : Call) (seen : ℕ) (board board_between : BoardState)
     (face face_between : Face) →
-    IsTurn NotYet 1 (enter s.stage s.agent (rows_on board) call One finished) s between board board_between face
+    IsTurn NotYet 1 (enter s.stage s.agent (rows_on board) call One end_call) s between board board_between face
     face_between → seen ≡ length board_between.entries →
     IsMove between after (without_delivery (with_item between.stage between.agent
     (Tested between.agent.at seen))) None →
@@ -304,13 +306,13 @@ tested_turn s between after call seen board board_between face face_between one 
     decided = waits_only (decide s.stage.script.ranks (rows_on board) (next_row s.agent call One)) s.stage s.agent
         (rows_on board) call one.says
 
-    at : StepsTo (waiting s.agent (rows_on board)) s between board board_between face face_between
-    at = subst (λ d. StepsTo (enter_by d s.stage s.agent (rows_on board) call One finished) s between board
+    at : StepsTo (stay_waiting s.agent (rows_on board)) s between board board_between face face_between
+    at = subst (λ d. StepsTo (enter_by d s.stage s.agent (rows_on board) call One end_call) s between board
         board_between
         face face_between) decided one.steps
 
     is_tested : test s.stage s.agent (rows_on board) call
-        ≡ turned_away s.stage s.agent (rows_on board) (Tested s.agent.at (length (rows_on board)))
+        ≡ turn_away s.stage s.agent (rows_on board) (Tested s.agent.at (length (rows_on board)))
     is_tested = ap (λ d. test_by d s.stage s.agent (rows_on board) call) decided
 
     dropped : drop (length board.entries) (rows_on board) ≡ []
@@ -342,13 +344,13 @@ tested_turn s between after call seen board board_between face face_between one 
 
 -- a test that is not false is its entry
 pub entered_test : (s after : RankState) (call : Call) (board board_after : BoardState) (face face_after : Face) →
-    IsTurn Did 1 (enter s.stage s.agent (rows_on board) call One finished) s after board board_after face face_after →
+    IsTurn Did 1 (enter s.stage s.agent (rows_on board) call One end_call) s after board board_after face face_after →
     IsTurn Did 2 (test s.stage s.agent (rows_on board) call) s after board board_after face face_after
 entered_test s after call board board_after face face_after one =
     by_decision (decide s.stage.script.ranks (rows_on board) (next_row s.agent call One)) one
   where
     by_decision : (d : Decision) →
-        IsTurn Did 1 (enter_by d s.stage s.agent (rows_on board) call One finished) s after board board_after face
+        IsTurn Did 1 (enter_by d s.stage s.agent (rows_on board) call One end_call) s after board board_after face
         face_after →
         IsTurn Did 2 (test_by d s.stage s.agent (rows_on board) call) s after board board_after face face_after
     by_decision (Refuse class) h = record {

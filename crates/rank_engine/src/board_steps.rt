@@ -6,7 +6,7 @@ ghost use Rattle.rank_rules.specs.Courses as rules;
 ghost use Rattle.rma_record.specs.declared.items.Item.TheVariants.{Tested};
 ghost use Rattle.rma_types.specs.declared.accesses.Step.TheVariants.{Arrive as ArriveStep, Leave as LeaveStep};
 ghost use Rattle.rma_types.specs.declared.accesses.Step.TheVariants.{One as OneStep};
-ghost use Rattle.step_runs.specs.Agents.{finished, opened};
+ghost use Rattle.step_runs.specs.Agents.{end_call, enter_call};
 ghost use Rattle.step_runs.specs.BoardSteps.{arrive as arrive_by, enter as enter_by, entry_of, test as test_by};
 ghost use Rattle.step_runs.specs.DataSteps.{without_delivery, with_item};
 ghost use Rattle.sync_board.specs.Boards.{rows_on};
@@ -60,7 +60,7 @@ impl<'s, L: Keep + Drop> Agent<'s, L> {
         requires new { self.old.agent.entered ≡ false }
         requires opens { IsOpening step (rules.course_of self.old.agent.known.windows call.now) }
         ensures turn { IfOk result (λ turned. IsTurn turned 1
-            (enter_by self.old.stage self.old.agent (rows_on board.old) call.now step opened)
+            (enter_by self.old.stage self.old.agent (rows_on board.old) call.now step enter_call)
             self.old self.new board.old board.new (M.face notes.old) (M.face notes.new)) }
         ensures known { IfOk result (λ _. Keeps (M.knows notes.old) (M.knows notes.new)) }
         ensures kept { OnErr result (self.new.agent.log ≡ self.old.agent.log) }
@@ -100,7 +100,7 @@ impl<'s, L: Keep + Drop> Agent<'s, L> {
         requires closes { IsClosing step self.old.agent.entered
             (rules.course_of self.old.agent.known.windows call.now) }
         ensures turn { IfOk result (λ turned. IsTurn turned 1
-            (enter_by self.old.stage self.old.agent (rows_on board.old) call.now step finished)
+            (enter_by self.old.stage self.old.agent (rows_on board.old) call.now step end_call)
             self.old self.new board.old board.new (M.face notes.old) (M.face notes.new)) }
         ensures known { IfOk result (λ _. Keeps (M.knows notes.old) (M.knows notes.new)) }
         ensures kept { OnErr result (self.new.agent.log ≡ self.old.agent.log) }

@@ -12,7 +12,7 @@ ghost use Rattle.step_runs.specs.Agents.{next_call as next_call_of, must_draw as
 ghost use Rattle.step_runs.specs.DataSteps.{without_delivery, with_item, just_delivers};
 ghost use Rattle.step_runs.specs.DataSteps.{draw as draw_of, issue as issue_by, begin as begin_by};
 ghost use Rattle.step_runs.specs.DataSteps.{first_item as first_item_by};
-ghost use Rattle.step_runs.specs.Generator.{stirred};
+ghost use Rattle.step_runs.specs.Generator.{next_state};
 ghost use Rattle.rank_engine.specs.Moves.{IsIssued, IsMove};
 ghost use Rattle.rank_engine.specs.RankStates.{is_at_hand as is_one_at_hand, needs_entry, own_move};
 ghost use Rattle.rank_engine.specs.DataAnswers.{is_over};
@@ -34,7 +34,7 @@ const NOTHING: Access = Access {
 
 /// The state of the generator after a draw.
 fn stir(state: u64) -> u64
-    ensures { result ≡ stirred state }
+    ensures { result ≡ next_state state }
 {
     state
         .wrapping_mul(6364136223846793005)

@@ -33,7 +33,7 @@ use Rattle.rank_rules.specs.Knowledge.{Knowledge}
 use Rattle.rank_rules.specs.Pending.{must_wait, way}
 use Rattle.rank_rules.specs.declared.pending.PendingAccess.{PendingAccess}
 use Rattle.rank_rules.specs.Requests.{Requests}
-use Rattle.step_runs.specs.Agents.{Agent, kept}
+use Rattle.step_runs.specs.Agents.{Agent, keep_item}
 use Rattle.step_runs.specs.BoardSteps.{next_row}
 use Rattle.step_runs.specs.DataSteps.{no_shapes}
 
@@ -167,8 +167,8 @@ issue_new stage agent call t access issuing h = by issuing.begun
 
 awaited_entered : (stage : Stage) (agent : Agent) (call : Call) (step : Step) (after : Agent → Agent) (shapes : ℕ →
     List Part) (place : ℕ) → Entering stage agent call step after → KeepsAwaited stage agent →
-    KeepsTouches stage (after (kept shapes stage agent (Entry agent.at place step))) →
-    KeepsAwaited stage (after (kept shapes stage agent (Entry agent.at place step)))
+    KeepsTouches stage (after (keep_item shapes stage agent (Entry agent.at place step))) →
+    KeepsAwaited stage (after (keep_item shapes stage agent (Entry agent.at place step)))
 awaited_entered stage agent call _ _ shapes place (OnlyEntry begins course) h touches = record {
   touches = touches;
   requests = requests_push shapes stage agent.rank agent.known agent.log (Entry agent.at place One) h.requests;

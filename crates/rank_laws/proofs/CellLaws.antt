@@ -14,7 +14,7 @@ use Rattle.rma_record.specs.declared.runs.Run.{Run}
 use Rattle.call_rules.specs.Pieces.{numbers_from}
 use Rattle.lawful_runs.specs.Accesses.{Touching, EachPair, touches_of, touches_among, on_cell, updates_in, is_update}
 use Rattle.lawful_runs.specs.Accesses.{all_touches}
-use Rattle.lawful_runs.specs.Cells.{IsHistory, ReadsState, KeepsOrder, state, changed, has_place}
+use Rattle.lawful_runs.specs.Cells.{IsHistory, ReadsState, KeepsOrder, state, bits_after, has_place}
 use Rattle.lawful_runs.specs.Logs.{named_in}
 use Rattle.lawful_runs.specs.Stages.{stage_of, calls_at}
 use Rattle.rank_laws.proofs.CellOrder.{KeepsOnCell, AreInOrder, SeenInOrder, KeepsOrderOfCells, order_kept}
@@ -104,7 +104,7 @@ state_is : (values : ℕ → ℕ) (touches : List Touching) (final : ℕ) → Is
 state_is values touches final history zero h = sym history.first
 state_is values touches final history (suc k) h =
     elim (find (has_place k) updates) as (λ (o : Option Touching). find (has_place k) updates ≡ o →
-    option_map_or (λ (update : Touching). changed (state updates k) update.change) o (state updates k) ≡ values
+    option_map_or (λ (update : Touching). bits_after (state updates k) update.change) o (state updates k) ≡ values
     (suc k)) [
       | None ↦ λ e. let none = sym (length-filter (has_place k) updates)
           ∙ ap length (nothing_found (has_place k) updates e) in absurd (cc (sym none ∙ one))
@@ -120,7 +120,7 @@ state_is values touches final history (suc k) h =
           let at = place_is update found.1 in
           let old = state_is values touches final history k (omega arith) in
           let read : update.bits ≡ values k = found.0.1.reads ∙ ap values at in
-          ap (λ bits. changed bits update.change) (old ∙ sym read) ∙ sym found.0.0 ∙ ap (λ n. values (suc n)) at
+          ap (λ bits. bits_after bits update.change) (old ∙ sym read) ∙ sym found.0.0 ∙ ap (λ n. values (suc n)) at
     ] refl
   where
     updates : List Touching

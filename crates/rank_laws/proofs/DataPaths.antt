@@ -31,11 +31,11 @@ use Rattle.rank_rules.specs.Courses.{EntryOrTested, OneEntry, access_of}
 use Rattle.rank_rules.specs.Knowledge.{own_class}
 use Rattle.rank_rules.specs.Pending.{way, first_in_way, must_wait}
 use Rattle.rank_rules.specs.declared.pending.PendingAccess.{PendingAccess}
-use Rattle.step_runs.specs.Agents.{Agent, next_call, has_pending, must_draw, is_seeded, awaited_by, kept}
+use Rattle.step_runs.specs.Agents.{Agent, next_call, has_pending, must_draw, is_seeded, awaited_by, keep_item}
 use Rattle.step_runs.specs.DataSteps.{no_shapes, just_delivers, without_delivery, with_item, with_issue, is_at_once}
 use Rattle.step_runs.specs.DataSteps.{issue_of, issue, draw, first_item, wait_or_go_on, judge, begin, go_on, end}
 use Rattle.step_runs.specs.DataSteps.{move_of}
-use Rattle.step_runs.specs.Generator.{stirred, drawn_from}
+use Rattle.step_runs.specs.Generator.{next_state, drawn_from}
 
 -- nothing else is done, and lows may rise
 still_path : (drains : Bool) (stage : Stage) (agent next : Agent) (rows : List Row) (lows after : Lows) →
@@ -77,7 +77,7 @@ closed_new stage agent new call here e = absurd (cc (sym new ∙ e))
 ends_path : (drains : Bool) (stage : Stage) (agent next : Agent) (rows : List Row) (lows after : Lows) →
     next_call stage agent ≡ None → agent.pending ≡ [] → (b : Bool) → agent.ended ≡ b →
     IsMade stage (cond b (without_delivery agent) (without_delivery
-    (record (kept no_shapes stage agent Ended) { ended = true }))) lows next after →
+    (record (keep_item no_shapes stage agent Ended) { ended = true }))) lows next after →
     Path drains stage (point agent rows lows) (point next rows after)
 ends_path drains stage agent next rows lows after none empty true e made =
     still_path drains stage agent next rows lows after made
@@ -90,7 +90,7 @@ end_path : (drains : Bool) (stage : Stage) (agent next : Agent) (rows : List Row
     (pending : List PendingAccess) → agent.pending ≡ pending →
     IsMade stage (cond (not (eqb (length pending) 0)) (just_delivers agent 0)
     (cond agent.ended (without_delivery agent) (without_delivery
-    (record (kept no_shapes stage agent Ended) { ended = true })))) lows next after →
+    (record (keep_item no_shapes stage agent Ended) { ended = true })))) lows next after →
     Path drains stage (point agent rows lows) (point next rows after)
 end_path drains stage agent next rows lows after none [] e made =
     ends_path drains stage agent next rows lows after none e
@@ -106,7 +106,7 @@ end_path drains stage agent next rows lows after none (one ∷ rest) e made =
   where
     delivers_if : (b : Bool) → b ≡ false → IsMade stage (cond (not b) (just_delivers agent 0)
         (cond agent.ended (without_delivery agent) (without_delivery
-        (record (kept no_shapes stage agent Ended) { ended = true })))) lows next after →
+        (record (keep_item no_shapes stage agent Ended) { ended = true })))) lows next after →
         IsDelivered stage agent 0 (slice_get agent.pending 0) lows next after
     delivers_if true e made = absurd (cc e)
     delivers_if false e made = made
@@ -314,7 +314,7 @@ judge_path drains stage agent next rows lows after call here new (Some class) e 
 draw_path : (drains : Bool) (stage : Stage) (agent next : Agent) (rows : List Row) (lows after : Lows) →
     agent.entered ≡ false →
     is_seeded stage.delay ≡ true → (b : Bool) →
-    (let state = stirred agent.draws in
+    (let state = next_state agent.draws in
     IsMade stage (record {
       agent = record agent { drawn = true; draws = state };
       delivers = cond b (Some (way agent.pending (drawn_from state / 2 % length agent.pending))) None;
@@ -322,7 +322,7 @@ draw_path : (drains : Bool) (stage : Stage) (agent next : Agent) (rows : List Ro
     after) →
     Path drains stage (point agent rows lows) (point next rows after)
 draw_path drains stage agent next rows lows after new seeded true made =
-    let state = stirred agent.draws in
+    let state = next_state agent.draws in
     let drawn : Agent = record agent { drawn = true; draws = state } in
     let at = way agent.pending (drawn_from state / 2 % length agent.pending) in
     let due : IsDue drains stage drawn at = record {
@@ -335,7 +335,7 @@ draw_path drains stage agent next rows lows after new seeded true made =
     (delivery_path drains stage drawn next rows lows after at due (slice_get agent.pending at) refl made)
 draw_path drains stage agent next rows lows after new seeded false made =
     moved_path drains stage agent _ next rows lows after
-    (Draws (stirred agent.draws) new) made
+    (Draws (next_state agent.draws) new) made
 
 begin_path : (drains : Bool) (stage : Stage) (agent next : Agent) (rows : List Row) (lows after : Lows) (call : Call) →
     next_call stage agent ≡ Some call → agent.entered ≡ false →
@@ -345,7 +345,7 @@ begin_path : (drains : Bool) (stage : Stage) (agent next : Agent) (rows : List R
 begin_path drains stage agent next rows lows after call here new true e made =
     let seeded = both_left (is_seeded stage.delay) (not agent.drawn)
     (both_left (is_seeded stage.delay && not agent.drawn) (has_pending agent) e) in
-    draw_path drains stage agent next rows lows after new seeded (drawn_from (stirred agent.draws) % 2 == 1) made
+    draw_path drains stage agent next rows lows after new seeded (drawn_from (next_state agent.draws) % 2 == 1) made
 begin_path drains stage agent next rows lows after call here new false e made =
     judge_path drains stage agent next rows lows after
     call here new (own_class agent.known call) refl made

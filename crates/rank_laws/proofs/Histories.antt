@@ -20,9 +20,9 @@ use Rattle.rank_laws.specs.Fronts.{Lows, AreAtMost, Put, rows_put, AreOthers, Ar
 use Rattle.rank_rules.specs.Courses.{Course, OneNull, OneIssue, LookUpAndIssue, OneFlush, OneRequest, ArriveAndLeave}
 use Rattle.rank_rules.specs.Courses.{EntryOrTested, OneEntry, has_entry}
 use Rattle.rank_rules.specs.Knowledge.{own_class}
-use Rattle.step_runs.specs.Agents.{Agent, next_call, finished, opened, must_draw, awaited_by, begins_with_entry}
+use Rattle.step_runs.specs.Agents.{Agent, next_call, end_call, enter_call, must_draw, awaited_by, begins_with_entry}
 use Rattle.step_runs.specs.Agents.{tries_entry}
-use Rattle.step_runs.specs.BoardSteps.{next_row, waiting, enter_by, test_by, leave, leave_if_entered, entered}
+use Rattle.step_runs.specs.BoardSteps.{next_row, stay_waiting, enter_by, test_by, leave, leave_if_entered, put_entry}
 use Rattle.step_runs.specs.BoardSteps.{first_entry, entry_of, board_step}
 
 -- ---- answers
@@ -72,13 +72,13 @@ first_path drains stage agent rows lows call course after begins is has entering
 
 -- a Leave, by the board's answer
 leave_path : (drains : Bool) (stage : Stage) (agent : Agent) (rows : List Row) (lows : Lows) (call : Call) →
-    Entering stage agent call Leave finished →
+    Entering stage agent call Leave end_call →
     (d : Decision) → decide stage.script.ranks rows (next_row agent call Leave) ≡ d →
-    Path drains stage (point agent rows lows) (point_at (enter_by d stage agent rows call Leave finished) lows)
+    Path drains stage (point agent rows lows) (point_at (enter_by d stage agent rows call Leave end_call) lows)
 leave_path drains stage agent rows lows call entering (Refuse class) e =
     absurd (leave_or_wait (all_arrived (question stage.script.ranks rows (next_row agent call Leave))) class e)
 leave_path drains stage agent rows lows call entering Allow e = one_move drains stage (point agent rows lows) _
-    (Enters call Leave finished entering e)
+    (Enters call Leave end_call entering e)
 leave_path drains stage agent rows lows call entering NotYet e = Stays
 
 -- an Arrive, and then perhaps the Leave
@@ -86,20 +86,20 @@ arrive_path : (drains : Bool) (stage : Stage) (agent : Agent) (rows : List Row) 
     Begins stage agent call → course_at agent call ≡ ArriveAndLeave →
     (d : Decision) → decide stage.script.ranks rows (next_row agent call Arrive) ≡ d →
     Path drains stage (point agent rows lows) (point_at (leave_if_entered stage call
-    (enter_by d stage agent rows call Arrive opened)) lows)
+    (enter_by d stage agent rows call Arrive enter_call)) lows)
 arrive_path drains stage agent rows lows call begins is (Refuse class) e =
     refused_path drains stage agent rows lows call
-    ArriveAndLeave class begins is refl e opened
+    ArriveAndLeave class begins is refl e enter_call
 arrive_path drains stage agent rows lows call begins is Allow e =
-    let arrived = entered stage agent rows call Arrive opened in
+    let arrived = put_entry stage agent rows call Arrive enter_call in
     let none = moves_nothing agent.known.windows call ArriveAndLeave is refl in
     paths_join drains stage (point agent rows lows) (point_at arrived lows) _
-    (one_move drains stage (point agent rows lows) _ (Enters call Arrive opened (Arriving begins is) e))
+    (one_move drains stage (point agent rows lows) _ (Enters call Arrive enter_call (Arriving begins is) e))
     (leave_path drains stage arrived.agent arrived.rows lows call (Leaving begins.here refl none)
     (decide stage.script.ranks arrived.rows (next_row arrived.agent call Leave)) refl)
 arrive_path drains stage agent rows lows call begins is NotYet e =
     subst (λ b. Path drains stage (point agent rows lows) (point_at
-    (cond b (leave stage agent rows call) (waiting agent rows)) lows)) (sym begins.new) Stays
+    (cond b (leave stage agent rows call) (stay_waiting agent rows)) lows)) (sym begins.new) Stays
 
 test_path : (drains : Bool) (stage : Stage) (agent : Agent) (rows : List Row) (lows : Lows) (call : Call) →
     Begins stage agent call →
@@ -107,9 +107,9 @@ test_path : (drains : Bool) (stage : Stage) (agent : Agent) (rows : List Row) (l
     (d : Decision) → decide stage.script.ranks rows (next_row agent call One) ≡ d →
     Path drains stage (point agent rows lows) (point_at (test_by d stage agent rows call) lows)
 test_path drains stage agent rows lows call begins is (Refuse class) e = refused_path drains stage agent rows lows call
-    EntryOrTested class begins is refl e finished
+    EntryOrTested class begins is refl e end_call
 test_path drains stage agent rows lows call begins is Allow e =
-    one_move drains stage (point agent rows lows) _ (Enters call One finished (OnlyEntry begins (inr is)) e)
+    one_move drains stage (point agent rows lows) _ (Enters call One end_call (OnlyEntry begins (inr is)) e)
 test_path drains stage agent rows lows call begins is NotYet e = one_move drains stage (point agent rows lows) _
     (Tests call begins is e)
 
@@ -121,7 +121,7 @@ entry_path : (drains : Bool) (stage : Stage) (agent : Agent) (rows : List Row) (
 entry_path drains stage agent rows lows call begins OneNull is = Stays
 entry_path drains stage agent rows lows call begins OneIssue is = Stays
 entry_path drains stage agent rows lows call begins LookUpAndIssue is =
-    first_path drains stage agent rows lows call LookUpAndIssue opened begins is refl (LookUp begins is)
+    first_path drains stage agent rows lows call LookUpAndIssue enter_call begins is refl (LookUp begins is)
     (decide stage.script.ranks rows (next_row agent call One)) refl
 entry_path drains stage agent rows lows call begins OneFlush is = Stays
 entry_path drains stage agent rows lows call begins OneRequest is = Stays
@@ -132,7 +132,7 @@ entry_path drains stage agent rows lows call begins EntryOrTested is =
     test_path drains stage agent rows lows call begins is (decide stage.script.ranks rows (next_row agent call One))
     refl
 entry_path drains stage agent rows lows call begins OneEntry is =
-    first_path drains stage agent rows lows call OneEntry finished begins is refl (OnlyEntry begins (inl is))
+    first_path drains stage agent rows lows call OneEntry end_call begins is refl (OnlyEntry begins (inl is))
     (decide stage.script.ranks rows (next_row agent call One)) refl
 
 -- what it says that a call begins with an entry
@@ -171,7 +171,7 @@ look_path drains stage agent rows lows tries =
     option_map_or (λ call. cond agent.entered (is_none (transfer_of call))
     (begins_with_entry stage agent call)) o false ≡ true →
     Path drains stage (point agent rows lows) (point_at (option_map_or (entry_of stage agent rows) o
-    (waiting agent rows)) lows)) [
+    (stay_waiting agent rows)) lows)) [
       | None ↦ λ e t. Stays
       | Some call ↦ λ e t. call_path drains stage agent rows lows call e agent.entered refl t
     ] refl tries

@@ -29,7 +29,7 @@ use Rattle.rank_laws.specs.Fronts.{Put}
 use Rattle.rank_laws.specs.Lives.{HasLived}
 use Rattle.rank_rules.specs.Courses.{Course, OneNull, OneIssue, LookUpAndIssue, OneFlush, OneRequest, ArriveAndLeave}
 use Rattle.rank_rules.specs.Courses.{EntryOrTested, OneEntry}
-use Rattle.step_runs.specs.Agents.{Agent, finished, opened}
+use Rattle.step_runs.specs.Agents.{Agent, end_call, enter_call}
 
 -- ---- a log
 
@@ -162,29 +162,29 @@ entered_more : (stage : Stage) (agent : Agent) (call : Call) (step : Step) (afte
     next.rank ≡ agent.rank → next.at ≡ agent.at → next.log ≡ agent.log ++ Entry agent.at place step ∷ [] →
     LooksUp stage (after next)
 entered_more stage agent call _ _ next place (OnlyEntry begins course) h rank at log =
-    subst (λ r. IsFollowed (calls_at stage r) (IsOpen (finished next)) next.log) (sym rank)
-    (subst (λ (l : List Item). IsFollowed (calls_at stage agent.rank) (IsOpen (finished next)) l) (sym log)
-    (entry_more (calls_at stage agent.rank) agent (IsOpen (finished next)) call place One h begins.here
+    subst (λ r. IsFollowed (calls_at stage r) (IsOpen (end_call next)) next.log) (sym rank)
+    (subst (λ (l : List Item). IsFollowed (calls_at stage agent.rank) (IsOpen (end_call next)) l) (sym log)
+    (entry_more (calls_at stage agent.rank) agent (IsOpen (end_call next)) call place One h begins.here
     (λ moves. absurd (none_is_no_some (transfer_of call) (nothing course) moves))))
   where
     nothing : (course_at agent call ≡ OneEntry) ⊎ (course_at agent call ≡ EntryOrTested) → transfer_of call ≡ None
     nothing (inl e) = moves_nothing agent.known.windows call OneEntry e refl
     nothing (inr e) = moves_nothing agent.known.windows call EntryOrTested e refl
 entered_more stage agent call _ _ next place (LookUp begins course) h rank at log =
-    subst (λ r. IsFollowed (calls_at stage r) (IsOpen (opened next)) next.log) (sym rank)
-    (subst (λ (l : List Item). IsFollowed (calls_at stage agent.rank) (IsOpen (opened next)) l) (sym log)
-    (entry_more (calls_at stage agent.rank) agent (IsOpen (opened next)) call place One h begins.here
+    subst (λ r. IsFollowed (calls_at stage r) (IsOpen (enter_call next)) next.log) (sym rank)
+    (subst (λ (l : List Item). IsFollowed (calls_at stage agent.rank) (IsOpen (enter_call next)) l) (sym log)
+    (entry_more (calls_at stage agent.rank) agent (IsOpen (enter_call next)) call place One h begins.here
     (λ moves. (sym at, refl))))
 entered_more stage agent call _ _ next place (Arriving begins course) h rank at log =
-    subst (λ r. IsFollowed (calls_at stage r) (IsOpen (opened next)) next.log) (sym rank)
-    (subst (λ (l : List Item). IsFollowed (calls_at stage agent.rank) (IsOpen (opened next)) l) (sym log)
-    (entry_more (calls_at stage agent.rank) agent (IsOpen (opened next)) call place Arrive h begins.here
+    subst (λ r. IsFollowed (calls_at stage r) (IsOpen (enter_call next)) next.log) (sym rank)
+    (subst (λ (l : List Item). IsFollowed (calls_at stage agent.rank) (IsOpen (enter_call next)) l) (sym log)
+    (entry_more (calls_at stage agent.rank) agent (IsOpen (enter_call next)) call place Arrive h begins.here
     (λ moves. absurd (none_is_no_some (transfer_of call) (moves_nothing agent.known.windows call ArriveAndLeave course
     refl) moves))))
 entered_more stage agent call _ _ next place (Leaving here inside none) h rank at log =
-    subst (λ r. IsFollowed (calls_at stage r) (IsOpen (finished next)) next.log) (sym rank)
-    (subst (λ (l : List Item). IsFollowed (calls_at stage agent.rank) (IsOpen (finished next)) l) (sym log)
-    (entry_more (calls_at stage agent.rank) agent (IsOpen (finished next)) call place Leave h here
+    subst (λ r. IsFollowed (calls_at stage r) (IsOpen (end_call next)) next.log) (sym rank)
+    (subst (λ (l : List Item). IsFollowed (calls_at stage agent.rank) (IsOpen (end_call next)) l) (sym log)
+    (entry_more (calls_at stage agent.rank) agent (IsOpen (end_call next)) call place Leave h here
     (λ moves. absurd (none_is_no_some (transfer_of call) none moves))))
 
 -- an Issue, and perhaps its touches

@@ -22,8 +22,8 @@ use Rattle.rank_rules.specs.Courses.{EntryOrTested, OneEntry, course_of, has_ent
 use Rattle.rank_rules.specs.Knowledge.{own_class}
 use Rattle.rank_rules.specs.Pending.{first_in_way}
 use Rattle.rank_rules.specs.declared.pending.PendingAccess.{PendingAccess}
-use Rattle.step_runs.specs.Agents.{Agent, next_call, kept, finished, opened, is_seeded, awaited_by}
-use Rattle.step_runs.specs.BoardSteps.{AtBoard, next_row, entered, turned_away}
+use Rattle.step_runs.specs.Agents.{Agent, next_call, keep_item, end_call, enter_call, is_seeded, awaited_by}
+use Rattle.step_runs.specs.BoardSteps.{AtBoard, next_row, put_entry, turn_away}
 use Rattle.step_runs.specs.DataSteps.{no_shapes, with_item, is_at_once, with_issue}
 
 -- where a rank's history is: the rank, the entries that it knows, and its lows
@@ -75,11 +75,12 @@ IsPlainItem OneEntry number item = ⊥
 pub data Entering (stage : Stage) (agent : Agent) (call : Call) : Step → (Agent → Agent) → Type 0 where
   -- the only one of its call
   OnlyEntry : Begins stage agent call → (course_at agent call ≡ OneEntry) ⊎ (course_at agent call ≡ EntryOrTested) →
-      Entering stage agent call One finished
-  LookUp : Begins stage agent call → course_at agent call ≡ LookUpAndIssue → Entering stage agent call One opened
-  Arriving : Begins stage agent call → course_at agent call ≡ ArriveAndLeave → Entering stage agent call Arrive opened
+      Entering stage agent call One end_call
+  LookUp : Begins stage agent call → course_at agent call ≡ LookUpAndIssue → Entering stage agent call One enter_call
+  Arriving : Begins stage agent call → course_at agent call ≡ ArriveAndLeave →
+      Entering stage agent call Arrive enter_call
   Leaving : next_call stage agent ≡ Some call → agent.entered ≡ true → transfer_of call ≡ None →
-      Entering stage agent call Leave finished
+      Entering stage agent call Leave end_call
 
 -- the rank issues the access of its call: as its one item, or after its look-up
 pub record Issuing (stage : Stage) (agent : Agent) (call : Call) (t : Transfer) (access : Access) : Type 0 where
@@ -123,7 +124,7 @@ pub data Move (drains : Bool) (stage : Stage) (p : Point) : Point → Type 0 whe
   Rises : (after : Lows) → AreAtMost p.lows after → Move drains stage p (record p { lows = after })
   -- all calls have their items, and nothing is pending
   Ends : next_call stage p.agent ≡ None → p.agent.pending ≡ [] → p.agent.ended ≡ false →
-      Move drains stage p (record p { agent = record (kept no_shapes stage p.agent Ended) { ended = true } })
+      Move drains stage p (record p { agent = record (keep_item no_shapes stage p.agent Ended) { ended = true } })
   -- the rank refuses its call
   RefusesAlone : (call : Call) (class : Class) → next_call stage p.agent ≡ Some call → p.agent.entered ≡ false →
       own_class p.agent.known call ≡ Some class →
@@ -132,14 +133,14 @@ pub data Move (drains : Bool) (stage : Stage) (p : Point) : Point → Type 0 whe
   IsRefused : (call : Call) (class : Class) → Begins stage p.agent call → has_entry (course_at p.agent call) ≡ true →
       decide stage.script.ranks p.rows (next_row p.agent call (step_by (course_at p.agent call))) ≡ Refuse class →
       Move drains stage p (record p {
-        agent = (turned_away stage p.agent p.rows
+        agent = (turn_away stage p.agent p.rows
             (Refused p.agent.at class (length p.rows))).agent;
       })
   -- a testwin is false
   Tests : (call : Call) → Begins stage p.agent call → course_at p.agent call ≡ EntryOrTested →
       decide stage.script.ranks p.rows (next_row p.agent call One) ≡ NotYet →
       Move drains stage p (record p {
-        agent = (turned_away stage p.agent p.rows
+        agent = (turn_away stage p.agent p.rows
             (Tested p.agent.at (length p.rows))).agent;
       })
   -- a null target, a flush or a request
@@ -149,7 +150,7 @@ pub data Move (drains : Bool) (stage : Stage) (p : Point) : Point → Type 0 whe
   -- an entry
   Enters : (call : Call) (step : Step) (after : Agent → Agent) → Entering stage p.agent call step after →
       decide stage.script.ranks p.rows (next_row p.agent call step) ≡ Allow →
-      Move drains stage p (point_at (entered stage p.agent p.rows call step after) p.lows)
+      Move drains stage p (point_at (put_entry stage p.agent p.rows call step after) p.lows)
   -- an Issue whose access is pending from then on
   Issues : (call : Call) (t : Transfer) (access : Access) → Issuing stage p.agent call t access →
       is_at_once stage.delay access ≡ false → Move drains stage p

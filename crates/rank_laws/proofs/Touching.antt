@@ -17,7 +17,7 @@ use Rattle.call_rules.specs.Pieces.{pieces}
 use Rattle.lawful_runs.specs.Accesses.{transfer_at, issued_by, issued_at, issued_from, pieces_of}
 use Rattle.lawful_runs.specs.Items.{is_touch}
 use Rattle.lawful_runs.specs.Stages.{Stage}
-use Rattle.lawful_runs.specs.TouchLaw.{touch_of, touched_by, elements_from, issue_of, issues_touched}
+use Rattle.lawful_runs.specs.TouchLaw.{touch_of, touched_by, elements_from, issue_touched, issues_touched}
 use Rattle.rank_laws.proofs.Lists.{each_append, place_in, get_front, get_rest, each_at}
 use Rattle.rank_laws.specs.Deliveries.{AreTouches, AreTouchesOf}
 use Rattle.rank_laws.specs.Fronts.{Lows}
@@ -117,7 +117,7 @@ plain_touches_nothing index (Refused number class seen) e = refl
 plain_touches_nothing index Ended e = refl
 
 -- nor does it name an Issue that is touched
-pub plain_names_nothing : (item : Item) → is_touch item ≡ false → issue_of item ≡ []
+pub plain_names_nothing : (item : Item) → is_touch item ≡ false → issue_touched item ≡ []
 plain_names_nothing (Touch of element cell place bits) e = absurd (cc e)
 plain_names_nothing (Issue number access) e = refl
 plain_names_nothing (Null number) e = refl
@@ -135,7 +135,7 @@ touched_plain index log item e =
     (plain_touches_nothing index item e) ∙ append-nil (touched_by index log)
 
 pub issues_joined : (xs ys : List Item) → issues_touched (xs ++ ys) ≡ issues_touched xs ++ issues_touched ys
-issues_joined xs ys = flat_map-append issue_of xs ys
+issues_joined xs ys = flat_map-append issue_touched xs ys
 
 pub issues_plain : (log : List Item) (item : Item) → is_touch item ≡ false →
     issues_touched (log ++ item ∷ []) ≡ issues_touched log

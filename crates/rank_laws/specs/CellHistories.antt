@@ -2,7 +2,7 @@
 use Rattle.std.specs.Prelude.{ℕ, suc, ◌≡◌, ◌≤◌, if◌then◌else◌, nat_lt, List, length}
 use Rattle.std.specs.List.{count_by, AllByRecursion}
 use Rattle.lawful_runs.specs.Accesses.{Touching, updates_in}
-use Rattle.lawful_runs.specs.Cells.{changed, has_place}
+use Rattle.lawful_runs.specs.Cells.{bits_after, has_place}
 
 -- a touch reads the value at its place, which is at most the number of updates
 pub record ReadsValue (values : ℕ → ℕ) (updates : ℕ) (touch : Touching) : Type 0 where
@@ -11,7 +11,7 @@ pub record ReadsValue (values : ℕ → ℕ) (updates : ℕ) (touch : Touching) 
 
 -- an update at a place leaves the next value
 abbrev pub LeavesNext : (ℕ → ℕ) → Touching → Type 0
-LeavesNext values update = values (suc update.place) ≡ changed update.bits update.change
+LeavesNext values update = values (suc update.place) ≡ bits_after update.bits update.change
 
 -- the values of a cell after 0, 1 and more of its updates, with all touches on it; final is its value at the end
 pub record IsHistoryOf (values : ℕ → ℕ) (touches : List Touching) (final : ℕ) : Type 0 where

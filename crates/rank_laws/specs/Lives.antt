@@ -5,7 +5,7 @@ use Rattle.lawful_runs.specs.Stages.{Stage}
 use Rattle.rank_laws.specs.Deliveries.{Delivers}
 use Rattle.rank_laws.specs.Fronts.{Lows, first_lows, Put, rows_put, AreOthers, ArePut}
 use Rattle.step_runs.specs.Agents.{Agent, new_agent, tries_entry}
-use Rattle.step_runs.specs.BoardSteps.{board_step, waiting}
+use Rattle.step_runs.specs.BoardSteps.{board_step, stay_waiting}
 use Rattle.step_runs.specs.DataSteps.{Move, move_of}
 
 -- the rank tries an entry after these entries, and puts those in one step
@@ -37,7 +37,7 @@ pub data Lives (stage : Stage) (seed : ℕ) (rank : ℕ) : Agent → List Put �
 -- the rank has ended, or its next entry is not yet possible after the entries
 abbrev pub Stops : Stage → Agent → List Row → Type 0
 Stops stage agent rows =
-    (agent.ended ≡ true) ⊎ ((tries_entry stage agent ≡ true) × (board_step stage agent rows ≡ waiting agent rows))
+    (agent.ended ≡ true) ⊎ ((tries_entry stage agent ≡ true) × (board_step stage agent rows ≡ stay_waiting agent rows))
 
 -- first pending accesses are delivered, one after the other, by a rank that makes no other step any more
 pub data Drains (stage : Stage) (agent : Agent) (lows : Lows) : Agent → Lows → Type 0 where

@@ -36,7 +36,8 @@ first_epochs = replicate 32 no_epochs
 abbrev pub epochs_at : List Epochs → ℕ → Epochs
 epochs_at epochs win = slice_index_or epochs win no_epochs
 
--- no access epoch, or a fence epoch without an RMA call
+-- No access epoch, or a fence epoch without an RMA call. That a start, a lock or a post may follow such a fence epoch is
+-- this project's profile.
 abbrev pub may_begin : AccessEpoch → Bool
 may_begin Idle = true
 may_begin FenceUnused = true
@@ -108,9 +109,9 @@ may_reach (StartTo group) rank = is_member rank group
 may_reach (LocksAt targets) rank = is_member rank targets
 may_reach LockAll rank = true
 
-abbrev pub is_posted : ExposureEpoch → Bool
-is_posted Unexposed = false
-is_posted (PostTo group) = true
+abbrev pub is_exposed : ExposureEpoch → Bool
+is_exposed Unexposed = false
+is_exposed (PostTo group) = true
 
 -- a request form is for passive targets alone (11.3.5)
 abbrev pub may_move : AccessEpoch → Transfer → Bool
@@ -140,18 +141,18 @@ may_flush access (Some target) = is_passive_at access (natural target)
 -- the synchronisation is allowed in the epochs
 abbrev pub may_synchronise : Epochs → Synchronisation → Bool
 may_synchronise epochs (Fences asserts) =
-    (may_begin epochs.access || is_fence_used epochs.access) && not (is_posted epochs.exposure)
-may_synchronise epochs (Posts group asserts) = not (is_fence_used epochs.access) && not (is_posted epochs.exposure)
+    (may_begin epochs.access || is_fence_used epochs.access) && not (is_exposed epochs.exposure)
+may_synchronise epochs (Posts group asserts) = not (is_fence_used epochs.access) && not (is_exposed epochs.exposure)
 may_synchronise epochs (Starts group asserts) = may_begin epochs.access
 may_synchronise epochs Completes = is_start_epoch epochs.access
-may_synchronise epochs (Waits tests) = is_posted epochs.exposure
+may_synchronise epochs (Waits tests) = is_exposed epochs.exposure
 may_synchronise epochs (Locks kind target asserts) = may_lock epochs.access target
 may_synchronise epochs (Unlocks target) = may_unlock epochs.access target
 may_synchronise epochs (Flushes target local) = may_flush epochs.access target
 may_synchronise epochs Syncs = is_passive epochs.access
 
 abbrev pub may_free : Epochs → Bool
-may_free epochs = may_begin epochs.access && not (is_posted epochs.exposure)
+may_free epochs = may_begin epochs.access && not (is_exposed epochs.exposure)
 
 -- ---- the epochs after an accepted call
 
@@ -177,13 +178,13 @@ after_lock access None = LockAll
 after_lock access (Some target) = LocksAt (targets_locked access ++ natural target ∷ [])
 
 -- no lock at all is no epoch
-abbrev pub locks_at : List ℕ → AccessEpoch
-locks_at [] = Idle
-locks_at (target ∷ targets) = LocksAt (target ∷ targets)
+abbrev pub epoch_of_locks : List ℕ → AccessEpoch
+epoch_of_locks [] = Idle
+epoch_of_locks (target ∷ targets) = LocksAt (target ∷ targets)
 
 abbrev pub after_unlock : AccessEpoch → Option ℤ → AccessEpoch
 after_unlock access None = Idle
-after_unlock access (Some target) = locks_at (filter (λ one. not (one == natural target)) (targets_locked access))
+after_unlock access (Some target) = epoch_of_locks (filter (λ one. not (one == natural target)) (targets_locked access))
 
 abbrev pub access_after : AccessEpoch → Synchronisation → AccessEpoch
 access_after access (Fences asserts) = if asserts.nosucceed then Idle else FenceUnused

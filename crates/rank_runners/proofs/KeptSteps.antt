@@ -17,8 +17,9 @@ use Rattle.kept_rows.specs.KeptRowLaws.{kept_rows, DecisionsNeedNoValues, PartsN
 use Rattle.lawful_runs.specs.Stages.{Stage, shapes_in}
 use Rattle.rank_rules.specs.Courses.{Course, OneNull, OneIssue, LookUpAndIssue, OneFlush, OneRequest, ArriveAndLeave}
 use Rattle.rank_rules.specs.Courses.{EntryOrTested, OneEntry, course_of}
-use Rattle.step_runs.specs.Agents.{Agent, kept, finished, opened, next_call}
-use Rattle.step_runs.specs.BoardSteps.{AtBoard, next_row, waiting, entered, turned_away, enter_by, enter, test_by, test}
+use Rattle.step_runs.specs.Agents.{Agent, keep_item, end_call, enter_call, next_call}
+use Rattle.step_runs.specs.BoardSteps.{AtBoard, next_row, stay_waiting, put_entry, turn_away, enter_by, enter, test_by}
+use Rattle.step_runs.specs.BoardSteps.{test}
 use Rattle.step_runs.specs.BoardSteps.{leave, leave_if_entered, first_entry, entry_of, board_step}
 
 -- what the board needs of its entries
@@ -50,14 +51,14 @@ same_length : (xs ys : List Row) → kept_rows xs ≡ kept_rows ys → length xs
 same_length xs ys e = sym (length-map xs kept_row) ∙ ap length e ∙ length-map ys kept_row
 
 alike_waiting : (agent : Agent) (xs ys : List Row) → kept_rows xs ≡ kept_rows ys
-    → Alike xs (waiting agent xs) (waiting agent ys)
+    → Alike xs (stay_waiting agent xs) (stay_waiting agent ys)
 alike_waiting agent xs ys e = record { agent = refl; waits = refl; kept = e; more = []; grown = sym (append-nil xs) }
 
 alike_away : Laws → (stage : Stage) (agent : Agent) (xs ys : List Row) (item : ℕ → Item) → kept_rows xs ≡ kept_rows ys
-    → Alike xs (turned_away stage agent xs (item (length xs))) (turned_away stage agent ys (item (length ys)))
+    → Alike xs (turn_away stage agent xs (item (length xs))) (turn_away stage agent ys (item (length ys)))
 alike_away l stage agent xs ys item e = record {
-  agent = ap (λ shapes. finished (kept shapes stage agent (item (length xs)))) (same_shapes l stage xs ys e)
-      ∙ ap (λ n. finished (kept (shapes_in stage ys) stage agent (item n))) (same_length xs ys e);
+  agent = ap (λ shapes. end_call (keep_item shapes stage agent (item (length xs)))) (same_shapes l stage xs ys e)
+      ∙ ap (λ n. end_call (keep_item (shapes_in stage ys) stage agent (item n))) (same_length xs ys e);
   waits = refl;
   kept = e;
   more = [];
@@ -72,15 +73,15 @@ one_more xs ys row e =
 
 alike_entered : Laws → (stage : Stage) (agent : Agent) (xs ys : List Row) (call : Call) (step : Step) (after : Agent
     → Agent)
-    → kept_rows xs ≡ kept_rows ys → Alike xs (entered stage agent xs call step after)
-    (entered stage agent ys call step after)
+    → kept_rows xs ≡ kept_rows ys → Alike xs (put_entry stage agent xs call step after)
+    (put_entry stage agent ys call step after)
 alike_entered l stage agent xs ys call step after e =
     let row = next_row agent call step in
     let now : kept_rows (xs ++ row ∷ []) ≡ kept_rows (ys ++ row ∷ []) = one_more xs ys row e in
     record {
-      agent = ap (λ shapes. after (kept shapes stage agent (Entry agent.at (length xs) step)))
+      agent = ap (λ shapes. after (keep_item shapes stage agent (Entry agent.at (length xs) step)))
           (same_shapes l stage (xs ++ row ∷ []) (ys ++ row ∷ []) now)
-          ∙ ap (λ n. after (kept (shapes_in stage (ys ++ row ∷ [])) stage agent (Entry agent.at n step)))
+          ∙ ap (λ n. after (keep_item (shapes_in stage (ys ++ row ∷ [])) stage agent (Entry agent.at n step)))
           (same_length xs ys e);
       waits = refl;
       kept = now;
@@ -112,7 +113,7 @@ alike_test l stage agent xs ys call e =
   where
     by : (d : Decision) → Alike xs (test_by d stage agent xs call) (test_by d stage agent ys call)
     by (Refuse class) = alike_away l stage agent xs ys (λ n. Refused agent.at class n) e
-    by Allow = alike_entered l stage agent xs ys call One finished e
+    by Allow = alike_entered l stage agent xs ys call One end_call e
     by NotYet = alike_away l stage agent xs ys (λ n. Tested agent.at n) e
 
 widened : (rows : List Row) (a b c d : AtBoard) → Alike rows a b → Alike a.rows c d → Alike rows c d
@@ -133,7 +134,7 @@ alike_then l stage rows call a b h =
     by : (flag : Bool) → Alike rows (cond flag (leave stage a.agent a.rows call) a)
         (cond flag (leave stage a.agent b.rows call) b)
     by true = widened rows a b (leave stage a.agent a.rows call) (leave stage a.agent b.rows call) h
-        (alike_enter l stage a.agent a.rows b.rows call Leave finished h.kept)
+        (alike_enter l stage a.agent a.rows b.rows call Leave end_call h.kept)
     by false = h
 
 alike_first : Laws → (stage : Stage) (agent : Agent) (xs ys : List Row) (call : Call) (course : Course)
@@ -141,14 +142,15 @@ alike_first : Laws → (stage : Stage) (agent : Agent) (xs ys : List Row) (call 
     (first_entry course stage agent ys call)
 alike_first l stage agent xs ys call OneNull e = alike_waiting agent xs ys e
 alike_first l stage agent xs ys call OneIssue e = alike_waiting agent xs ys e
-alike_first l stage agent xs ys call LookUpAndIssue e = alike_enter l stage agent xs ys call One opened e
+alike_first l stage agent xs ys call LookUpAndIssue e = alike_enter l stage agent xs ys call One enter_call e
 alike_first l stage agent xs ys call OneFlush e = alike_waiting agent xs ys e
 alike_first l stage agent xs ys call OneRequest e = alike_waiting agent xs ys e
 alike_first l stage agent xs ys call ArriveAndLeave e =
-    alike_then l stage xs call (enter stage agent xs call Arrive opened) (enter stage agent ys call Arrive opened)
-    (alike_enter l stage agent xs ys call Arrive opened e)
+    alike_then l stage xs call (enter stage agent xs call Arrive enter_call)
+    (enter stage agent ys call Arrive enter_call)
+    (alike_enter l stage agent xs ys call Arrive enter_call e)
 alike_first l stage agent xs ys call EntryOrTested e = alike_test l stage agent xs ys call e
-alike_first l stage agent xs ys call OneEntry e = alike_enter l stage agent xs ys call One finished e
+alike_first l stage agent xs ys call OneEntry e = alike_enter l stage agent xs ys call One end_call e
 
 alike_entry : Laws → (stage : Stage) (agent : Agent) (xs ys : List Row) (call : Call)
     → kept_rows xs ≡ kept_rows ys → Alike xs (entry_of stage agent xs call) (entry_of stage agent ys call)
@@ -157,14 +159,14 @@ alike_entry l stage agent xs ys call e = by agent.entered
     by : (flag : Bool) → Alike xs (cond flag (leave stage agent xs call)
         (first_entry (course_of agent.known.windows call) stage agent xs call))
         (cond flag (leave stage agent ys call) (first_entry (course_of agent.known.windows call) stage agent ys call))
-    by true = alike_enter l stage agent xs ys call Leave finished e
+    by true = alike_enter l stage agent xs ys call Leave end_call e
     by false = alike_first l stage agent xs ys call (course_of agent.known.windows call) e
 
 pub alike_step : Laws → (stage : Stage) (agent : Agent) (xs ys : List Row) → kept_rows xs ≡ kept_rows ys
     → Alike xs (board_step stage agent xs) (board_step stage agent ys)
 alike_step l stage agent xs ys e = by (next_call stage agent)
   where
-    by : (o : Option Call) → Alike xs (option_map_or (entry_of stage agent xs) o (waiting agent xs))
-        (option_map_or (entry_of stage agent ys) o (waiting agent ys))
+    by : (o : Option Call) → Alike xs (option_map_or (entry_of stage agent xs) o (stay_waiting agent xs))
+        (option_map_or (entry_of stage agent ys) o (stay_waiting agent ys))
     by None = alike_waiting agent xs ys e
     by (Some call) = alike_entry l stage agent xs ys call e

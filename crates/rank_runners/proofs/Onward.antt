@@ -21,7 +21,7 @@ use Rattle.call_rules.specs.declared.elements.Change.{Change}
 use Rattle.call_rules.specs.declared.elements.Piece.{Piece}
 use Rattle.call_rules.specs.Actions.{Transfer, transfer_of}
 use Rattle.call_rules.specs.Pieces.{pieces}
-use Rattle.call_rules.specs.Touches.{cell_at, cells_after, touch_each, updated}
+use Rattle.call_rules.specs.Touches.{cell_at, cells_after, touch_each, update_cell}
 use Rattle.call_rules.specs.Transfers.{change_of}
 use Rattle.lawful_runs.specs.Accesses.{transfer_at}
 use Rattle.lawful_runs.specs.Logs.{row_by}
@@ -30,8 +30,9 @@ use Rattle.rank_rules.specs.Courses.{Course, OneNull, OneIssue, LookUpAndIssue, 
 use Rattle.rank_rules.specs.Courses.{EntryOrTested, OneEntry, course_of, access_of}
 use Rattle.rank_rules.specs.Knowledge.{own_class}
 use Rattle.rank_rules.specs.declared.pending.PendingAccess.{PendingAccess}
-use Rattle.step_runs.specs.Agents.{Agent, kept, finished, opened, next_call, has_pending, must_draw, awaited_by}
-use Rattle.step_runs.specs.BoardSteps.{AtBoard, next_row, waiting, enter_by, enter, test_by, test, leave}
+use Rattle.step_runs.specs.Agents.{Agent, keep_item, end_call, enter_call, next_call, has_pending, must_draw}
+use Rattle.step_runs.specs.Agents.{awaited_by}
+use Rattle.step_runs.specs.BoardSteps.{AtBoard, next_row, stay_waiting, enter_by, enter, test_by, test, leave}
 use Rattle.step_runs.specs.BoardSteps.{leave_if_entered, first_entry, entry_of, board_step}
 use Rattle.step_runs.specs.DataSteps.{Move, with_item, issue_of, issue, draw, first_item, wait_or_go_on, judge, begin}
 use Rattle.step_runs.specs.DataSteps.{go_on, end, move_of, deliver, with_delivery, with_touches, data_step, no_shapes}
@@ -48,7 +49,7 @@ on_still : (agent : Agent) → IsOn agent agent
 on_still agent = record { pending = refl; rank = refl; at = omega arith }
 
 on_finished : (agent next : Agent) → next.pending ≡ agent.pending → next.rank ≡ agent.rank → next.at ≡ agent.at
-    → IsOn agent (finished next)
+    → IsOn agent (end_call next)
 on_finished agent next p r a = record { pending = p; rank = r; at = omega arith }
 
 on_enter : (stage : Stage) (agent : Agent) (rows : List Row) (call : Call) (step : Step) (after : Agent → Agent)
@@ -63,7 +64,7 @@ on_enter stage agent rows call step after goes = by (decide stage.script.ranks r
     by NotYet = on_still agent
 
 on_opened : (agent next : Agent) → next.pending ≡ agent.pending → next.rank ≡ agent.rank → next.at ≡ agent.at
-    → IsOn agent (opened next)
+    → IsOn agent (enter_call next)
 on_opened agent next p r a = record { pending = p; rank = r; at = omega arith }
 
 on_test : (stage : Stage) (agent : Agent) (rows : List Row) (call : Call)
@@ -78,7 +79,7 @@ on_test stage agent rows call = by (decide stage.script.ranks rows (next_row age
 on_then : (stage : Stage) (agent : Agent) (call : Call) (a : AtBoard) → IsOn agent a.agent
     → IsOn agent (leave_if_entered stage call a).agent
 on_then stage agent call a h = by a.agent.entered
-    (on_enter stage a.agent a.rows call Leave finished (on_finished a.agent))
+    (on_enter stage a.agent a.rows call Leave end_call (on_finished a.agent))
   where
     by : (flag : Bool) → IsOn a.agent (leave stage a.agent a.rows call).agent
         → IsOn agent (cond flag (leave stage a.agent a.rows call) a).agent
@@ -94,14 +95,14 @@ on_first : (stage : Stage) (agent : Agent) (rows : List Row) (call : Call) (cour
     → IsOn agent (first_entry course stage agent rows call).agent
 on_first stage agent rows call OneNull = on_still agent
 on_first stage agent rows call OneIssue = on_still agent
-on_first stage agent rows call LookUpAndIssue = on_enter stage agent rows call One opened (on_opened agent)
+on_first stage agent rows call LookUpAndIssue = on_enter stage agent rows call One enter_call (on_opened agent)
 on_first stage agent rows call OneFlush = on_still agent
 on_first stage agent rows call OneRequest = on_still agent
 on_first stage agent rows call ArriveAndLeave =
-    on_then stage agent call (enter stage agent rows call Arrive opened)
-    (on_enter stage agent rows call Arrive opened (on_opened agent))
+    on_then stage agent call (enter stage agent rows call Arrive enter_call)
+    (on_enter stage agent rows call Arrive enter_call (on_opened agent))
 on_first stage agent rows call EntryOrTested = on_test stage agent rows call
-on_first stage agent rows call OneEntry = on_enter stage agent rows call One finished (on_finished agent)
+on_first stage agent rows call OneEntry = on_enter stage agent rows call One end_call (on_finished agent)
 
 pub board_goes_on : (stage : Stage) (agent : Agent) (rows : List Row) → IsOn agent (board_step stage agent rows).agent
 board_goes_on stage agent rows = by (next_call stage agent)
@@ -109,10 +110,10 @@ board_goes_on stage agent rows = by (next_call stage agent)
     entry : (call : Call) (flag : Bool) → IsOn agent
         (cond flag (leave stage agent rows call)
         (first_entry (course_of agent.known.windows call) stage agent rows call)).agent
-    entry call true = on_enter stage agent rows call Leave finished (on_finished agent)
+    entry call true = on_enter stage agent rows call Leave end_call (on_finished agent)
     entry call false = on_first stage agent rows call (course_of agent.known.windows call)
 
-    by : (o : Option Call) → IsOn agent (option_map_or (entry_of stage agent rows) o (waiting agent rows)).agent
+    by : (o : Option Call) → IsOn agent (option_map_or (entry_of stage agent rows) o (stay_waiting agent rows)).agent
     by None = on_still agent
     by (Some call) = entry call agent.entered
 
@@ -236,7 +237,7 @@ none_ended stage agent = by (has_pending agent) agent.ended
   where
     by : (left over : Bool) → (let move : Move = cond left (record { agent = agent; delivers = Some 0 })
         (cond over (record { agent = agent; delivers = None })
-        (record { agent = record (kept no_shapes stage agent Ended) { ended = true }; delivers = None })) in
+        (record { agent = record (keep_item no_shapes stage agent Ended) { ended = true }; delivers = None })) in
         PutsNone stage.script agent move.agent)
     by true over = none_still stage.script agent
     by false true = none_still stage.script agent
@@ -274,7 +275,7 @@ touches_keep_cells t issue element (piece ∷ places) cells =
   where
     changes_keep : (o : Option Change) → length (cells_after cells piece.cell o) ≡ length cells
     changes_keep None = refl
-    changes_keep (Some change) = length-set cells piece.cell (updated (cell_at cells piece.cell) change)
+    changes_keep (Some change) = length-set cells piece.cell (update_cell (cell_at cells piece.cell) change)
 
 pub delivery_keeps_cells : (stage : Stage) (agent : Agent) (cells : List Cell) (at : ℕ)
     → length (deliver stage agent cells at).cells ≡ length cells

@@ -16,7 +16,7 @@ use Rattle.rank_runners.specs.RankSets.{has}
 use Rattle.rank_runners.specs.declared.rank_sets.RankSet.{RankSet}
 use Rattle.rank_runners.specs.declared.schedules.Turns.{Turns}
 use Rattle.rank_runners.proofs.Numbers.{drop_numbers, take_numbers, reversed_more}
-use Rattle.step_runs.specs.Generator.{drawn_from, stirred}
+use Rattle.step_runs.specs.Generator.{drawn_from, next_state}
 use Rattle.step_runs.specs.Schedules.{Schedule, in_order, turn_of, with_draw, pick_among, pick}
 
 -- ascending and round, after the last one
@@ -241,14 +241,14 @@ is_sought Seeded h = h refl
 
 pub drawn_some : (kept : Turns) (ready : RankSet) (ranks rank draws at : ℕ)
     → 0 < length (filter (has ready) (numbers_from 0 ranks))
-    → draws ≡ stirred kept.draws → at ≡ drawn_from draws % length (filter (has ready) (numbers_from 0 ranks))
+    → draws ≡ next_state kept.draws → at ≡ drawn_from draws % length (filter (has ready) (numbers_from 0 ranks))
     → Some rank ≡ slice_get (filter (has ready) (numbers_from 0 ranks)) at
     → (schedule : Schedule) → IsKept kept schedule
     → IsPicked ready ranks schedule (pick Seeded (has ready) ranks schedule) (Some rank)
     (record { waiting = kept.waiting; last = rank; draws = draws })
 drawn_some kept ready ranks rank draws at some d a e schedule k =
     let all = filter (has ready) (numbers_from 0 ranks) in
-    let now : draws ≡ (with_draw schedule).draws = d ∙ ap stirred k.draws in
+    let now : draws ≡ (with_draw schedule).draws = d ∙ ap next_state k.draws in
     let place : at ≡ drawn_from (with_draw schedule).draws % length all = a ∙ ap (λ n. drawn_from n % length all) now in
     let got : slice_get all (drawn_from (with_draw schedule).draws % length all)
     ≡ Some rank = ap (slice_get all) (sym place) ∙ sym e in

@@ -1,6 +1,6 @@
 //! The generator of draws.
 ghost use Rattle.std.specs.Prelude.{◌≡◌, ◌<◌, ◌^◌};
-ghost use Rattle.step_runs.specs.Generator.{stirred as stirred_state, drawn_from as drawn};
+ghost use Rattle.step_runs.specs.Generator.{next_state as stirred_state, drawn_from as drawn};
 
 /// The state after a draw.
 pub(crate) fn stirred(state: u64) -> u64

@@ -20,7 +20,7 @@ use Rattle.board_rules.specs.Entries.{Row, acts_after, window_of}
 use Rattle.call_rules.specs.Pieces.{numbers_from}
 use Rattle.lawful_runs.specs.Accesses.{EachPair}
 use Rattle.lawful_runs.specs.BoardLaw.{IsBefore, moments_in}
-use Rattle.lawful_runs.specs.CallItems.{untouched}
+use Rattle.lawful_runs.specs.CallItems.{other_items}
 use Rattle.lawful_runs.specs.Items.{is_touch}
 use Rattle.lawful_runs.specs.LawfulRun.{IsLawful}
 use Rattle.lawful_runs.specs.Logs.{Named, named_from, named_in, named_logs, named_items, log_of, calls_of}
@@ -102,13 +102,13 @@ touch_has_none script rank Ended h = refl
 
 -- they are the same without touches
 pub rows_untouched : (script : Script) (rank : ℕ) (log : List Item) →
-    rows_in script rank log ≡ rows_in script rank (untouched log)
+    rows_in script rank log ≡ rows_in script rank (other_items log)
 rows_untouched script rank [] = refl
 rows_untouched script rank (x ∷ log) = by_test (is_touch x) refl (rows_untouched script rank log)
   where
-    by_test : (b : Bool) → is_touch x ≡ b → rows_in script rank log ≡ rows_in script rank (untouched log) →
+    by_test : (b : Bool) → is_touch x ≡ b → rows_in script rank log ≡ rows_in script rank (other_items log) →
         row_by script rank x ++ rows_in script rank log ≡ rows_in script rank
-        (cond (not b) (x ∷ untouched log) (untouched log))
+        (cond (not b) (x ∷ other_items log) (other_items log))
     by_test true is rest = ap (λ l. l ++ rows_in script rank log) (touch_has_none script rank x is) ∙ rest
     by_test false is rest = ap (λ l. row_by script rank x ++ l) rest
 

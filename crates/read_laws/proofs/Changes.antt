@@ -5,7 +5,7 @@ use Rattle.rma_types.specs.declared.dtypes.Dtype.{Dtype}
 use Rattle.rma_types.specs.declared.dtypes.Dtype.TheVariants.{Int8, Int16, Int32, Uint8, Uint16, Uint32, Byte}
 use Rattle.rma_types.specs.Datatypes.{size_of}
 use Rattle.call_rules.specs.declared.elements.Change.{Change}
-use Rattle.call_rules.specs.Elements.{element_in, with_element, combined, cut, meets, next}
+use Rattle.call_rules.specs.Elements.{element_in, with_element, combine, cut, meets, next}
 use Rattle.call_rules.specs.Numbers.{patterns_of}
 use Rattle.read_laws.proofs.Bytes.{byte_of, DoAgree, element_agrees, outside_stays, inside_agrees}
 
@@ -24,7 +24,7 @@ IsInCell change = change.first_byte + size_of change.dtype ≤ 4
 
 -- the pattern that a change writes over the old one
 abbrev written : Change → ℕ → ℕ
-written change old = cut change.dtype (combined change.op change.dtype old (cut change.dtype change.operand))
+written change old = cut change.dtype (combine change.op change.dtype old (cut change.dtype change.operand))
 
 abbrev next_from : Change → ℕ → ℕ → ℕ
 next_from change bits old =

@@ -22,7 +22,7 @@ use Rattle.call_rules.specs.Actions.{action_of}
 use Rattle.call_rules.specs.Layout.{layout}
 use Rattle.call_rules.specs.WellFormed.{IsWellFormed}
 use Rattle.lawful_runs.specs.BoardLaw.{AreAllowed}
-use Rattle.lawful_runs.specs.CallItems.{untouched, AreItemsBy, AreFinished, StandsAt, EndsOrStands, HasItemsOfCalls}
+use Rattle.lawful_runs.specs.CallItems.{other_items, AreItemsBy, AreFinished, StandsAt, EndsOrStands, HasItemsOfCalls}
 use Rattle.lawful_runs.specs.Items.{is_touch, number_in}
 use Rattle.lawful_runs.specs.LawfulRun.{IsLawful, rank_in}
 use Rattle.lawful_runs.specs.Logs.{Named, log_of, calls_of, entries_of, row_by, row_of, rows_of}
@@ -167,8 +167,8 @@ module _ (script : Script) (delay : Delay) (run : Run) (formed : IsWellFormed sc
       no_touch : (x : Item) → is_touch x ≡ true → EntryHasRoom script rank x
       no_touch x touch number place step e = absurd (cc (touch, ap is_touch e))
 
-      by_calls : HasItemsOfCalls (here_at rank) (untouched (log_of run rank)) →
-          AllByRecursion (EntryHasRoom script rank) (untouched (log_of run rank))
+      by_calls : HasItemsOfCalls (here_at rank) (other_items (log_of run rank)) →
+          AllByRecursion (EntryHasRoom script rank) (other_items (log_of run rank))
       by_calls (number, before, rest, is, finished, end) =
           subst (AllByRecursion (EntryHasRoom script rank)) (sym is)
           (each_append (EntryHasRoom script rank) before rest (finished_room rank number before within finished)
@@ -218,51 +218,51 @@ module _ (script : Script) (delay : Delay) (run : Run) (formed : IsWellFormed sc
   -- ---- the entries of a rank without its touches
 
   pub split_untouched : (log xs ys : List Item) (item : Item) → is_touch item ≡ false →
-      untouched log ≡ xs ++ item ∷ ys →
-      (front back : List Item) × (log ≡ front ++ item ∷ back) × (untouched front ≡ xs)
+      other_items log ≡ xs ++ item ∷ ys →
+      (front back : List Item) × (log ≡ front ++ item ∷ back) × (other_items front ≡ xs)
   split_untouched [] [] ys item plain e = absurd (cc e)
   split_untouched [] (x ∷ xs) ys item plain e = absurd (cc e)
   split_untouched (z ∷ log) xs ys item plain e =
       by_test (is_touch z) refl (λ xs' e'. split_untouched log xs' ys item plain e') e
     where
-      grown : (front back : List Item) → is_touch z ≡ true → log ≡ front ++ item ∷ back → untouched front ≡ xs →
-          (front' back' : List Item) × (z ∷ log ≡ front' ++ item ∷ back') × (untouched front' ≡ xs)
+      grown : (front back : List Item) → is_touch z ≡ true → log ≡ front ++ item ∷ back → other_items front ≡ xs →
+          (front' back' : List Item) × (z ∷ log ≡ front' ++ item ∷ back') × (other_items front' ≡ xs)
       grown front back touch is same = (
         z ∷ front,
         back,
         ap (λ l. z ∷ l) is,
-        ap (λ b. cond (not b) (z ∷ untouched front) (untouched front)) touch
+        ap (λ b. cond (not b) (z ∷ other_items front) (other_items front)) touch
             ∙ same,
       )
 
       kept : is_touch z ≡ false → (xs' : List Item) → xs ≡ z ∷ xs' →
-          ((front back : List Item) × (log ≡ front ++ item ∷ back) × (untouched front ≡ xs')) →
-          (front' back' : List Item) × (z ∷ log ≡ front' ++ item ∷ back') × (untouched front' ≡ xs)
+          ((front back : List Item) × (log ≡ front ++ item ∷ back) × (other_items front ≡ xs')) →
+          (front' back' : List Item) × (z ∷ log ≡ front' ++ item ∷ back') × (other_items front' ≡ xs)
       kept other xs' is (front, back, split, same) = (
         z ∷ front,
         back,
         ap (λ l. z ∷ l) split,
-        ap (λ b. cond (not b) (z ∷ untouched front) (untouched front)) other ∙ ap (λ l. z ∷ l) same ∙ sym is,
+        ap (λ b. cond (not b) (z ∷ other_items front) (other_items front)) other ∙ ap (λ l. z ∷ l) same ∙ sym is,
       )
 
-      by_list : (l : List Item) → xs ≡ l → is_touch z ≡ false → z ∷ untouched log ≡ l ++ item ∷ ys →
-          ((xs' : List Item) → untouched log ≡ xs' ++ item ∷ ys →
-          (front back : List Item) × (log ≡ front ++ item ∷ back) × (untouched front ≡ xs')) →
-          (front' back' : List Item) × (z ∷ log ≡ front' ++ item ∷ back') × (untouched front' ≡ xs)
+      by_list : (l : List Item) → xs ≡ l → is_touch z ≡ false → z ∷ other_items log ≡ l ++ item ∷ ys →
+          ((xs' : List Item) → other_items log ≡ xs' ++ item ∷ ys →
+          (front back : List Item) × (log ≡ front ++ item ∷ back) × (other_items front ≡ xs')) →
+          (front' back' : List Item) × (z ∷ log ≡ front' ++ item ∷ back') × (other_items front' ≡ xs)
       by_list [] is other e later = let same : z ≡ item = cc e in ([], log, ap (λ i. i ∷ log) same, sym is)
       by_list (x ∷ xs') is other e later =
           let same : z ≡ x = cc e in kept other xs' (is ∙ ap (λ i. i ∷ xs') (sym same)) (later xs' (cc e))
 
       by_test : (b : Bool) → is_touch z ≡ b →
-          ((xs' : List Item) → untouched log ≡ xs' ++ item ∷ ys →
-          (front back : List Item) × (log ≡ front ++ item ∷ back) × (untouched front ≡ xs')) →
-          cond (not b) (z ∷ untouched log) (untouched log) ≡ xs ++ item ∷ ys →
-          (front' back' : List Item) × (z ∷ log ≡ front' ++ item ∷ back') × (untouched front' ≡ xs)
+          ((xs' : List Item) → other_items log ≡ xs' ++ item ∷ ys →
+          (front back : List Item) × (log ≡ front ++ item ∷ back) × (other_items front ≡ xs')) →
+          cond (not b) (z ∷ other_items log) (other_items log) ≡ xs ++ item ∷ ys →
+          (front' back' : List Item) × (z ∷ log ≡ front' ++ item ∷ back') × (other_items front' ≡ xs)
       by_test true touch later e = let one = later xs e in grown one.0 one.1 touch one.2 one.3
       by_test false other later e = by_list xs refl other e later
 
   pub all_entered : (rank : ℕ) (within : rank < script.ranks) →
-      AreEntered script delay run formed lawful regular rank within (untouched (log_of run rank))
+      AreEntered script delay run formed lawful regular rank within (other_items (log_of run rank))
   all_entered rank within xs ys number place step call e of =
       let split = split_untouched (log_of run rank) xs ys (Entry number place step) refl e in
       let one = entered script delay run lawful rank number place step call split.0 split.1 within split.2 of in

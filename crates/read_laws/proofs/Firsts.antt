@@ -13,7 +13,7 @@ use Rattle.rma_types.specs.declared.classes.Class.{Class}
 use Rattle.rma_record.specs.declared.items.Item.{Item}
 use Rattle.rma_record.specs.declared.items.Item.TheVariants.{Issue, Null, Touch, Flush, Request, Entry, Tested, Refused}
 use Rattle.rma_record.specs.declared.items.Item.TheVariants.{Ended}
-use Rattle.lawful_runs.specs.CallItems.{untouched, AreItemsOfCourse, AreItemsBy, AreItemsOf, AreFinished, StandsAt}
+use Rattle.lawful_runs.specs.CallItems.{other_items, AreItemsOfCourse, AreItemsBy, AreItemsOf, AreFinished, StandsAt}
 use Rattle.lawful_runs.specs.CallItems.{EndsOrStands, HasItemsOfCalls}
 use Rattle.lawful_runs.specs.Items.{is_touch, number_in, belongs_to}
 use Rattle.lawful_runs.specs.Stages.{RankOfRun, calls_here, known_at}
@@ -215,16 +215,16 @@ any_joined {X} p (x ∷ xs) ys = by_test (p x) (any_joined p xs ys)
     by_test true rest = refl
     by_test false rest = rest
 
-log_firsts : (before front log : List Item) → HaveAlike before front → AreFirsts before (untouched log) →
+log_firsts : (before front log : List Item) → HaveAlike before front → AreFirsts before (other_items log) →
     AreFirsts front log
 log_firsts before front [] alike h = tt
 log_firsts before front (x ∷ log) alike h = by_test (is_touch x) refl h
     (λ front' alike' rest. log_firsts before front' log alike' rest)
     (λ alike' rest. log_firsts (before ++ x ∷ []) (front ++ x ∷ []) log alike' rest)
   where
-    by_test : (b : Bool) → is_touch x ≡ b → AreFirsts before (cond (not b) (x ∷ untouched log) (untouched log)) →
-        ((front' : List Item) → HaveAlike before front' → AreFirsts before (untouched log) → AreFirsts front' log) →
-        (HaveAlike (before ++ x ∷ []) (front ++ x ∷ []) → AreFirsts (before ++ x ∷ []) (untouched log) →
+    by_test : (b : Bool) → is_touch x ≡ b → AreFirsts before (cond (not b) (x ∷ other_items log) (other_items log)) →
+        ((front' : List Item) → HaveAlike before front' → AreFirsts before (other_items log) → AreFirsts front' log) →
+        (HaveAlike (before ++ x ∷ []) (front ++ x ∷ []) → AreFirsts (before ++ x ∷ []) (other_items log) →
         AreFirsts (front ++ x ∷ []) log) → AreFirsts front (x ∷ log)
     by_test true touch h skip keep = (
       λ initial. absurd (cc (initial, (touch_is_none x touch).0)),
@@ -256,8 +256,9 @@ first_at before (y ∷ log) (suc k) x number h e initial is =
 
 -- an initial item of a log is the first of its call
 pub is_first : (here : RankOfRun) (log : List Item) (k : ℕ) (x : Item) (number : ℕ) →
-    HasItemsOfCalls here (untouched log) →
+    HasItemsOfCalls here (other_items log) →
     slice_get log k ≡ Some x → is_initial x ≡ true → number_in x ≡ Some number →
     list_any (belongs_to number) (take k log) ≡ false
 is_first here log k x number calls e initial is =
-    first_at [] log k x number (log_firsts [] [] log (λ n. refl) (items_firsts here (untouched log) calls)) e initial is
+    first_at [] log k x number (log_firsts [] [] log (λ n. refl) (items_firsts here (other_items log) calls)) e
+    initial is

@@ -8,7 +8,7 @@ use Rattle.std.proofs.lemmas.List.Sums.{sum_by-cons}
 use Rattle.rma_types.specs.Datatypes.{size_of}
 use Rattle.call_rules.specs.declared.elements.Change.{Change}
 use Rattle.lawful_runs.specs.Accesses.{Touching}
-use Rattle.lawful_runs.specs.Cells.{has_place, changed, state}
+use Rattle.lawful_runs.specs.Cells.{has_place, bits_after, state}
 use Rattle.order_laws.proofs.Members.{In, here, there}
 use Rattle.read_laws.proofs.Bytes.{byte_of, DoAgree}
 use Rattle.read_laws.proofs.Changes.{IsInCell, apart_stays, change_agrees}
@@ -80,7 +80,7 @@ find_in {X} q (y ∷ ys) x e = by_test (q y) refl (λ later. find_in q ys x late
 -- ---- the two folds
 
 abbrev pub after_found : ℕ → Option Touching → ℕ
-after_found bits found = option_map_or (λ (update : Touching). changed bits update.change) found bits
+after_found bits found = option_map_or (λ (update : Touching). bits_after bits update.change) found bits
 
 -- the bytes of an element are apart from some bytes, or share one with them
 abbrev AreApart : Change → ℕ → ℕ → Type 0
@@ -130,7 +130,7 @@ module _ (updates : List Touching) (test : Touching → Bool) (are : AreUpdates 
       IsInCell change → first + count ≤ 4 → AreApart change first count →
       DoAgree first count (after_found bits (kept_if b update)) bits
   apart_test true update change bits first count is i within apart =
-      subst (λ c. DoAgree first count (changed bits c) bits) (sym is)
+      subst (λ c. DoAgree first count (bits_after bits c) bits) (sym is)
       (apart_stays change bits first count i within apart)
   apart_test false update change bits first count is i within apart = λ at low high. refl
 
@@ -166,10 +166,11 @@ module _ (updates : List Touching) (test : Touching → Bool) (are : AreUpdates 
             DoAgree first count (after_found (state updates k) (Some update))
             (after_found (left k) (kept_if (test update) update))
         by_change None none = λ at low high.
-            ap (λ c. byte_of (changed (state updates k) c) at) none ∙ agree at low high ∙ sym (stays (test update) at)
+            ap (λ c. byte_of (bits_after (state updates k) c) at) none ∙ agree at low high
+            ∙ sym (stays (test update) at)
           where
             stays : (b : Bool) (at : ℕ) → byte_of (after_found (left k) (kept_if b update)) at ≡ byte_of (left k) at
-            stays true at = ap (λ c. byte_of (changed (left k) c) at) none
+            stays true at = ap (λ c. byte_of (bits_after (left k) c) at) none
             stays false at = refl
         by_change (Some change) some = elim (share_or_apart change first count) [
           | inr apart ↦ joined first count (after_found (state updates k) (Some update)) (state updates k) (left k)
@@ -190,7 +191,8 @@ module _ (updates : List Touching) (test : Touching → Bool) (are : AreUpdates 
               (are.inside update change member.0 some) within agree element in
               subst (λ b. DoAgree first count (after_found (state updates k) (Some update))
               (after_found (left k) (kept_if b update))) (sym passes)
-              (subst (λ c. DoAgree first count (changed (state updates k) c) (changed (left k) c)) (sym some) both)
+              (subst (λ c. DoAgree first count (bits_after (state updates k) c) (bits_after (left k) c)) (sym some)
+              both)
         ]
 
     -- what is needed after so many updates agrees
@@ -219,7 +221,7 @@ module _ (updates : List Touching) (test : Touching → Bool) (are : AreUpdates 
       by_change None none = λ at low high. stays (test update) at
         where
           stays : (b : Bool) (at : ℕ) → byte_of (after_found bits (kept_if b update)) at ≡ byte_of bits at
-          stays true at = ap (λ c. byte_of (changed bits c) at) none
+          stays true at = ap (λ c. byte_of (bits_after bits c) at) none
           stays false at = refl
       by_change (Some change) some = elim (share_or_apart change first count) [
         | inr apart ↦ apart_test (test update) update change bits first count some

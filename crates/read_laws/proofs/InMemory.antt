@@ -26,7 +26,7 @@ use Rattle.call_rules.specs.Ranks.{natural}
 use Rattle.call_rules.specs.Transfers.{rank_reached, bytes_of}
 use Rattle.call_rules.specs.WellFormed.{IsWellFormed}
 use Rattle.lawful_runs.specs.BoardLaw.{AreAllowed}
-use Rattle.lawful_runs.specs.CallItems.{untouched, AreItemsOfCourse, AreFinished, StandsAt, EndsOrStands}
+use Rattle.lawful_runs.specs.CallItems.{other_items, AreItemsOfCourse, AreFinished, StandsAt, EndsOrStands}
 use Rattle.lawful_runs.specs.CallItems.{HasItemsOfCalls}
 use Rattle.lawful_runs.specs.Items.{is_touch}
 use Rattle.lawful_runs.specs.LawfulRun.{IsLawful, rank_in}
@@ -304,8 +304,8 @@ module _ (script : Script) (delay : Delay) (run : Run) (formed : IsWellFormed sc
         no_touch : (x : Item) → is_touch x ≡ true → IssueIsTold rank x
         no_touch x touch number access e = absurd (cc (touch, ap is_touch e))
 
-        by_calls : HasItemsOfCalls (rank_in script delay run rank) (untouched (log_of run rank)) →
-            AllByRecursion (IssueIsTold rank) (untouched (log_of run rank))
+        by_calls : HasItemsOfCalls (rank_in script delay run rank) (other_items (log_of run rank)) →
+            AllByRecursion (IssueIsTold rank) (other_items (log_of run rank))
         by_calls (number, before, rest, is, finished, end) =
             subst (AllByRecursion (IssueIsTold rank)) (sym is)
             (each_append (IssueIsTold rank) before rest

@@ -12,7 +12,7 @@ use Rattle.rma_types.specs.declared.classes.Class.{Class}
 use Rattle.rma_record.specs.declared.items.Item.{Item}
 use Rattle.rma_record.specs.declared.items.Item.TheVariants.{Issue, Null, Touch, Flush, Request, Entry, Tested, Refused}
 use Rattle.rma_record.specs.declared.items.Item.TheVariants.{Ended}
-use Rattle.lawful_runs.specs.CallItems.{untouched, AreItemsOfCourse, AreItemsBy, AreItemsOf, AreFinished, StandsAt}
+use Rattle.lawful_runs.specs.CallItems.{other_items, AreItemsOfCourse, AreItemsBy, AreItemsOf, AreFinished, StandsAt}
 use Rattle.lawful_runs.specs.CallItems.{EndsOrStands, HasItemsOfCalls}
 use Rattle.lawful_runs.specs.Items.{is_touch, number_in}
 use Rattle.lawful_runs.specs.Stages.{RankOfRun, calls_here, known_at}
@@ -116,20 +116,20 @@ ending_leaves here before number rest (inr stands) =
 
 -- of the items of a log without its touches, and so of all
 pub with_touches : (P : Item → Type 0) → ((x : Item) → is_touch x ≡ true → P x) → (log : List Item) →
-    AllByRecursion P (untouched log) →
+    AllByRecursion P (other_items log) →
     AllByRecursion P log
 with_touches P touch [] all = tt
 with_touches P touch (x ∷ log) all = by_test (is_touch x) refl (λ rest. with_touches P touch log rest) all
   where
-    by_test : (b : Bool) → is_touch x ≡ b → (AllByRecursion P (untouched log) → AllByRecursion P log) →
-        AllByRecursion P (cond (not b) (x ∷ untouched log) (untouched log)) → AllByRecursion P (x ∷ log)
+    by_test : (b : Bool) → is_touch x ≡ b → (AllByRecursion P (other_items log) → AllByRecursion P log) →
+        AllByRecursion P (cond (not b) (x ∷ other_items log) (other_items log)) → AllByRecursion P (x ∷ log)
     by_test true is rest all = (touch x is, rest all)
     by_test false is rest all = (all.0, rest all.1)
 
 touch_leaves : (calls : List Call) (x : Item) → is_touch x ≡ true → LeavesCollective calls x
 touch_leaves calls x touch number place is = absurd (cc (touch, ap is_touch is))
 
-pub leaves_are : (here : RankOfRun) (log : List Item) → HasItemsOfCalls here (untouched log) →
+pub leaves_are : (here : RankOfRun) (log : List Item) → HasItemsOfCalls here (other_items log) →
     AllByRecursion (LeavesCollective (calls_here here)) log
 leaves_are here log (number, before, rest, is, finished, end) =
     with_touches (LeavesCollective (calls_here here)) (touch_leaves (calls_here here)) log

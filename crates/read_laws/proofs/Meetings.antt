@@ -23,7 +23,7 @@ use Rattle.call_rules.specs.Sameness.{dtype_number, is_same_dtype}
 use Rattle.order_rules.specs.Before.{Same, InLog, IsOrder}
 use Rattle.order_rules.specs.CallSteps.{IssuedAccess, accesses_in}
 use Rattle.order_rules.specs.DonePoints.{timeline_of}
-use Rattle.order_rules.specs.Findings.{judged, judged_accesses, unless_ordered, forbidden, findings}
+use Rattle.order_rules.specs.Findings.{judged_access, judged_accesses, unless_ordered, pair_rule, findings}
 use Rattle.order_rules.specs.Ordered.{JudgedAccess, points_for, is_ordered}
 use Rattle.order_rules.specs.Roles.{Role, RmaUpdate, RmaRead, Store, Load, role_of}
 use Rattle.order_rules.specs.Rules.{Pair, rule_if, is_separate, rule_for, pair_of, are_excepted, are_alike, may_combine}
@@ -166,7 +166,7 @@ two_in (there {y = z} m) (there n) = elim (two_in m n) [
 module _ (script : Script) (run : Run) (model : Model) (before : Id → Id → Bool) (order : IsOrder script run before)
     (none : findings script run model before ≡ []) where
   abbrev judge : IssuedAccess → JudgedAccess
-  judge a = judged model before (timeline_of script run) a
+  judge a = judged_access model before (timeline_of script run) a
 
   -- one of the two is ordered before the other
   abbrev pub AreOrdered : IssuedAccess → IssuedAccess → Type 0
@@ -183,7 +183,7 @@ module _ (script : Script) (run : Run) (model : Model) (before : Id → Id → B
 
   ordered_or_forbidden : (a b : IssuedAccess) (rule : Rule) →
       forbidden_kind a.issued.access a.id.rank b.issued.access b.id.rank model ≡ Some rule →
-      AreOrdered a b ⊎ (forbidden model before (judge a) (judge b) ≡ Some rule)
+      AreOrdered a b ⊎ (pair_rule model before (judge a) (judge b) ≡ Some rule)
   ordered_or_forbidden a b rule is = elim (decided (is_ordered before (judge a) (judge b))) [
     | inl first ↦ inl (inl first)
     | inr not_first ↦ elim (decided (is_ordered before (judge b) (judge a))) [
@@ -195,7 +195,7 @@ module _ (script : Script) (run : Run) (model : Model) (before : Id → Id → B
   ]
 
   no_finding : (a b : IssuedAccess) (rule : Rule) → StandsIn a b (accesses_in script run) →
-      forbidden model before (judge a) (judge b) ≡ Some rule → ⊥
+      pair_rule model before (judge a) (judge b) ≡ Some rule → ⊥
   no_finding a b rule stands forbids =
       let split : judged_accesses script run model before ≡ map judge stands.0 ++ judge b ∷ map judge stands.1 =
       ap (map judge) stands.2 ∙ map-append judge stands.0 (b ∷ stands.1) in

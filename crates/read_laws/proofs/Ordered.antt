@@ -30,7 +30,7 @@ use Rattle.order_rules.specs.Before.{Before, Same, InLog, Across, IsOrder, event
 use Rattle.order_rules.specs.CallSteps.{CallStep, IssuedAccess, steps_in, is_step_on, is_later_at_origin}
 use Rattle.order_rules.specs.CallSteps.{is_later_on_window}
 use Rattle.order_rules.specs.DonePoints.{timeline_of, done_points, is_done_at}
-use Rattle.order_rules.specs.Findings.{judged}
+use Rattle.order_rules.specs.Findings.{judged_access}
 use Rattle.order_rules.specs.Ordered.{points_for, is_ordered}
 use Rattle.order_rules.specs.Roles.{Role, RmaUpdate, RmaRead, Store, Load, role_of, is_rma_read}
 use Rattle.order_rules.specs.VisiblePoints.{takes_in, is_taken_in_at, gives_out, is_given_out_at, separate_points}
@@ -214,7 +214,7 @@ module _ (script : Script) (delay : Delay) (run : Run) (formed : IsWellFormed sc
     point_is : (a : IssuedAccess) (role other : Role) (point : Id) → IsAccess script run a →
         (is_rma_read (role_of a.issued.access.kind) ≡ true → a.issued.fetches ≡ true) →
         role_of a.issued.access.kind ≡ role →
-        In point (points_for (judged model before (timeline_of script run) a) role other) → IsPoint a point
+        In point (points_for (judged_access model before (timeline_of script run) a) role other) → IsPoint a point
     point_is a RmaUpdate RmaUpdate point access fetches is m = inr (after_done a access fetches point m)
     point_is a RmaUpdate RmaRead point access fetches is m = inr (after_done a access fetches point m)
     point_is a RmaUpdate Store point access fetches is m = update_visible model a point access fetches is m
@@ -234,13 +234,14 @@ module _ (script : Script) (delay : Delay) (run : Run) (formed : IsWellFormed sc
     pub before_issue : (a b : IssuedAccess) (u : Touching) → IsAccess script run a → IsAccess script run b →
         a.id ≢ b.id →
         (is_rma_read (role_of a.issued.access.kind) ≡ true → a.issued.fetches ≡ true) →
-        is_ordered before (judged model before (timeline_of script run) a)
-        (judged model before (timeline_of script run) b) ≡ true →
+        is_ordered before (judged_access model before (timeline_of script run) a)
+        (judged_access model before (timeline_of script run) b) ≡ true →
         IsTouchBy script run a u → Before script run u.id b.id
     before_issue a b u access other apart fetches ordered by =
         let role = role_of a.issued.access.kind in
         let q = any_in (λ point. before point b.id)
-        (points_for (judged model before (timeline_of script run) a) role (role_of b.issued.access.kind)) ordered in
+        (points_for (judged_access model before (timeline_of script run) a) role (role_of b.issued.access.kind))
+        ordered in
         let reaches = (order q.0 b.id).0 q.2 in
         elim (point_is a role (role_of b.issued.access.kind) q.0 access fetches refl q.1) [
           | inr after ↦ transitive script run u.id q.0 b.id (after u by) reaches

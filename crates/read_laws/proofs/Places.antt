@@ -17,7 +17,7 @@ use Rattle.rma_types.specs.declared.scripts.Script.{Script}
 use Rattle.rma_types.specs.Datatypes.{size_of}
 use Rattle.call_rules.specs.declared.elements.Piece.{Piece}
 use Rattle.call_rules.specs.Actions.{Creation, creation_of}
-use Rattle.call_rules.specs.Layout.{rounded, own_bytes, call_bytes, memory_bytes, ranks_of, parts_from, layout}
+use Rattle.call_rules.specs.Layout.{round_up, own_bytes, call_bytes, memory_bytes, ranks_of, parts_from, layout}
 use Rattle.call_rules.specs.Pieces.{numbers_from, first_cell, piece_at, element_address, pieces}
 use Rattle.call_rules.specs.Ranks.{natural}
 use Rattle.order_rules.specs.Rules.{bytes_reached}
@@ -30,7 +30,7 @@ use Rattle.step_laws.specs.Inside.{LiesInMemory}
 abbrev AreCells : ℕ → Type 0
 AreCells bytes = (cells : ℕ) × (bytes ≡ 4 * cells)
 
-rounded_is_cells : (bytes : ℕ) → AreCells (rounded bytes)
+rounded_is_cells : (bytes : ℕ) → AreCells (round_up bytes)
 rounded_is_cells bytes = (2 * ((bytes + 7) / 8), omega arith)
 
 own_is_cells : (flavor : Flavor) (bytes : ℤ) → AreCells (own_bytes flavor bytes)
@@ -56,7 +56,7 @@ calls_are_cells (call ∷ calls) =
     (more_cells (call_bytes call) (sum_by call_bytes calls) (call_is_cells call) (calls_are_cells calls))
 
 memory_is_cells : (space : ℕ) (calls : List Call) → AreCells (memory_bytes space calls)
-memory_is_cells space calls = more_cells (rounded space) (sum_by call_bytes calls) (rounded_is_cells space)
+memory_is_cells space calls = more_cells (round_up space) (sum_by call_bytes calls) (rounded_is_cells space)
     (calls_are_cells calls)
 
 -- the memory at a place among parts, and where it begins

@@ -15,7 +15,7 @@ use Rattle.board_rules.specs.Posts.{is_complete}
 use Rattle.call_rules.specs.Actions.{Action, Creates, Frees, Attaches, Detaches, Synchronises, Meets, Moves}
 use Rattle.call_rules.specs.Actions.{EndsRequest, Synchronisation, Fences, Posts, Starts, Completes, Waits, Locks}
 use Rattle.call_rules.specs.Actions.{Unlocks, Flushes, Syncs, action_of, synchronisation_in, synchronisation_of}
-use Rattle.call_rules.specs.Actions.{window_in_action, window_named}
+use Rattle.call_rules.specs.Actions.{window_in_action, window_of_call}
 use Rattle.call_rules.specs.WellFormed.{IsWellFormed}
 use Rattle.lawful_runs.specs.Accesses.{Touching}
 use Rattle.lawful_runs.specs.LawfulRun.{IsLawful, rank_in}
@@ -78,7 +78,7 @@ module _ (script : Script) (delay : Delay) (run : Run) (formed : IsWellFormed sc
   -- the step is on the window of the access by its name
   on_window : (a : IssuedAccess) (y : CallStep) (win : ℕ) → IsStep script run y →
       is_step_on a.issued.access.window y ≡ true →
-      window_named y.call ≡ Some win → is_on win a.issued ≡ true
+      window_of_call y.call ≡ Some win → is_on win a.issued ≡ true
   on_window a y win step on named =
       let numbered : is_numbered y.known a.issued.access.window win ≡ true =
       sym (ap (λ o. option_map_or (is_numbered y.known a.issued.access.window) o false) named) ∙ on in
@@ -97,7 +97,7 @@ module _ (script : Script) (delay : Delay) (run : Run) (formed : IsWellFormed sc
       must_wait y.known.requests y.call a.issued ≡ true
   waits_by a y s step on e completes =
       let is = synchronises (action_of y.call) s e in
-      let named : window_named y.call ≡ Some is.0 = ap window_in_action is.1 in
+      let named : window_of_call y.call ≡ Some is.0 = ap window_in_action is.1 in
       ap (λ x. waits_for y.known.requests x a.issued) is.1
       ∙ and_from (is_on is.0 a.issued) (completes_access s a.issued) (on_window a y is.0 step on named) completes
 

@@ -15,7 +15,7 @@ use Rattle.rma_record.specs.declared.items.Item.TheVariants.{Ended}
 use Rattle.call_rules.specs.declared.elements.Piece.{Piece}
 use Rattle.call_rules.specs.Pieces.{numbers_from}
 use Rattle.lawful_runs.specs.Accesses.{issued_by}
-use Rattle.lawful_runs.specs.CallItems.{untouched, HasItemsOfCalls}
+use Rattle.lawful_runs.specs.CallItems.{other_items, HasItemsOfCalls}
 use Rattle.lawful_runs.specs.Items.{is_ended, is_own_refusal, number_in, belongs_to}
 use Rattle.lawful_runs.specs.LawfulRun.{IsLawfulLog}
 use Rattle.lawful_runs.specs.Stages.{RankOfRun, calls_here, known_at}
@@ -84,7 +84,7 @@ pub record WaitsFor (here : RankOfRun) (log : List Item) (k : ℕ) (one : Pendin
   pub waits : must_wait (known_at here (take k log)).requests call one ≡ true
 
 waits_there : (here : RankOfRun) (log : List Item) (k : ℕ) (one : PendingAccess) →
-    HasItemsOfCalls here (untouched log) →
+    HasItemsOfCalls here (other_items log) →
     WaitsFor here log k one → waits_at here log k one ≡ true
 waits_there here log k one calls w =
     ap (λ o. option_map_or (is_awaiting here (take k log) one) o false) w.logged

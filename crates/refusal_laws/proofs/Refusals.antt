@@ -19,7 +19,7 @@ use Rattle.rma_record.specs.declared.runs.Run.{Run}
 use Rattle.rank_rules.specs.Knowledge.{own_class, learn}
 use Rattle.board_rules.specs.Board.{shared_class}
 use Rattle.lawful_runs.specs.BoardLaw.{IsLook, first_row}
-use Rattle.lawful_runs.specs.CallItems.{AreItemsBy, AreFinished, StandsAt, EndsOrStands, HasItemsOfCalls, untouched}
+use Rattle.lawful_runs.specs.CallItems.{AreItemsBy, AreFinished, StandsAt, EndsOrStands, HasItemsOfCalls, other_items}
 use Rattle.lawful_runs.specs.Items.{is_touch, belongs_to}
 use Rattle.lawful_runs.specs.LawfulRun.{IsLawful, rank_in}
 use Rattle.lawful_runs.specs.Logs.{log_of}
@@ -183,7 +183,7 @@ quiet here before n rest (inr stands) = quiet_standing here before n (slice_get 
 -- ---- the whole log
 
 -- touches belong to no call
-without_touches : (m : ℕ) (log : List Item) → filter (belongs_to m) (untouched log) ≡ filter (belongs_to m) log
+without_touches : (m : ℕ) (log : List Item) → filter (belongs_to m) (other_items log) ≡ filter (belongs_to m) log
 without_touches m [] = refl
 without_touches m (Touch of element cell place bits ∷ log) = without_touches m log
 without_touches m (Issue number access ∷ log) = ap (λ xs. cond (number == m) (Issue number access ∷ xs) xs)
@@ -235,7 +235,7 @@ named_by here log before number call class (suc earlier) looks m got (inr board)
       (of_all (IsLook here.stage.script.ranks here.rows here.rank (calls_here here)) log looks m),
 )
 
-with_all : (here : RankOfRun) (log : List Item) (has : HasItemsOfCalls here (untouched log)) →
+with_all : (here : RankOfRun) (log : List Item) (has : HasItemsOfCalls here (other_items log)) →
     AllByRecursion (IsLook here.stage.script.ranks here.rows here.rank (calls_here here)) log →
     (number : ℕ) (class : Class) (seen : ℕ) → In (Refused number class seen) log →
     IsAmong here has.0 has.1 number class seen → ChangesNothing here log number class seen
@@ -259,7 +259,7 @@ with_all here log has looks number class seen m among =
       unchanged = unchanged here among.before number class seen;
     }
 
-of_log : (here : RankOfRun) (log : List Item) → HasItemsOfCalls here (untouched log) →
+of_log : (here : RankOfRun) (log : List Item) → HasItemsOfCalls here (other_items log) →
     AllByRecursion (IsLook here.stage.script.ranks here.rows here.rank (calls_here here)) log →
     RefusalsChangeNothing here log
 of_log here log has looks number class seen among =

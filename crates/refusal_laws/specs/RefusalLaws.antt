@@ -11,7 +11,7 @@ use Rattle.rma_record.specs.declared.runs.Run.{Run}
 use Rattle.rank_rules.specs.Knowledge.{own_class}
 use Rattle.board_rules.specs.Board.{shared_class}
 use Rattle.lawful_runs.specs.BoardLaw.{first_row}
-use Rattle.lawful_runs.specs.CallItems.{AreFinished, untouched}
+use Rattle.lawful_runs.specs.CallItems.{AreFinished, other_items}
 use Rattle.lawful_runs.specs.Items.{belongs_to}
 use Rattle.lawful_runs.specs.LawfulRun.{IsLawful, rank_in}
 use Rattle.lawful_runs.specs.Logs.{log_of}
@@ -33,7 +33,7 @@ pub record ChangesNothing (here : RankOfRun) (log : List Item) (number : ℕ) (c
   pub is_call : slice_get (calls_here here) number ≡ Some call
   pub before : List Item
   pub after : List Item
-  pub stands : untouched log ≡ before ++ Refused number class seen ∷ after
+  pub stands : other_items log ≡ before ++ Refused number class seen ∷ after
   pub calls_before : AreFinished here number before
   pub named : IsNamedClass here before number call class seen
   pub alone : filter (belongs_to number) log ≡ Refused number class seen ∷ []

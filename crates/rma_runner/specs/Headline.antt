@@ -13,7 +13,7 @@ use Rattle.rma_record.specs.declared.runs.Run.{Run}
 use Rattle.call_rules.specs.Layout.{layout, cells_of}
 use Rattle.lawful_runs.specs.Accesses.{Touching, all_touches, on_cell}
 use Rattle.lawful_runs.specs.BoardLaw.{AreAllowed, HasLawfulLooks}
-use Rattle.lawful_runs.specs.CallItems.{HasItemsOfCalls, untouched}
+use Rattle.lawful_runs.specs.CallItems.{HasItemsOfCalls, other_items}
 use Rattle.lawful_runs.specs.Cells.{ReadsState, has_place, state}
 use Rattle.lawful_runs.specs.LawfulRun.{rank_in}
 use Rattle.lawful_runs.specs.Logs.{log_of, rows_of}
@@ -58,7 +58,7 @@ TouchesReadStates script run = (cell : ℕ) → cell < cells_of (layout script) 
 -- entries that it saw, and each entry is one that the board allows after those before it.
 pub record CallsAreRefusedByClass (delay : Delay) (script : Script) (run : Run) : Type 0 where
   pub by_rank : (rank : ℕ) → rank < script.ranks →
-      HasItemsOfCalls (rank_in script delay run rank) (untouched (log_of run rank))
+      HasItemsOfCalls (rank_in script delay run rank) (other_items (log_of run rank))
   pub by_board : (rank : ℕ) → rank < script.ranks →
       HasLawfulLooks script (rows_of script run) rank (log_of run rank)
   pub entries : AreAllowed script.ranks [] (rows_of script run)

@@ -1,6 +1,6 @@
 -- The lines that are written where there is no report: this project's profile.
 use Rattle.std.specs.Prelude.{ℕ, List, [], ◌∷◌, codes}
-use Rattle.call_rules.specs.Text.{line, spaced, number}
+use Rattle.call_rules.specs.Text.{line, join_by_spaces, number}
 use Rattle.script_language.specs.declared.faults.Fault.{Fault}
 use Rattle.script_language.specs.declared.faults.FaultKind.{FaultKind}
 use Rattle.script_language.specs.declared.faults.FaultKind.TheVariants.{Word, Number, Datatype, Op, Name, Shape, Limit}
@@ -19,7 +19,7 @@ kind_text NoMemory = codes "memory"
 
 -- the line of a script that is refused
 abbrev pub fault_line : Fault → List ℕ
-fault_line fault = line (spaced (codes "script" ∷ number fault.line ∷ kind_text fault.kind ∷ []))
+fault_line fault = line (join_by_spaces (codes "script" ∷ number fault.line ∷ kind_text fault.kind ∷ []))
 
 -- the line of words that are refused
 abbrev pub usage_line : List ℕ

@@ -24,7 +24,8 @@ use Rattle.run_report.specs.Parts.{fetches_as, item_lines, lines_of_call, number
 use Rattle.run_report.specs.Parts.{waiting_lines}
 use Rattle.run_report.proofs.Asked.{in_chain_of_call}
 use Rattle.run_report.proofs.Lists.{join_is}
-use Rattle.run_texts.specs.Answers.{Answer, answers, fetched, fetched_word, fetched_words, said, say, standing, waiting}
+use Rattle.run_texts.specs.Answers.{Answer, answers, fetched_integer, fetched_word, fetched_words, item_answers, say}
+use Rattle.run_texts.specs.Answers.{standing_call, wait_answer}
 use Rattle.run_texts.specs.Report.{answer_line, call_name, lines_of_calls}
 
 -- ---- what is said of a call
@@ -34,7 +35,8 @@ of_call call all = filter (λ (a : Answer). a.call == call) all
 
 -- what an item says is said of the call to which it belongs
 said_of_its_own : (calls : List Call) (log : List Item) (call index : ℕ) (item : Item)
-    → of_call call (said calls log index item) ≡ cond (belongs_to call item) (said calls log index item) []
+    → of_call call (item_answers calls log index item)
+    ≡ cond (belongs_to call item) (item_answers calls log index item) []
 said_of_its_own calls log call index (Issue number access) = by (transfer_at calls number)
   where
     empty : (b : Bool) → of_call call [] ≡ cond b [] []
@@ -90,21 +92,22 @@ said_of_its_own calls log call index Ended = refl
 
 said_from : (rank : ℕ) (calls : List Call) (log : List Item) (call index : ℕ) (items : List Item) → call < length calls
     → flat_map (answer_line rank) (of_call call
-    (flat_map (λ one. said calls log one.0 one.1) (enumerate_from index items)))
+    (flat_map (λ one. item_answers calls log one.0 one.1) (enumerate_from index items)))
     ≡ flat_map (λ one. item_lines rank calls log one.0 one.1) (links (length calls) call index items)
 said_from rank calls log call index [] h = refl
 said_from rank calls log call index (item ∷ items) h =
-    ap (flat_map (answer_line rank)) (filter-append (λ (a : Answer). a.call == call) (said calls log index item) later)
-    ∙ flat_map-append (answer_line rank) (of_call call (said calls log index item)) (of_call call later)
+    ap (flat_map (answer_line rank)) (filter-append (λ (a : Answer). a.call == call)
+    (item_answers calls log index item) later)
+    ∙ flat_map-append (answer_line rank) (of_call call (item_answers calls log index item)) (of_call call later)
     ∙ ap (λ own. flat_map (answer_line rank) own
     ++ flat_map (answer_line rank) (of_call call later)) (said_of_its_own calls log call index item)
-    ∙ ap (λ b. flat_map (answer_line rank) (cond b (said calls log index item) [])
+    ∙ ap (λ b. flat_map (answer_line rank) (cond b (item_answers calls log index item) [])
     ++ flat_map (answer_line rank) (of_call call later))
     (sym (in_chain_of_call (length calls) call item h))
     ∙ by (is_in (length calls) call item) (said_from rank calls log call (index + 1) items h)
   where
     later : List Answer
-    later = flat_map (λ one. said calls log one.0 one.1) (enumerate_from (index + 1) items)
+    later = flat_map (λ one. item_answers calls log one.0 one.1) (enumerate_from (index + 1) items)
 
     rest : List (ℕ × Item)
     rest = links (length calls) call (index + 1) items
@@ -113,33 +116,33 @@ said_from rank calls log call index (item ∷ items) h =
     lines one = item_lines rank calls log one.0 one.1
 
     by : (b : Bool) → flat_map (answer_line rank) (of_call call later) ≡ flat_map lines rest
-        → flat_map (answer_line rank) (cond b (said calls log index item) [])
+        → flat_map (answer_line rank) (cond b (item_answers calls log index item) [])
         ++ flat_map (answer_line rank) (of_call call later)
         ≡ flat_map lines (cond b ((index, item) ∷ rest) rest)
     by true e = ap (λ t. item_lines rank calls log index item ++ t) e
     by false e = e
 
 waits_where : (rank : ℕ) (calls : List Call) (stands : Option ℕ) (call : ℕ)
-    → flat_map (answer_line rank) (of_call call (waiting calls stands)) ≡ waiting_lines rank calls stands call
+    → flat_map (answer_line rank) (of_call call (wait_answer calls stands)) ≡ waiting_lines rank calls stands call
 waits_where rank calls None call = refl
 waits_where rank calls (Some at) call = by (at == call)
   where
-    by : (b : Bool) → flat_map (answer_line rank) (cond b (waiting calls (Some at)) [])
-        ≡ (if b then flat_map (answer_line rank) (waiting calls (Some at)) else [])
+    by : (b : Bool) → flat_map (answer_line rank) (cond b (wait_answer calls (Some at)) [])
+        ≡ (if b then flat_map (answer_line rank) (wait_answer calls (Some at)) else [])
     by true = refl
     by false = refl
 
 -- the lines of a call are those of its chain, and then that of its waiting
 pub lines_are : (rank : ℕ) (calls : List Call) (log : List Item) (call : ℕ) → call < length calls
     → flat_map (answer_line rank) (of_call call (answers calls log))
-    ≡ lines_of_call rank calls log (standing calls log) call
+    ≡ lines_of_call rank calls log (standing_call calls log) call
 lines_are rank calls log call h =
-    let all = flat_map (λ one. said calls log one.0 one.1) (enumerate_from 0 log) in
-    let last = waiting calls (standing calls log) in
+    let all = flat_map (λ one. item_answers calls log one.0 one.1) (enumerate_from 0 log) in
+    let last = wait_answer calls (standing_call calls log) in
     ap (flat_map (answer_line rank)) (filter-append (λ (a : Answer). a.call == call) all last)
     ∙ flat_map-append (answer_line rank) (of_call call all) (of_call call last)
     ∙ ap (λ t. t ++ flat_map (answer_line rank) (of_call call last)) (said_from rank calls log call 0 log h)
-    ∙ ap (λ t. said_lines rank calls log call ++ t) (waits_where rank calls (standing calls log) call)
+    ∙ ap (λ t. said_lines rank calls log call ++ t) (waits_where rank calls (standing_call calls log) call)
 
 -- ---- what an access fetched
 

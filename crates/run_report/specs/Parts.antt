@@ -10,7 +10,7 @@ use Rattle.rma_record.specs.declared.items.Item.TheVariants.{Touch}
 use Rattle.call_rules.specs.Actions.{Transfer, transfer_of}
 use Rattle.call_rules.specs.Text.{integer}
 use Rattle.run_report.specs.Chains.{links}
-use Rattle.run_texts.specs.Answers.{said, fetched, waiting}
+use Rattle.run_texts.specs.Answers.{item_answers, fetched_integer, wait_answer}
 use Rattle.run_texts.specs.Report.{answer_line}
 
 -- the datatype of what a call fetches, where it fetches
@@ -19,7 +19,8 @@ fetches_as call = option_map_or (λ (t : Transfer). if t.fetches then Some t.dty
 
 -- the number that a touch found, behind a space
 abbrev pub number_found : Access → Dtype → Item → List ℕ
-number_found access dtype (Touch issue element cell place bits) = 32 ∷ integer (fetched access dtype element bits)
+number_found access dtype (Touch issue element cell place bits) = 32
+    ∷ integer (fetched_integer access dtype element bits)
 number_found access dtype item = []
 
 -- the numbers that the touches of the access found whose Issue has this index
@@ -29,7 +30,7 @@ numbers_found access dtype calls index log = flat_map (λ one. number_found acce
 
 -- the lines of one item
 abbrev pub item_lines : ℕ → List Call → List Item → ℕ → Item → List ℕ
-item_lines rank calls log index item = flat_map (answer_line rank) (said calls log index item)
+item_lines rank calls log index item = flat_map (answer_line rank) (item_answers calls log index item)
 
 -- the lines of the items of a call
 abbrev pub said_lines : ℕ → List Call → List Item → ℕ → List ℕ
@@ -40,7 +41,7 @@ said_lines rank calls log call = flat_map (λ one. item_lines rank calls log one
 abbrev pub waiting_lines : ℕ → List Call → Option ℕ → ℕ → List ℕ
 waiting_lines rank calls None call = []
 waiting_lines rank calls (Some stands) call = if stands == call then flat_map (answer_line rank)
-    (waiting calls (Some stands)) else []
+    (wait_answer calls (Some stands)) else []
 
 -- all lines of a call
 abbrev pub lines_of_call : ℕ → List Call → List Item → Option ℕ → ℕ → List ℕ

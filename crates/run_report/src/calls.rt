@@ -5,7 +5,7 @@ ghost use Rattle.std.specs.String.{string_bytes};
 ghost use Rattle.call_rules.specs.Pieces.{numbers_from};
 ghost use Rattle.run_report.specs.Chains.{AreChains};
 ghost use Rattle.run_report.specs.Parts.{item_lines, lines_of_call, numbers_found, said_lines, waiting_lines};
-ghost use Rattle.run_texts.specs.Answers.{fetched_words, standing};
+ghost use Rattle.run_texts.specs.Answers.{fetched_words, standing_call};
 ghost use Rattle.run_texts.specs.Report.{answer_line, call_lines};
 
 use crate::chains::Chains;

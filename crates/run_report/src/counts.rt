@@ -1,6 +1,6 @@
 //! The counts of a report's last line.
 ghost use Rattle.std.specs.Prelude.{◌≡◌, ◌≤◌, ◌<◌, ◌^◌, length, count_by, sum, sum_by};
-ghost use Rattle.call_rules.specs.Layout.{calls_of};
+ghost use Rattle.call_rules.specs.Layout.{call_count};
 ghost use Rattle.run_texts.specs.Report.{items_where};
 ghost use Rattle.run_report.specs.Counts.{test_of};
 
@@ -54,8 +54,8 @@ pub(crate) fn count_items(run: &Run, counted: Counted) -> u128
 
 /// How many calls a script has.
 pub(crate) fn count_calls(script: &Script) -> usize
-    requires { calls_of script.now < 2 ^ 32 }
-    ensures { result ≡ calls_of script.now }
+    requires { call_count script.now < 2 ^ 32 }
+    ensures { result ≡ call_count script.now }
 {
     let mut total = 0;
     for calls in script.calls.as_slice() {

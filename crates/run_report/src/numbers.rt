@@ -3,7 +3,7 @@ ghost use Rattle.std.specs.Prelude.{◌≡◌, ◌<◌, ◌≤◌, ◌*◌, ◌+
 ghost use Rattle.rma_types.specs.Datatypes.{size_of};
 ghost use Rattle.call_rules.specs.Elements.{element_in};
 ghost use Rattle.call_rules.specs.Numbers.{signed_number, number_of, patterns_of};
-ghost use Rattle.run_texts.specs.Answers.{fetched};
+ghost use Rattle.run_texts.specs.Answers.{fetched_integer};
 
 use rma_types::{Access, Dtype};
 
@@ -70,7 +70,7 @@ fn element(bits: u64, first_byte: u64, dtype: Dtype) -> u64
 
 /// The number of an access's element, read in the bits of its cell.
 pub(crate) fn fetched_number(access: &Access, dtype: Dtype, place: u32, bits: u64) -> i64
-    ensures { result ≡ fetched access.now dtype place bits }
+    ensures { result ≡ fetched_integer access.now dtype place bits }
 {
     let address = access.lo as u64 + place as u64 * dtype.size() as u64;
     number(dtype, element(bits, address % 4, dtype))

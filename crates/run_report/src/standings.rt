@@ -5,7 +5,7 @@ ghost use Rattle.std.specs.Option.{option_copied};
 ghost use Rattle.call_rules.specs.Actions.{transfer_of};
 ghost use Rattle.rank_rules.specs.Knowledge.{ends_call};
 ghost use Rattle.run_report.specs.Chains.{AreChains};
-ghost use Rattle.run_texts.specs.Answers.{ends as does_end, first_left as first_left_of, standing};
+ghost use Rattle.run_texts.specs.Answers.{ends as does_end, first_left as first_left_of, standing_call};
 
 use crate::chains::Chains;
 use crate::runs::has_ended;
@@ -103,7 +103,7 @@ fn first_left(calls: &[Call], items: &[Item], chains: &Chains) -> Option<usize>
 /// The call at which a rank stands, if it has not ended.
 pub(crate) fn stands_at(calls: &[Call], items: &[Item], chains: &Chains) -> Option<usize>
     requires { AreChains (length calls.now) items.now 0 chains.now.first.items chains.now.next.items }
-    ensures value { result ≡ standing calls.now items.now }
+    ensures value { result ≡ standing_call calls.now items.now }
     ensures within { IfSome result (λ call. call < length calls.now) }
 {
     if has_ended(items) {

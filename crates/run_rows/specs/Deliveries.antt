@@ -9,7 +9,7 @@ use Rattle.rma_types.specs.declared.ops.Op.TheVariants.{Replace, Sum}
 use Rattle.rma_types.specs.declared.schedules.Delay.TheVariants.{End as EndDelay, Seeded as SeededDelay}
 use Rattle.rma_types.specs.declared.schedules.Order.TheVariants.{Greedy, Robin}
 use Rattle.rma_types.specs.declared.scripts.Script.{Script}
-use Rattle.step_runs.specs.Generator.{seeded, stirred, drawn_from, delivery_stream, order_stream}
+use Rattle.step_runs.specs.Generator.{first_state, next_state, drawn_from, delivery_stream, order_stream}
 use Rattle.step_runs.specs.StepRun.{step_run}
 use Rattle.run_rows.specs.Scripts.{Gives, acc, allocate, fence, flush, flush_local, fop, get, load, lock, lock_all}
 use Rattle.run_rows.specs.Scripts.{pair, plain_run, post, put, script, start, store, unlock}
@@ -274,15 +274,16 @@ CompletesByFlushes = Gives put_and_get (step_run put_and_get Robin EndDelay 0) (
 -- the draws of the order's stream from seed 1
 abbrev pub DrawsByTheGenerator : Type 0
 DrawsByTheGenerator =
-    let first = stirred (seeded 1 order_stream) in
-    let second = stirred first in
-    let third = stirred second in
+    let first = next_state (first_state 1 order_stream) in
+    let second = next_state first in
+    let third = next_state second in
     drawn_from first ∷ drawn_from second ∷ drawn_from third ∷ [] ≡ 1456530643 ∷ 1542738009 ∷ 103528102 ∷ []
 
 -- the first draw of rank 3's deliveries from seed 7, and of those of rank 0 from seed 0
 abbrev pub DrawsForEachRank : Type 0
 DrawsForEachRank =
-    drawn_from (stirred (seeded 7 (delivery_stream 3))) ∷ drawn_from (stirred (seeded 0 (delivery_stream 0))) ∷ []
+    drawn_from (next_state (first_state 7 (delivery_stream 3)))
+    ∷ drawn_from (next_state (first_state 0 (delivery_stream 0))) ∷ []
     ≡ 1446204326 ∷ 167951807 ∷ []
 
 -- the draw before the load is odd

@@ -9,7 +9,7 @@ use Rattle.rma_types.specs.declared.ops.Op.TheVariants.{Band, Bor, Bxor, Land, L
 use Rattle.rma_types.specs.declared.ops.Op.TheVariants.{Sum}
 use Rattle.rma_types.specs.declared.scripts.Script.{Script}
 use Rattle.rma_record.specs.declared.items.Item.TheVariants.{Touch}
-use Rattle.call_rules.specs.Elements.{combined}
+use Rattle.call_rules.specs.Elements.{combine}
 use Rattle.run_rows.specs.Scripts.{Gives, HasItem, acc, allocate, cas, fence, flush, fop, load, lock, lock_all}
 use Rattle.run_rows.specs.Scripts.{plain_run, put, script, store, unlock}
 
@@ -120,7 +120,7 @@ operations =
 
 abbrev pub OperatesOnItsRange : Type 0
 OperatesOnItsRange =
-    map (λ (one : Operation). combined one.op one.dtype one.old one.operand) operations ≡ map
+    map (λ (one : Operation). combine one.op one.dtype one.old one.operand) operations ≡ map
     (λ (one : Operation). one.new) operations
 
 abbrev pub two_swaps : Script

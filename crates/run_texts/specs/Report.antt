@@ -15,9 +15,9 @@ use Rattle.rma_types.specs.declared.scripts.Script.{Script}
 use Rattle.rma_record.specs.declared.items.Item.{Item}
 use Rattle.rma_record.specs.declared.items.Item.TheVariants.{Issue}
 use Rattle.rma_record.specs.declared.runs.Run.{Run}
-use Rattle.call_rules.specs.Layout.{layout, calls_of as calls_in_all}
+use Rattle.call_rules.specs.Layout.{layout, call_count as calls_in_all}
 use Rattle.call_rules.specs.Pieces.{numbers_from}
-use Rattle.call_rules.specs.Text.{line, spaced, number}
+use Rattle.call_rules.specs.Text.{line, join_by_spaces, number}
 use Rattle.lawful_runs.specs.Items.{is_issue, is_touch, is_entry, is_refused, has_ended}
 use Rattle.lawful_runs.specs.Logs.{log_of, calls_of}
 use Rattle.run_texts.specs.declared.modes.Mode.{Mode}
@@ -39,7 +39,7 @@ items_where test run = sum_by (count_by test) run.logs
 -- ---- lines
 
 abbrev pub answer_line : ℕ → Answer → List ℕ
-answer_line rank a = line (spaced (call_name rank a.call ∷ a.words))
+answer_line rank a = line (join_by_spaces (call_name rank a.call ∷ a.words))
 
 -- the lines about the first calls of a rank's list, call by call
 abbrev pub lines_of_calls : ℕ → List Answer → ℕ → List ℕ
@@ -63,7 +63,7 @@ cell_hex cell =
 abbrev pub memory_line : ℕ → ℕ → List ℕ → List ℕ
 memory_line rank address cells =
     if list_all (λ cell. cell == 0) cells then []
-    else line (spaced (codes "memory" ∷ number rank ∷ number address ∷ flat_map cell_hex cells ∷ []))
+    else line (join_by_spaces (codes "memory" ∷ number rank ∷ number address ∷ flat_map cell_hex cells ∷ []))
 
 -- the lines of a rank's memory, 8 cells to a line; the last may have fewer
 abbrev pub memory_lines : ℕ → List ℕ → List ℕ
@@ -92,7 +92,7 @@ access_name run id =
 
 abbrev pub finding_line : Run → Finding → List ℕ
 finding_line run finding =
-    line (spaced (codes "finding" ∷ rule_text finding.rule ∷ access_name run finding.first
+    line (join_by_spaces (codes "finding" ∷ rule_text finding.rule ∷ access_name run finding.first
     ∷ access_name run finding.second ∷ []))
 
 -- ---- the report
@@ -104,7 +104,7 @@ abbrev pub first_line : Run → List ℕ
 first_line run = line (if all_ended run then codes "ended" else codes "stuck")
 
 abbrev pub summary_line : Run → List Finding → List ℕ
-summary_line run found = line (spaced
+summary_line run found = line (join_by_spaces
     (codes "summary" ∷ codes "accesses" ∷ number (items_where is_issue run) ∷ codes "touches"
     ∷ number (items_where is_touch run)
     ∷ codes "entries" ∷ number (items_where is_entry run) ∷ codes "refused" ∷ number (items_where is_refused run)
@@ -122,7 +122,7 @@ full_report script run found =
 
 -- the report on the built-in work: one line of counts, with the sum of all cells
 abbrev pub work_report : Script → Run → List Finding → List ℕ
-work_report script run found = line (spaced
+work_report script run found = line (join_by_spaces
     (codes "work" ∷ codes "calls" ∷ number (calls_in_all script) ∷ codes "accesses" ∷ number (items_where is_issue run)
     ∷ codes "touches" ∷ number (items_where is_touch run) ∷ codes "findings" ∷ number (length found)
     ∷ codes "total" ∷ number (sum run.memory) ∷ []))

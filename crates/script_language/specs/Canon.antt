@@ -3,17 +3,17 @@ use Rattle.std.specs.Prelude.{ℕ, zero, suc, ◌+◌, List, [], ◌∷◌, ◌+
 use Rattle.std.specs.List.{flat_map}
 use Rattle.rma_types.specs.declared.calls.Call.{Call as MpiCall}
 use Rattle.rma_types.specs.declared.scripts.Script.{Script}
-use Rattle.call_rules.specs.Text.{line, spaced}
+use Rattle.call_rules.specs.Text.{line, join_by_spaces}
 use Rattle.script_language.specs.declared.fields.Fields.{Fields}
 use Rattle.script_language.specs.declared.forms.Form.{Form}
 use Rattle.script_language.specs.declared.forms.Form.TheVariants.{Ranks, Space, Rank, Call}
 use Rattle.script_language.specs.Calls.{no_fields, form_of, fields_of}
 use Rattle.script_language.specs.Forms.{word_of_form, places_of}
-use Rattle.script_language.specs.Spelling.{spelled}
+use Rattle.script_language.specs.Spelling.{spelling_of}
 
 -- a line of a form: its word, and what stands at each of its places
 abbrev pub form_line : Form → Fields → List ℕ
-form_line form fields = line (spaced (word_of_form form ∷ flat_map (spelled fields) (places_of form)))
+form_line form fields = line (join_by_spaces (word_of_form form ∷ flat_map (spelling_of fields) (places_of form)))
 
 abbrev pub call_line : MpiCall → List ℕ
 call_line call = form_line (Call (form_of call)) (fields_of call)

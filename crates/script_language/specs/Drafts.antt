@@ -4,7 +4,7 @@ use Rattle.std.specs.Prelude.{replicate, slice_set, slice_index_or, Option, Some
 use Rattle.std.specs.Prelude.{Err}
 use Rattle.rma_types.specs.declared.calls.Call.{Call as MpiCall}
 use Rattle.rma_types.specs.declared.scripts.Script.{Script}
-use Rattle.call_rules.specs.Layout.{calls_of, memory_of}
+use Rattle.call_rules.specs.Layout.{call_count, memory_of}
 use Rattle.script_language.specs.declared.drafts.Draft.{Draft}
 use Rattle.script_language.specs.declared.faults.FaultKind.{FaultKind}
 use Rattle.script_language.specs.declared.faults.FaultKind.TheVariants.{Shape, Limit}
@@ -30,18 +30,18 @@ abbrev pub is_in_repeat : Draft → Bool
 is_in_repeat draft = is_some draft.times
 
 -- where a line of a form may stand
-abbrev pub may_stand : Draft → Form → Bool
-may_stand draft Ranks = not (is_begun draft)
-may_stand draft Space = is_begun draft && not (is_in_block draft)
-may_stand draft Rank = is_begun draft && not (is_in_repeat draft)
-may_stand draft Repeat = is_in_block draft && not (is_in_repeat draft)
-may_stand draft End = is_in_repeat draft
-may_stand draft (Call form) = is_in_block draft
+abbrev pub is_in_place : Draft → Form → Bool
+is_in_place draft Ranks = not (is_begun draft)
+is_in_place draft Space = is_begun draft && not (is_in_block draft)
+is_in_place draft Rank = is_begun draft && not (is_in_repeat draft)
+is_in_place draft Repeat = is_in_block draft && not (is_in_repeat draft)
+is_in_place draft End = is_in_repeat draft
+is_in_place draft (Call form) = is_in_block draft
 
 -- as many copies of the calls, one after the other
-abbrev pub repeated : ℕ → List MpiCall → List MpiCall
-repeated zero calls = []
-repeated (suc times) calls = calls ++ repeated times calls
+abbrev pub repeat_calls : ℕ → List MpiCall → List MpiCall
+repeat_calls zero calls = []
+repeat_calls (suc times) calls = calls ++ repeat_calls times calls
 
 -- the lists of all ranks, with the calls behind those of each rank of the block
 abbrev pub added_to : List ℕ → List MpiCall → List (List MpiCall) → List (List MpiCall)
@@ -65,7 +65,7 @@ with_line draft Rank fields = record draft { block = fields.members }
 with_line draft Repeat fields = record draft { times = Some fields.times }
 with_line draft End fields =
     record draft {
-      calls = added_to draft.block (repeated (unwrap_or draft.times 0) draft.inside) draft.calls;
+      calls = added_to draft.block (repeat_calls (unwrap_or draft.times 0) draft.inside) draft.calls;
       times = None;
       inside = [];
     }
@@ -81,11 +81,11 @@ script_of draft = record {
 
 -- the totals are within their limits
 abbrev pub is_within_limits : Script → Bool
-is_within_limits script = nat_le (calls_of script) 65536 && nat_le (memory_of script) 65536
+is_within_limits script = nat_le (call_count script) 65536 && nat_le (memory_of script) 65536
 
-abbrev pub limited : Draft → Result Draft FaultKind
-limited draft = if is_within_limits (script_of draft) then Ok draft else Err Limit
+abbrev pub draft_within_limits : Draft → Result Draft FaultKind
+draft_within_limits draft = if is_within_limits (script_of draft) then Ok draft else Err Limit
 
 -- at the end of the text the number of ranks is known, and no repeat is open
-abbrev pub finished : Draft → Result Script FaultKind
-finished draft = if is_begun draft && not (is_in_repeat draft) then Ok (script_of draft) else Err Shape
+abbrev pub script_at_end : Draft → Result Script FaultKind
+script_at_end draft = if is_begun draft && not (is_in_repeat draft) then Ok (script_of draft) else Err Shape

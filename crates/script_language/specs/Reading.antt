@@ -8,24 +8,24 @@ use Rattle.script_language.specs.declared.faults.FaultKind.TheVariants.{Word, Sh
 use Rattle.script_language.specs.declared.forms.Form.{Form}
 use Rattle.script_language.specs.Calls.{no_fields}
 use Rattle.script_language.specs.Answers.{◌>>=◌, found_or}
-use Rattle.script_language.specs.Drafts.{no_lines, may_stand, with_line, limited, finished}
+use Rattle.script_language.specs.Drafts.{no_lines, is_in_place, with_line, draft_within_limits, script_at_end}
 use Rattle.script_language.specs.Forms.{places_of}
 use Rattle.script_language.specs.Lines.{lines_of, tokens_of}
 use Rattle.script_language.specs.Tokens.{tokens_read}
 use Rattle.script_language.specs.Words.{form_named}
 
 -- a form where it may stand
-abbrev pub placed : Draft → Form → Result Form FaultKind
-placed draft form = if may_stand draft form then Ok form else Err Shape
+abbrev pub form_in_place : Draft → Form → Result Form FaultKind
+form_in_place draft form = if is_in_place draft form then Ok form else Err Shape
 
 -- the form that the first token names, where it may stand
 abbrev pub form_read : Draft → List ℕ → Result Form FaultKind
-form_read draft token = found_or Word (form_named token) >>= placed draft
+form_read draft token = found_or Word (form_named token) >>= form_in_place draft
 
 -- the script so far after a line of a form, whose totals are tested at its end
 abbrev pub rest_read : Draft → List (List ℕ) → Form → Result Draft FaultKind
 rest_read draft tokens form =
-    tokens_read draft no_fields (places_of form) tokens >>= λ fields. limited (with_line draft form fields)
+    tokens_read draft no_fields (places_of form) tokens >>= λ fields. draft_within_limits (with_line draft form fields)
 
 -- the script so far after the tokens of one more line; a line without tokens says nothing
 abbrev pub line_read : Draft → List (List ℕ) → Result Draft FaultKind
@@ -45,7 +45,7 @@ lines_read line draft (bytes ∷ lines) =
 
 -- a text that is not too long: its lines, and then its end, which stands in the last line
 abbrev pub text_read : List (List ℕ) → Result Script Fault
-text_read lines = lines_read 1 no_lines lines >>= λ draft. at_line (length lines) (finished draft)
+text_read lines = lines_read 1 no_lines lines >>= λ draft. at_line (length lines) (script_at_end draft)
 
 -- at most 1,048,576 bytes are read
 unfoldable pub read : List ℕ → Result Script Fault

@@ -33,27 +33,27 @@ abbrev pub pattern_text : Dtype → ℕ → List ℕ
 pattern_text dtype pattern = integer (number_of dtype pattern)
 
 -- the tokens at a place
-abbrev pub spelled : Fields → Place → List (List ℕ)
-spelled fields Ranks = number fields.ranks ∷ []
-spelled fields Owner = number fields.owner ∷ []
-spelled fields Room = number fields.room ∷ []
-spelled fields Member = map number (take 1 fields.members)
-spelled fields Members = map number (drop 1 fields.members)
-spelled fields Times = number fields.times ∷ []
-spelled fields Request = request_text fields.req ∷ []
-spelled fields Window = window_text fields.win ∷ []
-spelled fields Base = integer fields.base ∷ []
-spelled fields Size = integer fields.bytes ∷ []
-spelled fields UnitPlace = integer fields.unit ∷ []
-spelled fields LockKind = lock_text fields.lock ∷ []
-spelled fields Peer = integer fields.peer ∷ []
-spelled fields Group = map integer fields.group
-spelled fields Assertions = map assertion_text (filter (is_given fields.asserts) all_assertions)
-spelled fields Target = target_text fields.target ∷ []
-spelled fields Displacement = integer fields.disp ∷ []
-spelled fields ElementType = dtype_text fields.dtype ∷ []
-spelled fields Operation = op_text fields.op ∷ []
-spelled fields Count = integer fields.count ∷ []
-spelled fields Compare = pattern_text fields.dtype fields.compare ∷ []
-spelled fields Value = pattern_text fields.dtype fields.value ∷ []
-spelled fields Values = map (pattern_text fields.dtype) fields.values
+abbrev pub spelling_of : Fields → Place → List (List ℕ)
+spelling_of fields Ranks = number fields.ranks ∷ []
+spelling_of fields Owner = number fields.owner ∷ []
+spelling_of fields Room = number fields.room ∷ []
+spelling_of fields Member = map number (take 1 fields.members)
+spelling_of fields Members = map number (drop 1 fields.members)
+spelling_of fields Times = number fields.times ∷ []
+spelling_of fields Request = request_text fields.req ∷ []
+spelling_of fields Window = window_text fields.win ∷ []
+spelling_of fields Base = integer fields.base ∷ []
+spelling_of fields Size = integer fields.bytes ∷ []
+spelling_of fields UnitPlace = integer fields.unit ∷ []
+spelling_of fields LockKind = lock_text fields.lock ∷ []
+spelling_of fields Peer = integer fields.peer ∷ []
+spelling_of fields Group = map integer fields.group
+spelling_of fields Assertions = map assertion_text (filter (is_given fields.asserts) all_assertions)
+spelling_of fields Target = target_text fields.target ∷ []
+spelling_of fields Displacement = integer fields.disp ∷ []
+spelling_of fields ElementType = dtype_text fields.dtype ∷ []
+spelling_of fields Operation = op_text fields.op ∷ []
+spelling_of fields Count = integer fields.count ∷ []
+spelling_of fields Compare = pattern_text fields.dtype fields.compare ∷ []
+spelling_of fields Value = pattern_text fields.dtype fields.value ∷ []
+spelling_of fields Values = map (pattern_text fields.dtype) fields.values

@@ -2,7 +2,7 @@
 ghost use Rattle.std.specs.Prelude.{◌≡◌, ◌≤◌, ℕ, List, length, sum_by, map, IfOk};
 ghost use Rattle.std.specs.List.{zip};
 ghost use Rattle.rma_types.specs.declared.calls.Call.{Call};
-ghost use Rattle.call_rules.specs.Layout.{rounded, memory_bytes, bases_from, parts_from, layout, IsWithinLimits};
+ghost use Rattle.call_rules.specs.Layout.{round_up, memory_bytes, bases_from, parts_from, layout, IsWithinLimits};
 
 use crate::sizes::{call_size, space_size};
 use rma_types::{Call, CallBase, Items, Layout, MemoryPart, NoMemory, Script};
@@ -12,7 +12,7 @@ use std::alloc::Global;
 fn bases_of(alloc: Global, space: u32, calls: &[Call]) -> Result<(Items<CallBase>, u32), NoMemory>
     requires memory { memory_bytes space calls.now ≤ 65536 }
     requires calls { length calls.now ≤ 65536 }
-    ensures bases { IfOk result (λ found. found.0 ≡ bases_from 0 (rounded space) calls.now) }
+    ensures bases { IfOk result (λ found. found.0 ≡ bases_from 0 (round_up space) calls.now) }
     ensures bytes { IfOk result (λ found. found.1 ≡ memory_bytes space calls.now) }
 {
     let mut bases = Items::new(alloc);

@@ -1,13 +1,13 @@
 //! The bytes of memory that stand for a space and for a call.
 ghost use Rattle.std.specs.Prelude.{◌≡◌, ◌≤◌};
-ghost use Rattle.call_rules.specs.Layout.{rounded, call_bytes};
+ghost use Rattle.call_rules.specs.Layout.{round_up, call_bytes};
 
 use rma_types::Call;
 
 /// The bytes of a space, up to a multiple of 8.
 pub fn space_size(space: u32) -> u32
     requires { space ≤ 65536 }
-    ensures { result ≡ rounded space }
+    ensures { result ≡ round_up space }
 {
     8 * ((space + 7) / 8)
 }

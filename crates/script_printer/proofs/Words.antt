@@ -10,7 +10,7 @@ use Rattle.rma_types.specs.declared.calls.Call.TheVariants.{LockAll, UnlockAll, 
 use Rattle.rma_types.specs.declared.calls.Call.TheVariants.{FlushLocalAll, Sync, Barrier, Put, Get, Acc, GetAcc, Fop}
 use Rattle.rma_types.specs.declared.calls.Call.TheVariants.{Cas, Load, Store, WaitReq, TestReq}
 use Rattle.rma_types.specs.CallWords.{word_of}
-use Rattle.call_rules.specs.Text.{spaced, line}
+use Rattle.call_rules.specs.Text.{join_by_spaces, line}
 use Rattle.script_language.specs.Calls.{form_of, no_fields}
 use Rattle.script_language.specs.Forms.{call_word}
 use Rattle.script_language.specs.declared.forms.Form.TheVariants.{Space, Rank}
@@ -56,7 +56,7 @@ word_is (WaitReq req) = refl
 word_is (TestReq req) = refl
 
 -- a word and the tokens behind it
-pub spaced_is : (word : List ℕ) (tokens : List (List ℕ)) → spaced (word ∷ tokens) ≡ word ++ behind_spaces tokens
+pub spaced_is : (word : List ℕ) (tokens : List (List ℕ)) → join_by_spaces (word ∷ tokens) ≡ word ++ behind_spaces tokens
 spaced_is word [] = sym (append-nil word)
 spaced_is word (token ∷ tokens) = ap (λ (rest : List ℕ). word ++ (32 ∷ rest)) (spaced_is token tokens)
 
@@ -79,7 +79,8 @@ ranks_next rank (call ∷ calls) lists =
 
 -- a line that is written piece by piece
 pub line_written : (old word : List ℕ) (tokens : List (List ℕ)) (first second third : List ℕ) → first ≡ old ++ word →
-    second ≡ first ++ behind_spaces tokens → third ≡ second ++ 10 ∷ [] → third ≡ old ++ line (spaced (word ∷ tokens))
+    second ≡ first ++ behind_spaces tokens → third ≡ second ++ 10 ∷ [] → third ≡ old
+    ++ line (join_by_spaces (word ∷ tokens))
 line_written old word tokens first second third one two three =
     three
     ∙ ap (λ (bytes : List ℕ). bytes ++ 10 ∷ []) (two ∙ ap (λ (bytes : List ℕ). bytes ++ behind_spaces tokens) one)

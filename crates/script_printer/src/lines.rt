@@ -2,9 +2,9 @@
 ghost use Rattle.std.specs.Prelude.{◌≡◌, ◌++◌, ◌∷◌, OnOk};
 ghost use Rattle.std.specs.List.{flat_map};
 ghost use Rattle.std.specs.String.{string_bytes};
-ghost use Rattle.call_rules.specs.Text.{line, spaced};
+ghost use Rattle.call_rules.specs.Text.{line, join_by_spaces};
 ghost use Rattle.script_language.specs.Canon.{call_line};
-ghost use Rattle.script_language.specs.Spelling.{spelled};
+ghost use Rattle.script_language.specs.Spelling.{spelling_of};
 ghost use Rattle.script_printer.specs.Printing.{behind_spaces, fields_said};
 
 use crate::calls::said;
@@ -20,7 +20,7 @@ fn write_places(text: &mut String, said: &Said<'_>, places: &[Place]) -> Result<
     ensures { OnOk result
         (string_bytes text.new
         ≡ string_bytes text.old
-        ++ behind_spaces (flat_map (spelled (fields_said said.now)) places.now)) }
+        ++ behind_spaces (flat_map (spelling_of (fields_said said.now)) places.now)) }
 {
     for index in 0..places.len() {
         write_place(text, said, places[index])?;
@@ -38,7 +38,7 @@ pub(crate) fn write_line(
     ensures { OnOk result
         (string_bytes text.new
         ≡ string_bytes text.old
-        ++ line (spaced (word.now ∷ flat_map (spelled (fields_said said.now)) places.now))) }
+        ++ line (join_by_spaces (word.now ∷ flat_map (spelling_of (fields_said said.now)) places.now))) }
 {
     text.push_str(word)?;
     write_places(text, said, places)?;

@@ -4,7 +4,7 @@ ghost use Rattle.std.specs.String.{string_bytes};
 ghost use Rattle.std.specs.Option.{option_to_list};
 ghost use Rattle.call_rules.specs.Numbers.{signed_number};
 ghost use Rattle.call_rules.specs.Text.{number, integer};
-ghost use Rattle.script_language.specs.Spelling.{spelled, target_text, is_given, pattern_text};
+ghost use Rattle.script_language.specs.Spelling.{spelling_of, target_text, is_given, pattern_text};
 ghost use Rattle.script_language.specs.Words.{all_assertions, assertion_text, dtype_text, op_text, lock_text};
 ghost use Rattle.script_language.specs.Words.{window_text, request_text};
 ghost use Rattle.script_printer.specs.Printing.{behind_spaces, fields_said};
@@ -251,7 +251,7 @@ pub(crate) fn write_place(
 ) -> Result<(), AllocError>
     ensures { OnOk result
         (string_bytes text.new
-        ≡ string_bytes text.old ++ behind_spaces (spelled (fields_said said.now) place)) }
+        ≡ string_bytes text.old ++ behind_spaces (spelling_of (fields_said said.now) place)) }
 {
     match place {
         Place::Ranks => write_number(text, u64::from(said.ranks)),

@@ -7,25 +7,25 @@ use Rattle.std.proofs.lemmas.Grind.{common_steps}
 use Rattle.std.proofs.lemmas.List.Sums.{sum_by-cons, sum_by-append, sum_by-set}
 use Rattle.std.proofs.Math.ListN.{length-set}
 use Rattle.rma_types.specs.declared.calls.Call.{Call}
-use Rattle.call_rules.specs.Layout.{rounded, call_bytes, memory_bytes}
+use Rattle.call_rules.specs.Layout.{round_up, call_bytes, memory_bytes}
 use Rattle.script_language.specs.declared.drafts.Draft.{Draft}
 use Rattle.script_language.specs.declared.faults.FaultKind.{FaultKind}
 use Rattle.script_language.specs.declared.faults.FaultKind.TheVariants.{Limit}
 use Rattle.script_language.specs.declared.fields.Fields.{Fields}
-use Rattle.script_language.specs.Drafts.{repeated, added_to, limited}
+use Rattle.script_language.specs.Drafts.{repeat_calls, added_to, draft_within_limits}
 use Rattle.script_reader.specs.declared.totals.Totals.{Totals}
 use Rattle.script_reader.specs.Sound.{IsSoundDraft, IsNewSpace}
 use Rattle.script_reader.proofs.Charging.{same_totals}
 use Rattle.script_reader.specs.Totals.{totals_of, within_limits, totals_with, totals_behind}
 
-repeated_suc : (times : ℕ) (calls : List Call) → repeated (suc times) calls ≡ repeated times calls ++ calls
+repeated_suc : (times : ℕ) (calls : List Call) → repeat_calls (suc times) calls ≡ repeat_calls times calls ++ calls
 repeated_suc zero calls = append-nil calls
 repeated_suc (suc times) calls =
     ap (λ (xs : List Call). calls ++ xs) (repeated_suc times calls)
-    ∙ sym (append_assoc calls (repeated times calls) calls)
+    ∙ sym (append_assoc calls (repeat_calls times calls) calls)
 
-pub repeated_more : (times : ℕ) (calls : List Call) → repeated (times + 1) calls ≡ repeated times calls ++ calls
-repeated_more times calls = ap (λ (n : ℕ). repeated n calls) (add-one times) ∙ repeated_suc times calls
+pub repeated_more : (times : ℕ) (calls : List Call) → repeat_calls (times + 1) calls ≡ repeat_calls times calls ++ calls
+repeated_more times calls = ap (λ (n : ℕ). repeat_calls n calls) (add-one times) ∙ repeated_suc times calls
 
 -- ---- sums over lists that grow
 
@@ -33,11 +33,11 @@ abbrev Adds : (List Call → ℕ) → Type 0
 Adds f = (xs ys : List Call) → f (xs ++ ys) ≡ f xs + f ys
 
 repeated_sum : (f : List Call → ℕ) → f [] ≡ 0 → Adds f → (times : ℕ) (calls : List Call) →
-    f (repeated times calls) ≡ times * f calls
+    f (repeat_calls times calls) ≡ times * f calls
 repeated_sum f none adds zero calls = omega (arith, none)
 repeated_sum f none adds (suc times) calls =
     let rest = repeated_sum f none adds times calls in
-    let first = adds calls (repeated times calls) in
+    let first = adds calls (repeat_calls times calls) in
     omega arith
 
 pub kept_below : (block : List ℕ) (n m : ℕ) → n ≡ m → AllByRecursion (λ rank. rank < n) block →
@@ -64,7 +64,7 @@ added_sum f adds (rank ∷ block) added lists all =
     omega arith
 
 abbrev space_of : Option ℕ → ℕ
-space_of space = rounded (unwrap_or space 0)
+space_of space = round_up (unwrap_or space 0)
 
 memory_split : (spaces : List (Option ℕ)) (lists : List (List Call)) → length spaces ≡ length lists →
     sum_by (λ rank. memory_bytes rank.0 rank.1) (zip (map (λ (space : Option ℕ). unwrap_or space 0) spaces) lists) ≡
@@ -108,20 +108,21 @@ totals_of_call draft call sound next spaces calls =
     (totals_with (totals_of draft) (length draft.block) 1 (call_bytes call)) refl (omega arith)
 
 pub totals_of_repeat : (draft : Draft) (times : ℕ) (inside : List Call) → IsSoundDraft draft → (next : Draft) →
-    next.spaces ≡ draft.spaces → next.calls ≡ added_to draft.block (repeated times inside) draft.calls →
+    next.spaces ≡ draft.spaces → next.calls ≡ added_to draft.block (repeat_calls times inside) draft.calls →
     totals_of next ≡ totals_behind (totals_of draft) (length draft.block) times inside
 totals_of_repeat draft times inside sound next spaces calls =
     let long = repeated_sum length refl (λ xs ys. length-append xs ys) times inside in
     let large = repeated_sum (sum_by call_bytes) refl (λ xs ys. sum_by-append call_bytes xs ys) times inside in
-    totals_added draft (repeated times inside) (added_to draft.block (repeated times inside) draft.calls) sound refl
+    totals_added draft (repeat_calls times inside) (added_to draft.block (repeat_calls times inside) draft.calls)
+    sound refl
     next spaces calls
-    ∙ same_totals (totals_with (totals_of draft) (length draft.block) (length (repeated times inside))
-    (sum_by call_bytes (repeated times inside))) (totals_behind (totals_of draft) (length draft.block) times inside)
+    ∙ same_totals (totals_with (totals_of draft) (length draft.block) (length (repeat_calls times inside))
+    (sum_by call_bytes (repeat_calls times inside))) (totals_behind (totals_of draft) (length draft.block) times inside)
     (rw long refl) (rw large refl)
 
 pub totals_of_space : (draft : Draft) (fields : Fields) → IsSoundDraft draft → IsNewSpace draft fields →
     (next : Draft) → next.calls ≡ draft.calls → next.spaces ≡ set draft.spaces fields.owner (Some fields.room) →
-    totals_of next ≡ totals_with (totals_of draft) 1 0 (rounded fields.room)
+    totals_of next ≡ totals_with (totals_of draft) 1 0 (round_up fields.room)
 totals_of_space draft fields sound new next calls spaces =
     let within : fields.owner < length draft.spaces = (let n = new.owner in let l = sound.spaces in omega arith) in
     let here = sum_by-set space_of draft.spaces fields.owner (Some fields.room) None within in
@@ -131,7 +132,7 @@ totals_of_space draft fields sound new next calls spaces =
     let long : length (set draft.spaces fields.owner (Some fields.room)) ≡ length draft.calls = length-set draft.spaces
     fields.owner (Some fields.room) ∙ (sound.spaces ∙ sym sound.lists) in
     let after = memory_split (set draft.spaces fields.owner (Some fields.room)) draft.calls long in
-    same_totals (totals_of next) (totals_with (totals_of draft) 1 0 (rounded fields.room)) (rw calls (omega arith))
+    same_totals (totals_of next) (totals_with (totals_of draft) 1 0 (round_up fields.room)) (rw calls (omega arith))
     (rw (calls, spaces) (omega arith))
 
 no_calls_sum : (f : List Call → ℕ) → f [] ≡ 0 → (n : ℕ) → sum_by f (replicate n []) ≡ 0
@@ -159,7 +160,7 @@ totals_of_ranks next ranks spaces calls =
 -- ---- the test at the end of a line
 
 limited_from : (next : Draft) (t : Totals) → totals_of next ≡ t →
-    limited next ≡ cond (leb t.calls 65536 && leb t.bytes 65536) (Ok next) (Err Limit)
+    draft_within_limits next ≡ cond (leb t.calls 65536 && leb t.bytes 65536) (Ok next) (Err Limit)
 limited_from next t e = ap (λ (v : Totals). cond (leb v.calls 65536 && leb v.bytes 65536) (Ok next) (Err Limit)) e
 
 chosen_too : (b : Bool) (t u : Totals) (next : Draft) → cond b (Ok t) (Err Limit) ≡ Ok u →
@@ -173,10 +174,11 @@ refused_too true t kind next h = absurd cc
 refused_too false t kind next h = let same : Limit ≡ kind = cc in ap (λ (k : FaultKind). Err k) same
 
 -- the test of the totals is the test of the lines
-pub limited_ok : (next : Draft) (t u : Totals) → totals_of next ≡ t → Ok u ≡ within_limits t → limited next ≡ Ok next
+pub limited_ok : (next : Draft) (t u : Totals) → totals_of next ≡ t → Ok u ≡ within_limits t →
+    draft_within_limits next ≡ Ok next
 limited_ok next t u e h = limited_from next t e ∙ chosen_too (leb t.calls 65536 && leb t.bytes 65536) t u next (sym h)
 
 pub limited_err : (next : Draft) (t : Totals) (kind : FaultKind) → totals_of next ≡ t → Err kind ≡ within_limits t →
-    limited next ≡ Err kind
+    draft_within_limits next ≡ Err kind
 limited_err next t kind e h = limited_from next t e ∙ refused_too (leb t.calls 65536 && leb t.bytes 65536) t kind next
     (sym h)

@@ -8,7 +8,7 @@ use Rattle.std.proofs.lemmas.Grind.{common_steps}
 use Rattle.std.proofs.Math.ListN.{length-set}
 use Rattle.std.proofs.lemmas.List.{length-map, length-replicate}
 use Rattle.rma_types.specs.declared.calls.Call.{Call as MpiCall}
-use Rattle.call_rules.specs.Layout.{calls_of, memory_of, IsWithinLimits}
+use Rattle.call_rules.specs.Layout.{call_count, memory_of, IsWithinLimits}
 use Rattle.call_rules.specs.WellFormed.{IsWrittenCall, IsWellFormed}
 use Rattle.script_language.specs.declared.drafts.Draft.{Draft}
 use Rattle.script_language.specs.declared.faults.FaultKind.TheVariants.{Limit}
@@ -16,8 +16,9 @@ use Rattle.script_language.specs.declared.fields.Fields.{Fields}
 use Rattle.script_language.specs.declared.forms.Form.{Form}
 use Rattle.script_language.specs.declared.forms.Form.TheVariants.{Ranks, Space, Rank, Repeat, End, Call}
 use Rattle.script_language.specs.Calls.{call_of}
-use Rattle.script_language.specs.Drafts.{no_lines, is_begun, is_in_repeat, may_stand, repeated, added_to, with_call}
-use Rattle.script_language.specs.Drafts.{with_line, script_of, is_within_limits, limited}
+use Rattle.script_language.specs.Drafts.{no_lines, is_begun, is_in_repeat, is_in_place, repeat_calls, added_to}
+use Rattle.script_language.specs.Drafts.{with_call}
+use Rattle.script_language.specs.Drafts.{with_line, script_of, is_within_limits, draft_within_limits}
 use Rattle.script_reader.specs.Sound.{IsSoundDraft, IsSoundLine}
 use Rattle.script_reader.proofs.Charging.{ok_from_if, both_true}
 use Rattle.script_reader.proofs.Growing.{length-added_to}
@@ -47,9 +48,10 @@ all_weaker P Q step [] all = tt
 all_weaker P Q step (x ∷ xs) all = (step x all.0, all_weaker P Q step xs all.1)
 
 all_repeated : (P : MpiCall → Type 0) (times : ℕ) (calls : List MpiCall) → AllByRecursion P calls →
-    AllByRecursion P (repeated times calls)
+    AllByRecursion P (repeat_calls times calls)
 all_repeated P zero calls all = tt
-all_repeated P (suc times) calls all = all_append P calls (repeated times calls) all (all_repeated P times calls all)
+all_repeated P (suc times) calls all = all_append P calls (repeat_calls times calls) all
+    (all_repeated P times calls all)
 
 all_added : (P : MpiCall → Type 0) (block : List ℕ) (added : List MpiCall) (lists : List (List MpiCall)) →
     AllByRecursion P added → AllByRecursion (AllByRecursion P) lists → AllByRecursion (AllByRecursion P)
@@ -63,13 +65,13 @@ all_added P (rank ∷ block) added lists more all =
 
 -- ---- a line
 
-limits_from : (next line : Draft) → limited line ≡ Ok next → (line ≡ next) × IsWithinLimits (script_of line)
+limits_from : (next line : Draft) → draft_within_limits line ≡ Ok next → (line ≡ next) × IsWithinLimits (script_of line)
 limits_from next line h =
     let g = ok_from_if (is_within_limits (script_of line)) line next Limit h in
-    let b = both_true (leb (calls_of (script_of line)) 65536) (leb (memory_of (script_of line)) 65536) g.0 in (
+    let b = both_true (leb (call_count (script_of line)) 65536) (leb (memory_of (script_of line)) 65536) g.0 in (
       g.1,
       record {
-        calls = leb-true (calls_of (script_of line)) 65536 b.0;
+        calls = leb-true (call_count (script_of line)) 65536 b.0;
         memory = leb-true
             (memory_of (script_of line)) 65536 b.1;
       },
@@ -116,7 +118,7 @@ call_kept draft call s written limits =
     ] limits
 
 -- the lines so far with a line more
-with_kept : (draft : Draft) (form : Form) (fields : Fields) → IsSoundDraft draft → may_stand draft form ≡ true →
+with_kept : (draft : Draft) (form : Form) (fields : Fields) → IsSoundDraft draft → is_in_place draft form ≡ true →
     IsSoundLine (bound draft) fields → IsWithinLimits (script_of (with_line draft form fields)) →
     IsSoundDraft (with_line draft form fields)
 with_kept draft Ranks fields s stands f l = record {
@@ -166,10 +168,10 @@ with_kept draft Repeat fields s stands f l = record {
 with_kept draft End fields s stands f l = record {
   few_ranks = s.few_ranks;
   spaces = s.spaces;
-  lists = length-added_to draft.block (repeated (unwrap_or draft.times 0) draft.inside) draft.calls ∙ s.lists;
+  lists = length-added_to draft.block (repeat_calls (unwrap_or draft.times 0) draft.inside) draft.calls ∙ s.lists;
   few_bytes = s.few_bytes;
   block = s.block;
-  calls = all_added IsWrittenCall draft.block (repeated (unwrap_or draft.times 0) draft.inside) draft.calls
+  calls = all_added IsWrittenCall draft.block (repeat_calls (unwrap_or draft.times 0) draft.inside) draft.calls
       (all_repeated IsWrittenCall (unwrap_or draft.times 0) draft.inside s.inside) s.calls;
   inside = tt;
   limits = l;
@@ -178,7 +180,8 @@ with_kept draft (Call form) fields s stands f l = call_kept draft (call_of form 
     (call_written (bound draft) form fields f) l
 
 pub line_kept : (draft next : Draft) (form : Form) (fields : Fields) → IsSoundDraft draft →
-    may_stand draft form ≡ true → IsSoundLine (bound draft) fields → limited (with_line draft form fields) ≡ Ok next →
+    is_in_place draft form ≡ true → IsSoundLine (bound draft) fields →
+    draft_within_limits (with_line draft form fields) ≡ Ok next →
     IsSoundDraft next
 line_kept draft next form fields s stands f h =
     let l = limits_from next (with_line draft form fields) h in

@@ -1,7 +1,7 @@
 -- The totals of the lines so far: their calls and their bytes of memory.
 use Rattle.std.specs.Prelude.{ℕ, ◌+◌, ◌*◌, ◌&&◌, nat_le, if◌then◌else◌, List, length, sum_by, Result, Ok, Err}
 use Rattle.rma_types.specs.declared.calls.Call.{Call}
-use Rattle.call_rules.specs.Layout.{calls_of, memory_of, call_bytes}
+use Rattle.call_rules.specs.Layout.{call_count, memory_of, call_bytes}
 use Rattle.script_language.specs.declared.drafts.Draft.{Draft}
 use Rattle.script_language.specs.declared.faults.FaultKind.{FaultKind}
 use Rattle.script_language.specs.declared.faults.FaultKind.TheVariants.{Limit}
@@ -9,7 +9,7 @@ use Rattle.script_language.specs.Drafts.{script_of}
 use Rattle.script_reader.specs.declared.totals.Totals.{Totals}
 
 abbrev pub totals_of : Draft → Totals
-totals_of draft = record { calls = calls_of (script_of draft); bytes = memory_of (script_of draft) }
+totals_of draft = record { calls = call_count (script_of draft); bytes = memory_of (script_of draft) }
 
 -- the totals are within their limits
 abbrev pub within_limits : Totals → Result Totals FaultKind

@@ -1,7 +1,7 @@
 //! Copies of calls, and lists that grow by them.
 ghost use Rattle.std.specs.Prelude.{◌≡◌, ◌<◌, ◌∷◌, ◌++◌, [], length, IfOk, OnOk};
 ghost use Rattle.std.specs.List.{AllByRecursion};
-ghost use Rattle.script_language.specs.Drafts.{repeated, added_to};
+ghost use Rattle.script_language.specs.Drafts.{repeat_calls, added_to};
 
 use rma_types::{Call, Items};
 use std::alloc::{AllocError, Global};
@@ -234,7 +234,7 @@ fn push_times(
     times: u32,
     calls: &[Call],
 ) -> Result<(), AllocError>
-    ensures { OnOk result (list.new ≡ list.old ++ repeated times calls.now) }
+    ensures { OnOk result (list.new ≡ list.old ++ repeat_calls times calls.now) }
 {
     for _ in 0..times {
         push_all(alloc, list, calls)?;
@@ -251,7 +251,7 @@ pub fn expand(
     calls: &[Call],
 ) -> Result<(), AllocError>
     requires { AllByRecursion (λ rank. rank < length lists.old.items) block.now }
-    ensures { OnOk result (lists.new.items ≡ added_to block.now (repeated times calls.now) lists.old.items) }
+    ensures { OnOk result (lists.new.items ≡ added_to block.now (repeat_calls times calls.now) lists.old.items) }
 {
     match block {
         [] => Ok(()),

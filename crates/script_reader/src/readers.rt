@@ -1,6 +1,7 @@
 //! The lines of a text, one after the other.
 ghost use Rattle.std.specs.Prelude.{◌≡◌, map, replicate, None, [], IfOk, OnOk, unwrap_or};
-ghost use Rattle.script_language.specs.Drafts.{no_lines, may_stand as stands, with_line, limited, finished};
+ghost use Rattle.script_language.specs.Drafts.{no_lines, is_in_place as stands, with_line};
+ghost use Rattle.script_language.specs.Drafts.{draft_within_limits, script_at_end};
 ghost use Rattle.script_language.specs.Lines.{tokens_of};
 ghost use Rattle.script_language.specs.Reading.{line_read};
 ghost use Rattle.script_reader.specs.Answers.{Does, Gives};
@@ -102,7 +103,7 @@ impl Reader {
     /// The number of ranks.
     fn add_ranks(&mut self, alloc: Global, fields: Fields) -> Result<(), ReadError>
         requires { IsCounted self.old }
-        ensures draft { Does result self.new.draft (limited (with_line self.old.draft Ranks fields)) }
+        ensures draft { Does result self.new.draft (draft_within_limits (with_line self.old.draft Ranks fields)) }
         ensures totals { OnOk result (HasTotals self.new) }
     {
         let spaces = no_spaces(alloc, fields.ranks)?;
@@ -118,7 +119,7 @@ impl Reader {
     fn add_space(&mut self, alloc: Global, fields: Fields) -> Result<(), ReadError>
         requires counted { IsCounted self.old }
         requires space { IsNewSpace self.old.draft fields }
-        ensures draft { Does result self.new.draft (limited (with_line self.old.draft Space fields)) }
+        ensures draft { Does result self.new.draft (draft_within_limits (with_line self.old.draft Space fields)) }
         ensures totals { OnOk result (HasTotals self.new) }
     {
         let totals = self.totals.with(1, 0, space_size(fields.room) as u64)?;
@@ -133,7 +134,7 @@ impl Reader {
     /// The end of a repeat.
     fn add_end(&mut self, alloc: Global, fields: Fields) -> Result<(), ReadError>
         requires { IsCounted self.old }
-        ensures draft { Does result self.new.draft (limited (with_line self.old.draft End fields)) }
+        ensures draft { Does result self.new.draft (draft_within_limits (with_line self.old.draft End fields)) }
         ensures totals { OnOk result (HasTotals self.new) }
     {
         let times = self.draft.times.unwrap_or(0);
@@ -158,7 +159,7 @@ impl Reader {
     /// A call.
     fn add_call(&mut self, alloc: Global, call: Call) -> Result<(), ReadError>
         requires { IsCounted self.old }
-        ensures draft { Does result self.new.draft (limited (with_call self.old.draft call)) }
+        ensures draft { Does result self.new.draft (draft_within_limits (with_call self.old.draft call)) }
         ensures totals { OnOk result (HasTotals self.new) }
     {
         if self.draft.times.is_some() {
@@ -179,7 +180,7 @@ impl Reader {
     fn add(&mut self, alloc: Global, form: Form, fields: Fields) -> Result<(), ReadError>
         requires counted { IsCounted self.old }
         requires space { form ≡ Space → IsNewSpace self.old.draft fields }
-        ensures draft { Does result self.new.draft (limited (with_line self.old.draft form fields)) }
+        ensures draft { Does result self.new.draft (draft_within_limits (with_line self.old.draft form fields)) }
         ensures totals { OnOk result (HasTotals self.new) }
     {
         match form {
@@ -218,7 +219,7 @@ impl Reader {
     /// The script, at the end of the text.
     pub fn end(self, alloc: Global) -> Result<Script, ReadError>
         requires { IsCounted self }
-        ensures script { Gives result (finished self.draft) }
+        ensures script { Gives result (script_at_end self.draft) }
         ensures well_formed { IfOk result IsWellFormed }
     {
         if self.draft.ranks == 0 || self.draft.times.is_some() {

@@ -1,6 +1,6 @@
 //! The totals of a script: its calls and its bytes of memory.
 ghost use Rattle.std.specs.Prelude.{◌≡◌, ◌≤◌, ◌<◌, ◌^◌, ◌+◌, ◌*◌, nat_le, if◌then◌else◌, length};
-ghost use Rattle.call_rules.specs.Layout.{rounded, call_bytes};
+ghost use Rattle.call_rules.specs.Layout.{round_up, call_bytes};
 ghost use Rattle.script_language.specs.declared.faults.FaultKind.TheVariants.{Limit};
 
 use rma_types::Call;
@@ -19,7 +19,7 @@ pub struct Totals {
 /// The bytes of a space, up to a multiple of 8.
 pub fn space_size(space: u32) -> u32
     requires { space ≤ 65536 }
-    ensures { result ≡ rounded space }
+    ensures { result ≡ round_up space }
 {
     8 * ((space + 7) / 8)
 }

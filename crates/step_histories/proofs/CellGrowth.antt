@@ -11,9 +11,9 @@ use Rattle.std.proofs.lemmas.List.Sums.{sum_by-append, sum_by-cons}
 use Rattle.call_rules.specs.declared.cells.Cell.{Cell}
 use Rattle.call_rules.specs.declared.elements.Change.{Change}
 use Rattle.call_rules.specs.Elements.{next}
-use Rattle.call_rules.specs.Touches.{empty_cell, cell_at, updated, cells_after}
+use Rattle.call_rules.specs.Touches.{empty_cell, cell_at, update_cell, cells_after}
 use Rattle.lawful_runs.specs.Accesses.{Touching, is_on_cell, is_update, on_cell, updates_in}
-use Rattle.lawful_runs.specs.Cells.{has_place, changed}
+use Rattle.lawful_runs.specs.Cells.{has_place, bits_after}
 use Rattle.rank_laws.proofs.Lists.{each_turned, each_append, each_front, each_back}
 use Rattle.rank_laws.specs.CellHistories.{ReadsValue, LeavesNext, IsHistoryOf}
 use Rattle.rank_laws.specs.Fronts.{Lows, AreAtMost}
@@ -98,7 +98,7 @@ one_more_place place count = elim (eqb_tells count place) [
 update_more : (values : ℕ → ℕ) (touches us vs : List Touching) (update : Touching) (cell : Cell) (change : Change) →
     IsKept values touches (us ++ vs) cell → Finds update cell → update.change ≡ Some change →
     IsKept (values_with values (suc (length (us ++ vs))) (next cell.bits change)) touches (us ++ update ∷ vs)
-    (updated cell change)
+    (update_cell cell change)
 update_more values touches us vs update cell change kept finds makes = record {
   first = values_before values (suc count) value 0 (omega arith) ∙ kept.first;
   places = λ place. count_within (has_place place) us update vs
@@ -118,7 +118,7 @@ update_more values touches us vs update cell change kept finds makes = record {
       }) touches kept.reads;
   changes = each_within (LeavesNext more) us update vs (old_changes (us ++ vs) kept.below kept.changes)
       (ap more (ap suc at) ∙ values_there values (suc count) value
-      ∙ sym (ap (changed update.bits) makes ∙ ap (λ b. next b change) finds.bits));
+      ∙ sym (ap (bits_after update.bits) makes ∙ ap (λ b. next b change) finds.bits));
   last = sym (ap more many ∙ values_there values (suc count) value);
   place = let same = kept.place in omega (arith, many);
 }
@@ -149,7 +149,7 @@ update_more values touches us vs update cell change kept finds makes = record {
 -- the cell after a touch
 abbrev pub after_change : Cell → Option Change → Cell
 after_change cell None = cell
-after_change cell (Some change) = updated cell change
+after_change cell (Some change) = update_cell cell change
 
 -- the cell of a touch goes on
 cell_more : (values : ℕ → ℕ) (xs ys : List Touching) (touch : Touching) (cell : Cell) →
@@ -167,7 +167,7 @@ cell_more values xs ys touch cell kept finds None e = (
 cell_more values xs ys touch cell kept finds (Some change) e = (
   values_with values (suc (length (updates_in xs ++ updates_in ys))) (next cell.bits change),
   subst (λ us. IsKept (values_with values (suc (length (updates_in xs ++ updates_in ys))) (next cell.bits change))
-      (xs ++ touch ∷ ys) us (updated cell change))
+      (xs ++ touch ∷ ys) us (update_cell cell change))
       (ap (λ b. updates_in xs ++ cond b (touch ∷ updates_in ys) (updates_in ys)) (sym (ap is_some e))
       ∙ sym (filter-append is_update xs (touch ∷ ys)))
       (update_more values (xs ++ touch ∷ ys) (updates_in xs) (updates_in ys) touch cell change
@@ -199,19 +199,20 @@ pub record AreRecorded (touches : List Touching) (cells : List Cell) : Type 0 wh
 pub length_after : (cells : List Cell) (cell : ℕ) (o : Option Change) →
     length (cells_after cells cell o) ≡ length cells
 length_after cells cell None = refl
-length_after cells cell (Some change) = length-set cells cell (updated (cell_at cells cell) change)
+length_after cells cell (Some change) = length-set cells cell (update_cell (cell_at cells cell) change)
 
 pub cell_after : (cells : List Cell) (cell : ℕ) (o : Option Change) → cell < length cells →
     cell_at (cells_after cells cell o) cell ≡ after_change (cell_at cells cell) o
 cell_after cells cell None inside = refl
-cell_after cells cell (Some change) inside = get_or-set_same cells cell (updated (cell_at cells cell) change) empty_cell
+cell_after cells cell (Some change) inside =
+    get_or-set_same cells cell (update_cell (cell_at cells cell) change) empty_cell
     inside
 
 pub other_after : (cells : List Cell) (cell other : ℕ) (o : Option Change) → (other ≡ cell → ⊥) →
     cell_at (cells_after cells cell o) other ≡ cell_at cells other
 other_after cells cell other None apart = refl
 other_after cells cell other (Some change) apart =
-    get_or-set_other cells cell other (updated (cell_at cells cell) change) empty_cell apart
+    get_or-set_other cells cell other (update_cell (cell_at cells cell) change) empty_cell apart
 
 recorded_one : (xs ys : List Touching) (touch : Touching) (cells : List Cell) → AreRecorded (xs ++ ys) cells →
     IsMadeOn touch cells → AreRecorded (xs ++ touch ∷ ys) (cells_after cells touch.cell touch.change)
@@ -332,7 +333,8 @@ set_rises (one ∷ cells) (suc at) cell h (suc other) = set_rises cells at cell 
 pub places_rise : (cells : List Cell) (cell : ℕ) (o : Option Change) →
     AreAtMost (places_of cells) (places_of (cells_after cells cell o))
 places_rise cells cell None other = omega arith
-places_rise cells cell (Some change) other = set_rises cells cell (updated (cell_at cells cell) change) (omega arith)
+places_rise cells cell (Some change) other =
+    set_rises cells cell (update_cell (cell_at cells cell) change) (omega arith)
     other
 
 pub made_rise : (new : List Touching) (cells now : List Cell) → AreMade new cells now →

@@ -18,7 +18,7 @@ use Rattle.lawful_runs.specs.Accesses.{transfer_at}
 use Rattle.lawful_runs.specs.Items.{is_touch}
 use Rattle.lawful_runs.specs.Logs.{Named, named_from, named_in}
 use Rattle.lawful_runs.specs.Stages.{Stage, calls_at}
-use Rattle.lawful_runs.specs.TouchLaw.{issue_of, issues_touched}
+use Rattle.lawful_runs.specs.TouchLaw.{issue_touched, issues_touched}
 use Rattle.rank_laws.proofs.CellOrder.{named_joined}
 use Rattle.rank_laws.proofs.Lists.{each_turned, each_append, each_front, each_back, get_rest}
 use Rattle.rank_laws.proofs.Touching.{IsTouchOf, issues_joined, issues_plain, issues_of_touches, issued_front}
@@ -43,7 +43,7 @@ pub record HasIssues (stage : Stage) (rank : ℕ) (agent : Agent) : Type 0 where
 
 -- a touch is the same in a longer log
 touching_still : (memory : Layout) (calls : List Call) (log more : List Item) (id : Id) (item : Item) →
-    AllByRecursion (λ n. n < length log) (issue_of item) →
+    AllByRecursion (λ n. n < length log) (issue_touched item) →
     touching_by memory calls (log ++ more) id item ≡ touching_by memory calls log id item
 touching_still memory calls log more id (Touch issue element cell place bits) below =
     ap (λ (o : Option PendingAccess). (let touch : Touching = record {
@@ -73,9 +73,9 @@ among_still memory calls log more rank index (item ∷ items) below =
     let P : ℕ → Type 0 = λ n. n < length log in
     let id : Id = record { rank = rank; index = index } in
     let first = touching_still memory calls log more id item
-    (each_front P (issue_of item) (issues_touched items) below) in
+    (each_front P (issue_touched item) (issues_touched items) below) in
     let rest = among_still memory calls log more rank (index + 1) items
-    (each_back P (issue_of item) (issues_touched items) below) in
+    (each_back P (issue_touched item) (issues_touched items) below) in
     ap (λ front. front ++ touches_among memory calls (log ++ more) (named_from rank (index + 1) items)) first
     ∙ ap (λ back. touching_by memory calls log id item ++ back) rest
 

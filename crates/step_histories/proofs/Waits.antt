@@ -13,18 +13,19 @@ use Rattle.lawful_runs.specs.Stages.{Stage}
 use Rattle.rank_laws.proofs.CallKinds.{moves_nothing}
 use Rattle.rank_rules.specs.Courses.{Course, OneNull, OneIssue, LookUpAndIssue, OneFlush, OneRequest, ArriveAndLeave}
 use Rattle.rank_rules.specs.Courses.{EntryOrTested, OneEntry, course_of}
-use Rattle.step_runs.specs.Agents.{Agent, next_call, finished, opened, begins_with_entry, tries_entry}
-use Rattle.step_runs.specs.BoardSteps.{AtBoard, next_row, waiting, entered, enter_by, test_by, leave, leave_if_entered}
+use Rattle.step_runs.specs.Agents.{Agent, next_call, end_call, enter_call, begins_with_entry, tries_entry}
+use Rattle.step_runs.specs.BoardSteps.{AtBoard, next_row, stay_waiting, put_entry, enter_by, test_by, leave}
+use Rattle.step_runs.specs.BoardSteps.{leave_if_entered}
 use Rattle.step_runs.specs.BoardSteps.{first_entry, entry_of, board_step}
 
 -- the rank tries an entry, which is not yet possible after the rows
 abbrev pub IsStuck : Stage → Agent → List Row → Type 0
-IsStuck stage agent rows = (tries_entry stage agent ≡ true) × (board_step stage agent rows ≡ waiting agent rows)
+IsStuck stage agent rows = (tries_entry stage agent ≡ true) × (board_step stage agent rows ≡ stay_waiting agent rows)
 
 -- a step after which the rank waits did nothing, or left the rank stuck
 abbrev Sticks : Stage → Agent → List Row → AtBoard → Type 0
 Sticks stage agent rows step =
-    step.waits ≡ true → (step ≡ waiting agent rows) ⊎ IsStuck stage step.agent step.rows
+    step.waits ≡ true → (step ≡ stay_waiting agent rows) ⊎ IsStuck stage step.agent step.rows
 
 enter_sticks : (d : Decision) (stage : Stage) (agent : Agent) (rows : List Row) (call : Call) (step : Step)
     (after : Agent → Agent) → Sticks stage agent rows (enter_by d stage agent rows call step after)
@@ -40,35 +41,35 @@ test_sticks NotYet stage agent rows call waits = absurd (cc waits)
 
 -- a rank inside a collective call is stuck there until all have arrived
 inside_stuck : (stage : Stage) (agent : Agent) (rows : List Row) (call : Call) → next_call stage agent ≡ Some call →
-    agent.entered ≡ true → transfer_of call ≡ None → leave stage agent rows call ≡ waiting agent rows →
+    agent.entered ≡ true → transfer_of call ≡ None → leave stage agent rows call ≡ stay_waiting agent rows →
     IsStuck stage agent rows
 inside_stuck stage agent rows call here inside none waits = (
   ap (λ (o : Option Call). option_map_or (λ c. cond agent.entered (is_none (transfer_of c))
       (begins_with_entry stage agent c)) o false) here
       ∙ ap (λ b. cond b (is_none (transfer_of call)) (begins_with_entry stage agent call)) inside ∙ ap is_none none,
-  ap (λ (o : Option Call). option_map_or (entry_of stage agent rows) o (waiting agent rows)) here
+  ap (λ (o : Option Call). option_map_or (entry_of stage agent rows) o (stay_waiting agent rows)) here
       ∙ ap (λ b. cond b (leave stage agent rows call)
       (first_entry (course_of agent.known.windows call) stage agent rows call)) inside ∙ waits,
 )
 
 arrive_sticks : (d : Decision) (stage : Stage) (agent : Agent) (rows : List Row) (call : Call) →
     next_call stage agent ≡ Some call → agent.entered ≡ false → transfer_of call ≡ None →
-    Sticks stage agent rows (leave_if_entered stage call (enter_by d stage agent rows call Arrive opened))
+    Sticks stage agent rows (leave_if_entered stage call (enter_by d stage agent rows call Arrive enter_call))
 arrive_sticks (Refuse class) stage agent rows call here new none = λ waits. absurd (cc waits)
 arrive_sticks NotYet stage agent rows call here new none = λ waits.
-    inl (ap (λ b. cond b (leave stage agent rows call) (waiting agent rows)) new)
+    inl (ap (λ b. cond b (leave stage agent rows call) (stay_waiting agent rows)) new)
 arrive_sticks Allow stage agent rows call here new none = by_leave
     (decide stage.script.ranks arrived.rows (next_row arrived.agent call Leave)) refl
   where
     arrived : AtBoard
-    arrived = entered stage agent rows call Arrive opened
+    arrived = put_entry stage agent rows call Arrive enter_call
 
     by_leave : (d : Decision) → decide stage.script.ranks arrived.rows (next_row arrived.agent call Leave) ≡ d →
-        Sticks stage agent rows (enter_by d stage arrived.agent arrived.rows call Leave finished)
+        Sticks stage agent rows (enter_by d stage arrived.agent arrived.rows call Leave end_call)
     by_leave (Refuse class) is waits = absurd (cc waits)
     by_leave Allow is waits = absurd (cc waits)
     by_leave NotYet is waits = inr (inside_stuck stage arrived.agent arrived.rows call here refl none
-        (ap (λ d. enter_by d stage arrived.agent arrived.rows call Leave finished) is))
+        (ap (λ d. enter_by d stage arrived.agent arrived.rows call Leave end_call) is))
 
 first_sticks : (course : Course) (stage : Stage) (agent : Agent) (rows : List Row) (call : Call) →
     course_of agent.known.windows call ≡ course → next_call stage agent ≡ Some call → agent.entered ≡ false →
@@ -76,7 +77,7 @@ first_sticks : (course : Course) (stage : Stage) (agent : Agent) (rows : List Ro
 first_sticks OneNull stage agent rows call is here new = λ waits. inl refl
 first_sticks OneIssue stage agent rows call is here new = λ waits. inl refl
 first_sticks LookUpAndIssue stage agent rows call is here new =
-    enter_sticks (decide stage.script.ranks rows (next_row agent call One)) stage agent rows call One opened
+    enter_sticks (decide stage.script.ranks rows (next_row agent call One)) stage agent rows call One enter_call
 first_sticks OneFlush stage agent rows call is here new = λ waits. inl refl
 first_sticks OneRequest stage agent rows call is here new = λ waits. inl refl
 first_sticks ArriveAndLeave stage agent rows call is here new =
@@ -85,7 +86,7 @@ first_sticks ArriveAndLeave stage agent rows call is here new =
 first_sticks EntryOrTested stage agent rows call is here new =
     test_sticks (decide stage.script.ranks rows (next_row agent call One)) stage agent rows call
 first_sticks OneEntry stage agent rows call is here new =
-    enter_sticks (decide stage.script.ranks rows (next_row agent call One)) stage agent rows call One finished
+    enter_sticks (decide stage.script.ranks rows (next_row agent call One)) stage agent rows call One end_call
 
 step_sticks : (stage : Stage) (agent : Agent) (rows : List Row) → Sticks stage agent rows (board_step stage agent rows)
 step_sticks stage agent rows = by_call (next_call stage agent) refl
@@ -94,11 +95,11 @@ step_sticks stage agent rows = by_call (next_call stage agent) refl
         Sticks stage agent rows (cond b (leave stage agent rows call)
         (first_entry (course_of agent.known.windows call) stage agent rows call))
     by_entered call here true e =
-        enter_sticks (decide stage.script.ranks rows (next_row agent call Leave)) stage agent rows call Leave finished
+        enter_sticks (decide stage.script.ranks rows (next_row agent call Leave)) stage agent rows call Leave end_call
     by_entered call here false e = first_sticks (course_of agent.known.windows call) stage agent rows call refl here e
 
     by_call : (o : Option Call) → next_call stage agent ≡ o →
-        Sticks stage agent rows (option_map_or (entry_of stage agent rows) o (waiting agent rows))
+        Sticks stage agent rows (option_map_or (entry_of stage agent rows) o (stay_waiting agent rows))
     by_call None here = λ waits. inl refl
     by_call (Some call) here = by_entered call here agent.entered refl
 

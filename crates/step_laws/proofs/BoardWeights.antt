@@ -14,33 +14,35 @@ use Rattle.board_rules.specs.Entries.{Row}
 use Rattle.lawful_runs.specs.Stages.{Stage, shapes_in}
 use Rattle.rank_rules.specs.Courses.{Course, OneNull, OneIssue, LookUpAndIssue, OneFlush, OneRequest, ArriveAndLeave}
 use Rattle.rank_rules.specs.Courses.{EntryOrTested, OneEntry, course_of}
-use Rattle.step_runs.specs.Agents.{Agent, next_call, kept, finished, opened}
-use Rattle.step_runs.specs.BoardSteps.{AtBoard, next_row, waiting, entered, refused, turned_away, enter_by, enter}
+use Rattle.step_runs.specs.Agents.{Agent, next_call, keep_item, end_call, enter_call}
+use Rattle.step_runs.specs.BoardSteps.{AtBoard, next_row, stay_waiting, put_entry, refuse_entry, turn_away, enter_by}
+use Rattle.step_runs.specs.BoardSteps.{enter}
 use Rattle.step_runs.specs.BoardSteps.{test_by, test, leave, leave_if_entered, arrive, first_entry, entry_of}
 use Rattle.step_runs.specs.BoardSteps.{board_step}
 use Rattle.step_laws.proofs.Weights.{weight_of, FallsFar, IsFinished, finished_falls, opened_falls}
 
 -- a rank waits, or less is left of it
 abbrev pub WaitsOrFalls : Stage → Agent → List Row → AtBoard → Type 0
-WaitsOrFalls stage agent rows step = (step ≡ waiting agent rows) ⊎ FallsFar stage agent step.agent
+WaitsOrFalls stage agent rows step = (step ≡ stay_waiting agent rows) ⊎ FallsFar stage agent step.agent
 
 kept_finished : (shapes : ℕ → List Part) (stage : Stage) (agent : Agent) (call : Call) (item : Item) →
     next_call stage agent ≡ Some call →
-    FallsFar stage agent (finished (kept shapes stage agent item))
+    FallsFar stage agent (end_call (keep_item shapes stage agent item))
 kept_finished shapes stage agent call item here =
-    finished_falls stage agent (finished (kept shapes stage agent item)) call here
+    finished_falls stage agent (end_call (keep_item shapes stage agent item)) call here
     (record { rank = refl; at = refl; entered = refl; drawn = refl; ended = refl }) refl
 
 kept_opened : (shapes : ℕ → List Part) (stage : Stage) (agent : Agent) (call : Call) (item : Item) →
     next_call stage agent ≡ Some call → agent.entered ≡ false →
-    FallsFar stage agent (opened (kept shapes stage agent item))
+    FallsFar stage agent (enter_call (keep_item shapes stage agent item))
 kept_opened shapes stage agent call item here new =
-    opened_falls stage agent (opened (kept shapes stage agent item)) call here new refl refl refl refl refl refl
+    opened_falls stage agent (enter_call (keep_item shapes stage agent item)) call here new refl refl refl refl refl
+    refl
 
 -- after an entry less is left
 abbrev pub GoesOnLower : Stage → Agent → (Agent → Agent) → Type 0
 GoesOnLower stage agent after = (shapes : ℕ → List Part) (item : Item) →
-    FallsFar stage agent (after (kept shapes stage agent item))
+    FallsFar stage agent (after (keep_item shapes stage agent item))
 
 enter_falls : (d : Decision) (stage : Stage) (agent : Agent) (rows : List Row) (call : Call) (step : Step)
     (after : Agent → Agent) → next_call stage agent ≡ Some call →
@@ -54,7 +56,7 @@ enter_falls NotYet stage agent rows call step after here lower = inl refl
 leave_falls : (stage : Stage) (agent : Agent) (rows : List Row) (call : Call) → next_call stage agent ≡ Some call →
     WaitsOrFalls stage agent rows (leave stage agent rows call)
 leave_falls stage agent rows call here =
-    enter_falls (decide stage.script.ranks rows (next_row agent call Leave)) stage agent rows call Leave finished here
+    enter_falls (decide stage.script.ranks rows (next_row agent call Leave)) stage agent rows call Leave end_call here
     (λ shapes item. kept_finished shapes stage agent call item here)
 
 far : (a b c : ℕ) → a + 16 < b → b + 16 < c → a + 16 < c
@@ -62,13 +64,13 @@ far a b c h k = omega arith
 
 arrive_falls : (d : Decision) (stage : Stage) (agent : Agent) (rows : List Row) (call : Call) →
     next_call stage agent ≡ Some call → agent.entered ≡ false →
-    WaitsOrFalls stage agent rows (leave_if_entered stage call (enter_by d stage agent rows call Arrive opened))
+    WaitsOrFalls stage agent rows (leave_if_entered stage call (enter_by d stage agent rows call Arrive enter_call))
 arrive_falls (Refuse class) stage agent rows call here new =
     inr (kept_finished (shapes_in stage rows) stage agent call (Refused agent.at class (length rows)) here)
 arrive_falls Allow stage agent rows call here new = by_leave (leave_falls stage arrived.agent arrived.rows call here)
   where
     arrived : AtBoard
-    arrived = enter_by Allow stage agent rows call Arrive opened
+    arrived = enter_by Allow stage agent rows call Arrive enter_call
 
     opens : FallsFar stage agent arrived.agent
     opens = kept_opened (shapes_in stage arrived.rows) stage agent call (Entry agent.at (length rows) Arrive) here new
@@ -80,7 +82,7 @@ arrive_falls Allow stage agent rows call here new = by_leave (leave_falls stage 
         (far (weight_of stage (leave stage arrived.agent arrived.rows call).agent) (weight_of stage arrived.agent)
         (weight_of stage agent) falls opens)
 arrive_falls NotYet stage agent rows call here new =
-    inl (ap (λ b. cond b (leave stage agent rows call) (waiting agent rows)) new)
+    inl (ap (λ b. cond b (leave stage agent rows call) (stay_waiting agent rows)) new)
 
 test_falls : (d : Decision) (stage : Stage) (agent : Agent) (rows : List Row) (call : Call) →
     next_call stage agent ≡ Some call →
@@ -99,7 +101,7 @@ first_falls : (course : Course) (stage : Stage) (agent : Agent) (rows : List Row
 first_falls OneNull stage agent rows call here new = inl refl
 first_falls OneIssue stage agent rows call here new = inl refl
 first_falls LookUpAndIssue stage agent rows call here new =
-    enter_falls (decide stage.script.ranks rows (next_row agent call One)) stage agent rows call One opened here
+    enter_falls (decide stage.script.ranks rows (next_row agent call One)) stage agent rows call One enter_call here
     (λ shapes item. kept_opened shapes stage agent call item here new)
 first_falls OneFlush stage agent rows call here new = inl refl
 first_falls OneRequest stage agent rows call here new = inl refl
@@ -108,7 +110,7 @@ first_falls ArriveAndLeave stage agent rows call here new =
 first_falls EntryOrTested stage agent rows call here new =
     test_falls (decide stage.script.ranks rows (next_row agent call One)) stage agent rows call here
 first_falls OneEntry stage agent rows call here new =
-    enter_falls (decide stage.script.ranks rows (next_row agent call One)) stage agent rows call One finished here
+    enter_falls (decide stage.script.ranks rows (next_row agent call One)) stage agent rows call One end_call here
     (λ shapes item. kept_finished shapes stage agent call item here)
 
 entry_falls : (stage : Stage) (agent : Agent) (rows : List Row) (call : Call) → next_call stage agent ≡ Some call →
@@ -127,6 +129,6 @@ pub board_step_falls : (stage : Stage) (agent : Agent) (rows : List Row) →
 board_step_falls stage agent rows = by_call (next_call stage agent) refl
   where
     by_call : (o : Option Call) → next_call stage agent ≡ o →
-        WaitsOrFalls stage agent rows (option_map_or (entry_of stage agent rows) o (waiting agent rows))
+        WaitsOrFalls stage agent rows (option_map_or (entry_of stage agent rows) o (stay_waiting agent rows))
     by_call None e = inl refl
     by_call (Some call) e = entry_falls stage agent rows call e

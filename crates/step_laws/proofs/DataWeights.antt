@@ -17,7 +17,7 @@ use Rattle.rank_rules.specs.Courses.{Course, OneNull, OneIssue, LookUpAndIssue, 
 use Rattle.rank_rules.specs.Courses.{EntryOrTested, OneEntry, course_of, has_entry, access_of}
 use Rattle.rank_rules.specs.Knowledge.{Knowledge, own_class}
 use Rattle.rank_rules.specs.declared.pending.PendingAccess.{PendingAccess}
-use Rattle.step_runs.specs.Agents.{Agent, next_call, kept, finished, has_pending, is_seeded, must_draw, awaited_by}
+use Rattle.step_runs.specs.Agents.{Agent, next_call, keep_item, end_call, has_pending, is_seeded, must_draw, awaited_by}
 use Rattle.step_runs.specs.Agents.{begins_with_entry, tries_entry}
 use Rattle.step_runs.specs.DataSteps.{OnMemory, with_delivery, deliver, Move, just_delivers, without_delivery}
 use Rattle.step_runs.specs.DataSteps.{no_shapes, with_item, made_pending, with_issue, issue_of, issue, draw, first_item}
@@ -165,7 +165,7 @@ goes_on stage agent call begun here tries = by_entered agent.entered refl tries
 
 -- the rank ends
 abbrev pub ended_now : Stage → Agent → Agent
-ended_now stage agent = record (kept no_shapes stage agent Ended) { ended = true }
+ended_now stage agent = record (keep_item no_shapes stage agent Ended) { ended = true }
 
 some_pending : (n : ℕ) → (n == 0) ≡ false → 0 < n
 some_pending zero e = absurd (cc e)

@@ -11,7 +11,7 @@ use Rattle.call_rules.specs.Pieces.{numbers_from}
 use Rattle.call_rules.specs.Ranks.{is_member}
 use Rattle.lawful_runs.specs.Stages.{Stage, calls_at}
 use Rattle.step_runs.specs.Agents.{Agent, new_agent, tries_entry}
-use Rattle.step_runs.specs.BoardSteps.{AtBoard, board_step, waiting}
+use Rattle.step_runs.specs.BoardSteps.{AtBoard, board_step, stay_waiting}
 use Rattle.step_runs.specs.DataSteps.{data_step}
 use Rattle.step_runs.specs.Schedules.{Schedule, pick, after_board}
 use Rattle.step_runs.specs.StepRun.{World, agent_at, turn_at_board, turn_on_memory, turn, is_ready, picked_turn}
@@ -94,11 +94,11 @@ changed_sum stage world rank agent inside = sum_by-set (weight_of stage) world.a
 -- a rank waits, and nothing else changes
 waits_lowers : (stage : Stage) (world : World) (rank : ℕ) → rank < length world.agents → rank < stage.script.ranks →
     is_member rank world.schedule.waiting ≡ false →
-    left_in stage (turn_at_board world rank (waiting (agent_at stage world rank) world.rows)) < left_in stage world
+    left_in stage (turn_at_board world rank (stay_waiting (agent_at stage world rank) world.rows)) < left_in stage world
 waits_lowers stage world rank inside few new =
     lower (sum_by (weight_of stage) (slice_set world.agents rank (agent_at stage world rank)))
     (sum_by (weight_of stage) world.agents) (weight_of stage (agent_at stage world rank))
-    (awake (turn_at_board world rank (waiting (agent_at stage world rank) world.rows)).schedule.waiting 0
+    (awake (turn_at_board world rank (stay_waiting (agent_at stage world rank) world.rows)).schedule.waiting 0
     stage.script.ranks)
     (awake (rank ∷ world.schedule.waiting) 0 stage.script.ranks) (awake world.schedule.waiting 0 stage.script.ranks)
     (changed_sum stage world rank (agent_at stage world rank) inside)
@@ -137,7 +137,7 @@ board_lowers stage world rank regular few may = by_step (board_step_falls stage 
     inside : rank < length world.agents
     inside = subst (λ n. rank < n) (sym regular.ranks) may.0
 
-    by_step : ((board_step stage agent world.rows ≡ waiting agent world.rows) ⊎ FallsFar stage agent
+    by_step : ((board_step stage agent world.rows ≡ stay_waiting agent world.rows) ⊎ FallsFar stage agent
         (board_step stage agent world.rows).agent) →
         left_in stage (turn_at_board world rank (board_step stage agent world.rows)) < left_in stage world
     by_step (inl waits) = subst

@@ -22,9 +22,11 @@ use Rattle.rank_rules.specs.Courses.{Course, OneNull, OneIssue, LookUpAndIssue, 
 use Rattle.rank_rules.specs.Courses.{EntryOrTested, OneEntry, course_of, has_entry}
 use Rattle.rank_rules.specs.Knowledge.{Knowledge, own_class, ends_call, known_after_number, learn}
 use Rattle.rank_rules.specs.Windows.{RankWindows}
-use Rattle.step_runs.specs.Agents.{Agent, next_call, kept, finished, opened, must_draw, awaited_by, begins_with_entry}
+use Rattle.step_runs.specs.Agents.{Agent, next_call, keep_item, end_call, enter_call, must_draw, awaited_by}
+use Rattle.step_runs.specs.Agents.{begins_with_entry}
 use Rattle.step_runs.specs.Agents.{tries_entry}
-use Rattle.step_runs.specs.BoardSteps.{AtBoard, next_row, waiting, entered, refused, turned_away, enter_by, enter}
+use Rattle.step_runs.specs.BoardSteps.{AtBoard, next_row, stay_waiting, put_entry, refuse_entry, turn_away, enter_by}
+use Rattle.step_runs.specs.BoardSteps.{enter}
 use Rattle.step_runs.specs.BoardSteps.{test_by, test, leave, leave_if_entered, arrive, first_entry, entry_of}
 use Rattle.step_runs.specs.BoardSteps.{board_step}
 use Rattle.step_laws.proofs.OwnTests.{HasIssue, transfer_with_issue}
@@ -68,7 +70,7 @@ pub record IsAllowedEntry (stage : Stage) (agent : Agent) (rows : List Row) (cal
 -- the rank keeps the entry
 abbrev pub with_entry : Stage → Agent → List Row → Call → Step → Agent
 with_entry stage agent rows call step =
-    kept (shapes_in stage (rows ++ next_row agent call step ∷ [])) stage agent (Entry agent.at (length rows) step)
+    keep_item (shapes_in stage (rows ++ next_row agent call step ∷ [])) stage agent (Entry agent.at (length rows) step)
 
 -- a refusal by the board, or a false test
 pub data IsTurnedAway (agent : Agent) (rows : List Row) (item : Item) : Type 0 where
@@ -84,22 +86,23 @@ with_row agent rows call step = rows ++ next_row agent call step ∷ []
 pub data EntryMove (stage : Stage) (agent : Agent) (rows : List Row) (next : Agent) (now : List Row) : Type 0 where
   TurnsAway : (call : Call) (item : Item) → next_call stage agent ≡ Some call → agent.entered ≡ false →
       IsTurnedAway agent rows item →
-      next ≡ finished (kept (shapes_in stage rows) stage agent item) → now ≡ rows → EntryMove stage agent rows next now
+      next ≡ end_call (keep_item (shapes_in stage rows) stage agent item) → now ≡ rows →
+      EntryMove stage agent rows next now
   Arrives : (call : Call) → IsAllowedEntry stage agent rows call Arrive → agent.entered ≡ false →
       course_of agent.known.windows call ≡ ArriveAndLeave →
-      next ≡ opened (with_entry stage agent rows call Arrive) → now ≡ with_row agent rows call Arrive →
+      next ≡ enter_call (with_entry stage agent rows call Arrive) → now ≡ with_row agent rows call Arrive →
       EntryMove stage agent rows next now
   LooksUp : (call : Call) → IsAllowedEntry stage agent rows call One → agent.entered ≡ false →
       course_of agent.known.windows call ≡ LookUpAndIssue →
-      next ≡ opened (with_entry stage agent rows call One) → now ≡ with_row agent rows call One →
+      next ≡ enter_call (with_entry stage agent rows call One) → now ≡ with_row agent rows call One →
       EntryMove stage agent rows next now
   Leaves : (call : Call) → IsAllowedEntry stage agent rows call Leave → agent.entered ≡ true →
       course_of agent.known.windows call ≡ ArriveAndLeave →
-      next ≡ finished (with_entry stage agent rows call Leave) → now ≡ with_row agent rows call Leave →
+      next ≡ end_call (with_entry stage agent rows call Leave) → now ≡ with_row agent rows call Leave →
       EntryMove stage agent rows next now
   EntersOnce : (call : Call) → IsAllowedEntry stage agent rows call One → agent.entered ≡ false →
       IsOneEntry (course_of agent.known.windows call) →
-      next ≡ finished (with_entry stage agent rows call One) → now ≡ with_row agent rows call One →
+      next ≡ end_call (with_entry stage agent rows call One) → now ≡ with_row agent rows call One →
       EntryMove stage agent rows next now
 
 -- a step of a rank at the board: no move, one, or two
@@ -148,7 +151,7 @@ leave_moves : (d : Decision) (stage : Stage) (agent : Agent) (rows : List Row) (
     decide stage.script.ranks rows (next_row agent call Leave) ≡ d →
     next_call stage agent ≡ Some call → agent.entered ≡ true → own_class agent.known call ≡ None →
     course_of agent.known.windows call ≡ ArriveAndLeave →
-    IsMovedTo stage agent rows (enter_by d stage agent rows call Leave finished)
+    IsMovedTo stage agent rows (enter_by d stage agent rows call Leave end_call)
 leave_moves (Refuse class) stage agent rows call is here inside own course = absurd
     (never_refused (all_arrived (question stage.script.ranks rows (next_row agent call Leave))) class is)
 leave_moves Allow stage agent rows call is here inside own course = OneMove
@@ -159,7 +162,7 @@ arrive_moves : (d : Decision) (stage : Stage) (agent : Agent) (rows : List Row) 
     decide stage.script.ranks rows (next_row agent call Arrive) ≡ d →
     next_call stage agent ≡ Some call → agent.entered ≡ false → own_class agent.known call ≡ None →
     course_of agent.known.windows call ≡ ArriveAndLeave →
-    IsMovedTo stage agent rows (leave_if_entered stage call (enter_by d stage agent rows call Arrive opened))
+    IsMovedTo stage agent rows (leave_if_entered stage call (enter_by d stage agent rows call Arrive enter_call))
 arrive_moves (Refuse class) stage agent rows call is here new own course = OneMove
     (TurnsAway call (Refused agent.at class (length rows)) here new (ByRefusal class refl) refl refl)
 arrive_moves Allow stage agent rows call is here new own course = by_leave
@@ -169,7 +172,7 @@ arrive_moves Allow stage agent rows call is here new own course = by_leave
     now = rows ++ next_row agent call Arrive ∷ []
 
     middle : Agent
-    middle = opened (with_entry stage agent rows call Arrive)
+    middle = enter_call (with_entry stage agent rows call Arrive)
 
     first : EntryMove stage agent rows middle now
     first = Arrives call (record { here = here; own = own; allowed = is }) new course refl refl
@@ -178,7 +181,7 @@ arrive_moves Allow stage agent rows call is here new own course = by_leave
     same = known_stays stage agent rows call Arrive here refl
 
     by_leave : (d : Decision) → decide stage.script.ranks now (next_row middle call Leave) ≡ d →
-        IsMovedTo stage agent rows (enter_by d stage middle now call Leave finished)
+        IsMovedTo stage agent rows (enter_by d stage middle now call Leave end_call)
     by_leave (Refuse class) e = absurd
         (never_refused (all_arrived (question stage.script.ranks now (next_row middle call Leave))) class e)
     by_leave Allow e = TwoMoves middle now first (Leaves call
@@ -186,7 +189,8 @@ arrive_moves Allow stage agent rows call is here new own course = by_leave
         (ap (λ (k : Knowledge). course_of k.windows call) same ∙ course) refl refl)
     by_leave NotYet e = OneMove first
 arrive_moves NotYet stage agent rows call is here new own course =
-    subst (IsMovedTo stage agent rows) (sym (ap (λ b. cond b (leave stage agent rows call) (waiting agent rows)) new))
+    subst (IsMovedTo stage agent rows) (sym (ap (λ b. cond b (leave stage agent rows call) (stay_waiting agent rows))
+    new))
     (Stays refl refl)
 
 test_moves : (d : Decision) (stage : Stage) (agent : Agent) (rows : List Row) (call : Call) →
@@ -205,7 +209,7 @@ once_moves : (d : Decision) (stage : Stage) (agent : Agent) (rows : List Row) (c
     decide stage.script.ranks rows (next_row agent call One) ≡ d →
     next_call stage agent ≡ Some call → agent.entered ≡ false → own_class agent.known call ≡ None →
     IsOneEntry (course_of agent.known.windows call) →
-    IsMovedTo stage agent rows (enter_by d stage agent rows call One finished)
+    IsMovedTo stage agent rows (enter_by d stage agent rows call One end_call)
 once_moves (Refuse class) stage agent rows call is here new own course = OneMove
     (TurnsAway call (Refused agent.at class (length rows)) here new (ByRefusal class refl) refl refl)
 once_moves Allow stage agent rows call is here new own course = OneMove
@@ -216,7 +220,7 @@ look_moves : (d : Decision) (stage : Stage) (agent : Agent) (rows : List Row) (c
     decide stage.script.ranks rows (next_row agent call One) ≡ d →
     next_call stage agent ≡ Some call → agent.entered ≡ false → own_class agent.known call ≡ None →
     course_of agent.known.windows call ≡ LookUpAndIssue →
-    IsMovedTo stage agent rows (enter_by d stage agent rows call One opened)
+    IsMovedTo stage agent rows (enter_by d stage agent rows call One enter_call)
 look_moves (Refuse class) stage agent rows call is here new own course = OneMove
     (TurnsAway call (Refused agent.at class (length rows)) here new (ByRefusal class refl) refl refl)
 look_moves Allow stage agent rows call is here new own course = OneMove
@@ -294,7 +298,7 @@ board_step_moves stage agent rows begun tries = by_call (next_call stage agent) 
     by_call : (o : Option Call) → next_call stage agent ≡ o →
         option_map_or (λ call. cond agent.entered (is_none (transfer_of call)) (begins_with_entry stage agent call)) o
         false ≡ true →
-        IsMovedTo stage agent rows (option_map_or (entry_of stage agent rows) o (waiting agent rows))
+        IsMovedTo stage agent rows (option_map_or (entry_of stage agent rows) o (stay_waiting agent rows))
     by_call None e t = Stays refl refl
     by_call (Some call) e t = entry_moves stage agent rows call begun e t
 
@@ -313,23 +317,23 @@ moves_keep stage P keeps agent next rows now old (TwoMoves middle between first 
 -- a call of two parts is begun
 begun_with : (stage : Stage) (agent : Agent) (rows : List Row) (call : Call) (step : Step) →
     IsAllowedEntry stage agent rows call step → ends_call step call ≡ false →
-    IsTwofold (course_of agent.known.windows call) → HasBegun stage (opened (with_entry stage agent rows call step))
+    IsTwofold (course_of agent.known.windows call) → HasBegun stage (enter_call (with_entry stage agent rows call step))
 begun_with stage agent rows call step entry opens course e other here =
     let same = known_stays stage agent rows call step entry.here opens in
     let is : call ≡ other = cc (entry.here, here) in
-    subst (IsBegun (opened (with_entry stage agent rows call step))) is (record {
+    subst (IsBegun (enter_call (with_entry stage agent rows call step))) is (record {
       allowed = ap (λ (k : Knowledge). own_class k call) same ∙ entry.own;
       twofold = subst IsTwofold (sym (ap (λ (k : Knowledge). course_of k.windows call) same)) course;
     })
 
 -- no call is begun where the last one is finished
-none_begun : (stage : Stage) (agent next : Agent) → next ≡ finished agent → HasBegun stage next
+none_begun : (stage : Stage) (agent next : Agent) → next ≡ end_call agent → HasBegun stage next
 none_begun stage agent next is e = absurd (cc (e, ap (λ (a : Agent). a.entered) is))
 
 pub begun_kept : (stage : Stage) (agent next : Agent) (rows now : List Row) → EntryMove stage agent rows next now →
     HasBegun stage next
 begun_kept stage agent next rows now (TurnsAway call item here new away is still) = none_begun stage
-    (kept (shapes_in stage rows) stage agent item) next is
+    (keep_item (shapes_in stage rows) stage agent item) next is
 begun_kept stage agent next rows now (Arrives call entry new course is more) =
     subst (HasBegun stage) (sym is)
     (begun_with stage agent rows call Arrive entry refl (subst IsTwofold (sym course) tt))

@@ -20,7 +20,7 @@ use Rattle.rma_types.specs.Datatypes.{size_of}
 use Rattle.board_rules.specs.Shapes.{base_of}
 use Rattle.call_rules.specs.declared.elements.Piece.{Piece}
 use Rattle.call_rules.specs.Actions.{Creation, creation_of}
-use Rattle.call_rules.specs.Layout.{rounded, own_bytes, call_bytes, memory_bytes, base_for, base_at, bases_from}
+use Rattle.call_rules.specs.Layout.{round_up, own_bytes, call_bytes, memory_bytes, base_for, base_at, bases_from}
 use Rattle.call_rules.specs.Layout.{ranks_of, parts_from, layout, cells_of}
 use Rattle.call_rules.specs.Pieces.{numbers_from, first_cell, piece_at, pieces}
 use Rattle.call_rules.specs.Ranks.{natural}
@@ -33,10 +33,10 @@ use Rattle.step_laws.specs.Inside.{bytes_at, LiesInMemory}
 abbrev pub AreCells : ℕ → Type 0
 AreCells bytes = (cells : ℕ) × (bytes ≡ 4 * cells)
 
-rounded_is_cells : (bytes : ℕ) → AreCells (rounded bytes)
+rounded_is_cells : (bytes : ℕ) → AreCells (round_up bytes)
 rounded_is_cells bytes = (2 * ((bytes + 7) / 8), omega arith)
 
-rounded_up : (bytes : ℕ) → bytes ≤ rounded bytes
+rounded_up : (bytes : ℕ) → bytes ≤ round_up bytes
 rounded_up bytes = omega arith
 
 own_is_cells : (flavor : Flavor) (bytes : ℤ) → AreCells (own_bytes flavor bytes)
@@ -62,7 +62,7 @@ calls_are_cells (call ∷ calls) =
     (more_cells (call_bytes call) (sum_by call_bytes calls) (call_is_cells call) (calls_are_cells calls))
 
 memory_is_cells : (space : ℕ) (calls : List Call) → AreCells (memory_bytes space calls)
-memory_is_cells space calls = more_cells (rounded space) (sum_by call_bytes calls) (rounded_is_cells space)
+memory_is_cells space calls = more_cells (round_up space) (sum_by call_bytes calls) (rounded_is_cells space)
     (calls_are_cells calls)
 
 -- a byte of some cells lies in one of them
@@ -231,11 +231,11 @@ bytes_are (first ∷ ranks) cell zero one e = let is : first ≡ one = cc e in a
 bytes_are (first ∷ ranks) cell (suc rank) one e = bytes_are ranks (cell + memory_bytes first.0 first.1 / 4) rank one e
 
 bases_are : (ranks : List (ℕ × List Call)) (rank number : ℕ) (one : ℕ × List Call) → slice_get ranks rank ≡ Some one →
-    base_among number (slice_index_or (map (λ (r : ℕ × List Call). bases_from 0 (rounded r.0) r.1) ranks) rank []) ≡
-    base_among number (bases_from 0 (rounded one.0) one.1)
+    base_among number (slice_index_or (map (λ (r : ℕ × List Call). bases_from 0 (round_up r.0) r.1) ranks) rank []) ≡
+    base_among number (bases_from 0 (round_up one.0) one.1)
 bases_are [] rank number one e = absurd (cc e)
 bases_are (first ∷ ranks) zero number one e = let is : first ≡ one = cc e in ap
-    (λ (r : ℕ × List Call). base_among number (bases_from 0 (rounded r.0) r.1)) is
+    (λ (r : ℕ × List Call). base_among number (bases_from 0 (round_up r.0) r.1)) is
 bases_are (first ∷ ranks) (suc rank) number one e = bases_are ranks rank number one e
 
 -- the bytes of a rank's memory are those of its space and its calls
@@ -252,8 +252,8 @@ space_has_memory script rank spaces lists =
     (sum_by call_bytes (get_or script.calls rank [])) (memory_is script rank spaces lists)
     (rounded_up (slice_index_or script.spaces rank 0))
   where
-    enough : (space all calls : ℕ) → all ≡ rounded (get_or script.spaces rank 0) + calls →
-        space ≤ rounded (get_or script.spaces rank 0) → space ≤ all
+    enough : (space all calls : ℕ) → all ≡ round_up (get_or script.spaces rank 0) + calls →
+        space ≤ round_up (get_or script.spaces rank 0) → space ≤ all
     enough space all calls e h = omega arith
 
 -- the memory of an allocate of a rank lies in the rank's memory
@@ -267,13 +267,13 @@ allocate_has_memory script rank number call creation spaces lists here makes fla
     all (base_of (layout script) rank number) (bytes_at (layout script) rank)
     (bases_are (ranks_of script) rank number one (rank_is script.spaces script.calls rank spaces lists))
     (memory_is script rank spaces lists)
-    (allocate_is_inside one.1 0 (rounded one.0) number number call creation here makes flavor (sym (zero-add number)))
+    (allocate_is_inside one.1 0 (round_up one.0) number number call creation here makes flavor (sym (zero-add number)))
   where
     all : (base most : ℕ) → base ≡ base_among number
-        (bases_from 0 (rounded (get_or script.spaces rank 0)) (get_or script.calls rank [])) →
+        (bases_from 0 (round_up (get_or script.spaces rank 0)) (get_or script.calls rank [])) →
         most ≡ memory_bytes (get_or script.spaces rank 0) (get_or script.calls rank []) →
-        base_among number (bases_from 0 (rounded (get_or script.spaces rank 0)) (get_or script.calls rank [])) +
+        base_among number (bases_from 0 (round_up (get_or script.spaces rank 0)) (get_or script.calls rank [])) +
         natural creation.bytes
-        ≤ rounded (get_or script.spaces rank 0) + sum_by call_bytes (get_or script.calls rank []) →
+        ≤ round_up (get_or script.spaces rank 0) + sum_by call_bytes (get_or script.calls rank []) →
         base + natural creation.bytes ≤ most
     all base most b m h = rw (b, m) h

@@ -23,7 +23,7 @@ use Rattle.lawful_runs.specs.Stages.{Stage, stage_of, calls_at, shapes_in}
 use Rattle.rank_rules.specs.Courses.{LookUpAndIssue, ArriveAndLeave, course_of}
 use Rattle.rank_rules.specs.Knowledge.{Knowledge, ends_call, learn}
 use Rattle.rank_rules.specs.Windows.{RankWindows, window_number, next_number, is_same_flavor, windows_after}
-use Rattle.step_runs.specs.Agents.{Agent, next_call, kept, finished, opened}
+use Rattle.step_runs.specs.Agents.{Agent, next_call, keep_item, end_call, enter_call}
 use Rattle.step_runs.specs.BoardSteps.{next_row}
 use Rattle.step_laws.proofs.CallCourses.{collective_moves_none, one_entry_moves_none, one_entry_makes_none}
 use Rattle.step_laws.proofs.CallCourses.{transfer_makes_none, learns_call}
@@ -48,7 +48,7 @@ arrives_sound : (script : Script) (delay : Delay) (rank : ℕ) (agent : Agent) (
     IsSoundRank script delay rank agent rows →
     IsAllowedEntry (stage_of script delay) agent rows call Arrive → agent.entered ≡ false →
     course_of agent.known.windows call ≡ ArriveAndLeave →
-    IsSoundRank script delay rank (opened (with_entry (stage_of script delay) agent rows call Arrive))
+    IsSoundRank script delay rank (enter_call (with_entry (stage_of script delay) agent rows call Arrive))
     (with_row agent rows call Arrive)
 arrives_sound script delay rank agent rows call sound entry new course =
     subst (λ (k : Knowledge). IsSoundRank script delay rank (record next { known = k }) now)
@@ -84,7 +84,7 @@ arrives_sound script delay rank agent rows call sound entry new course =
     now = with_row agent rows call Arrive
 
     next : Agent
-    next = opened (with_entry (stage_of script delay) agent rows call Arrive)
+    next = enter_call (with_entry (stage_of script delay) agent rows call Arrive)
 
     old : (win : ℕ) → creations rows rank win ≡ count_by (λ name. name == win) agent.known.windows.created
     old win = sound.numbers win ∙ ap
@@ -116,7 +116,7 @@ looks_sound : (script : Script) (delay : Delay) (rank : ℕ) (agent : Agent) (ro
     AreRegular script rows → IsSoundRank script delay rank agent rows →
     IsAllowedEntry (stage_of script delay) agent rows call One → agent.entered ≡ false →
     course_of agent.known.windows call ≡ LookUpAndIssue →
-    IsSoundRank script delay rank (opened (with_entry (stage_of script delay) agent rows call One))
+    IsSoundRank script delay rank (enter_call (with_entry (stage_of script delay) agent rows call One))
     (with_row agent rows call One)
 looks_sound script delay rank agent rows call regular sound entry new course =
     subst (λ (k : Knowledge). IsSoundRank script delay rank (record next { known = k }) now)
@@ -151,7 +151,7 @@ looks_sound script delay rank agent rows call regular sound entry new course =
     now = with_row agent rows call One
 
     next : Agent
-    next = opened (with_entry (stage_of script delay) agent rows call One)
+    next = enter_call (with_entry (stage_of script delay) agent rows call One)
 
     moving : (t : Transfer) × (transfer_of call ≡ Some t)
     moving = transfer_with_issue agent.known.windows call (subst HasIssue (sym course) tt)
@@ -170,7 +170,7 @@ closes_sound : (script : Script) (delay : Delay) (rank : ℕ) (agent : Agent) (r
     is_arrive step ≡ false → MakesByAddress (shapes_in (stage_of script delay) (with_row agent rows call step))
     agent.known.windows (action_of call) →
     names_so_far (stage_of script delay) agent ≡ agent.known.windows.created ++ name_made call →
-    IsSoundRank script delay rank (finished (with_entry (stage_of script delay) agent rows call step))
+    IsSoundRank script delay rank (end_call (with_entry (stage_of script delay) agent rows call step))
     (with_row agent rows call step)
 closes_sound script delay rank agent rows call step formed inside regular sound entry ends no_arrive by_address names =
     subst (λ (k : Knowledge). IsSoundRank script delay rank (record next { known = k }) now)
@@ -209,7 +209,7 @@ closes_sound script delay rank agent rows call step formed inside regular sound 
     now = with_row agent rows call step
 
     next : Agent
-    next = finished (with_entry (stage_of script delay) agent rows call step)
+    next = end_call (with_entry (stage_of script delay) agent rows call step)
 
     shapes : ℕ → List Part
     shapes = shapes_in (stage_of script delay) (with_row agent rows call step)
@@ -264,10 +264,10 @@ new_names stage agent call new one =
 turned_away_sound : (script : Script) (delay : Delay) (rank : ℕ) (agent : Agent) (rows : List Row) (item : Item)
     (shapes : ℕ → List Part) → IsSoundRank script delay rank agent rows →
     agent.entered ≡ false → IsTurnedAway agent rows item → IsSoundRank script delay rank
-    (finished (kept shapes (stage_of script delay) agent item)) rows
+    (end_call (keep_item shapes (stage_of script delay) agent item)) rows
 turned_away_sound script delay rank agent rows item shapes sound new away =
     subst (λ (k : Knowledge). IsSoundRank script delay rank
-    (record (finished (kept shapes (stage_of script delay) agent item)) { known = k }) rows) (sym (same away))
+    (record (end_call (keep_item shapes (stage_of script delay) agent item)) { known = k }) rows) (sym (same away))
     (record {
       mine = sound.mine;
       whose = sound.whose;

@@ -29,7 +29,7 @@ use Rattle.rank_rules.specs.Knowledge.{Knowledge, own_class, known_after_call, l
 use Rattle.rank_rules.specs.declared.pending.PendingAccess.{PendingAccess}
 use Rattle.rank_rules.specs.Windows.{Window, RankWindows, window_of_name, windows_after}
 use Rattle.rank_rules.specs.WindowTests.{place_tests, window_class}
-use Rattle.step_runs.specs.Agents.{Agent, next_call, kept, finished, has_pending, must_draw, awaited_by}
+use Rattle.step_runs.specs.Agents.{Agent, next_call, keep_item, end_call, has_pending, must_draw, awaited_by}
 use Rattle.step_runs.specs.Agents.{begins_with_entry, tries_entry}
 use Rattle.step_runs.specs.DataSteps.{OnMemory, with_touches, with_delivery, deliver, Move, just_delivers}
 use Rattle.step_runs.specs.DataSteps.{without_delivery, no_shapes, with_item, made_pending, with_issue, issue_of, issue}

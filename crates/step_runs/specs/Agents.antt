@@ -14,7 +14,7 @@ use Rattle.rank_rules.specs.Courses.{course_of, has_entry}
 use Rattle.rank_rules.specs.Knowledge.{Knowledge, learn, own_class}
 use Rattle.rank_rules.specs.Pending.{awaited}
 use Rattle.rank_rules.specs.declared.pending.PendingAccess.{PendingAccess}
-use Rattle.step_runs.specs.Generator.{seeded, delivery_stream}
+use Rattle.step_runs.specs.Generator.{first_state, delivery_stream}
 
 -- A rank: its number; its log; what it knows; the number of the first call that does not have all its items; whether
 -- that call's first entry is put; whether a draw was made for it; the state of the generator of its deliveries; its
@@ -38,7 +38,7 @@ new_agent stage seed rank = record {
   at = 0;
   entered = false;
   drawn = false;
-  draws = seeded seed (delivery_stream rank);
+  draws = first_state seed (delivery_stream rank);
   pending = [];
   ended = false;
 }
@@ -48,19 +48,19 @@ abbrev pub next_call : Stage → Agent → Option Call
 next_call stage agent = slice_get (calls_at stage agent.rank) agent.at
 
 -- the rank keeps an item; shapes gives the parts of a window by its number
-abbrev pub kept : (ℕ → List Part) → Stage → Agent → Item → Agent
-kept shapes stage agent item = record agent {
+abbrev pub keep_item : (ℕ → List Part) → Stage → Agent → Item → Agent
+keep_item shapes stage agent item = record agent {
   log = agent.log ++ item ∷ [];
   known = learn shapes (calls_at stage agent.rank) agent.known item;
 }
 
 -- the call has all its items
-abbrev pub finished : Agent → Agent
-finished agent = record agent { at = agent.at + 1; entered = false; drawn = false }
+abbrev pub end_call : Agent → Agent
+end_call agent = record agent { at = agent.at + 1; entered = false; drawn = false }
 
 -- the first entry of the call is put, and another item follows it
-abbrev pub opened : Agent → Agent
-opened agent = record agent { entered = true }
+abbrev pub enter_call : Agent → Agent
+enter_call agent = record agent { entered = true }
 
 abbrev pub has_pending : Agent → Bool
 has_pending agent = not (length agent.pending == 0)

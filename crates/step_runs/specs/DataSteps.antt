@@ -25,8 +25,8 @@ use Rattle.rank_rules.specs.Knowledge.{own_class}
 use Rattle.rank_rules.specs.Pending.{way}
 use Rattle.rank_rules.specs.declared.pending.PendingAccess.{PendingAccess}
 pub use Rattle.rank_rules.specs.Pending.{made_pending}
-use Rattle.step_runs.specs.Agents.{Agent, kept, finished, next_call, must_draw, awaited_by, has_pending}
-use Rattle.step_runs.specs.Generator.{stirred, drawn_from}
+use Rattle.step_runs.specs.Agents.{Agent, keep_item, end_call, next_call, must_draw, awaited_by, has_pending}
+use Rattle.step_runs.specs.Generator.{next_state, drawn_from}
 
 -- ---- deliveries
 
@@ -74,7 +74,7 @@ no_shapes window = []
 
 -- the rank keeps an item that ends its call
 abbrev pub with_item : Stage → Agent → Item → Agent
-with_item stage agent item = finished (kept no_shapes stage agent item)
+with_item stage agent item = end_call (keep_item no_shapes stage agent item)
 
 -- the access is touched in the step of its Issue: a load and a store always, others where nothing is delayed
 abbrev pub is_at_once : Delay → Access → Bool
@@ -109,7 +109,7 @@ issue stage agent call = option_map_or (λ t. option_map_or (issue_of stage agen
 -- a draw for the call that begins: an odd one delivers the pending access that it names, an even one none
 abbrev pub draw : Agent → Move
 draw agent =
-    let state = stirred agent.draws in
+    let state = next_state agent.draws in
     let number = drawn_from state in
     record {
       agent = record agent { drawn = true; draws = state };
@@ -151,7 +151,7 @@ abbrev pub end : Stage → Agent → Move
 end stage agent =
     if has_pending agent then just_delivers agent 0
     else (if agent.ended then without_delivery agent
-    else without_delivery (record (kept no_shapes stage agent Ended) { ended = true }))
+    else without_delivery (record (keep_item no_shapes stage agent Ended) { ended = true }))
 
 -- what the rank does, where its step tries no entry
 abbrev pub move_of : Stage → Agent → Move

@@ -2,12 +2,12 @@
 use Rattle.std.specs.Prelude.{ℕ, ◌+◌, ◌*◌, ◌/◌, ◌%◌, ◌^◌}
 
 -- the state with which a stream begins
-abbrev pub seeded : ℕ → ℕ → ℕ
-seeded seed stream = seed * 64 + stream
+abbrev pub first_state : ℕ → ℕ → ℕ
+first_state seed stream = seed * 64 + stream
 
 -- the state after a draw
-abbrev pub stirred : ℕ → ℕ
-stirred state = (state * 6364136223846793005 + 1442695040888963407) % 2 ^ 64
+abbrev pub next_state : ℕ → ℕ
+next_state state = (state * 6364136223846793005 + 1442695040888963407) % 2 ^ 64
 
 -- what a draw gives, from the state after it
 abbrev pub drawn_from : ℕ → ℕ

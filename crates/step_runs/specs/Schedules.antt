@@ -6,7 +6,7 @@ use Rattle.std.specs.Option.{option_map_or}
 use Rattle.rma_types.specs.declared.schedules.Order.{Order}
 use Rattle.rma_types.specs.declared.schedules.Order.TheVariants.{Robin, Reverse, Greedy, Seeded}
 use Rattle.call_rules.specs.Pieces.{numbers_from}
-use Rattle.step_runs.specs.Generator.{seeded, stirred, drawn_from, order_stream}
+use Rattle.step_runs.specs.Generator.{first_state, next_state, drawn_from, order_stream}
 
 -- the ranks that were found waiting since the last entry, the rank of the last turn, and the state of the order's
 -- generator
@@ -24,7 +24,7 @@ last_before Seeded ranks = 0
 
 abbrev pub first_schedule : Order → ℕ → ℕ → Schedule
 first_schedule order ranks seed =
-    record { waiting = []; last = last_before order ranks; draws = seeded seed order_stream }
+    record { waiting = []; last = last_before order ranks; draws = first_state seed order_stream }
 
 -- the ranks in the order in which one is looked for after the last one
 abbrev pub in_order : Order → ℕ → ℕ → List ℕ
@@ -38,7 +38,7 @@ abbrev pub turn_of : Schedule → ℕ → Schedule
 turn_of schedule rank = record schedule { last = rank }
 
 abbrev pub with_draw : Schedule → Schedule
-with_draw schedule = record schedule { draws = stirred schedule.draws }
+with_draw schedule = record schedule { draws = next_state schedule.draws }
 
 -- one of the ranks is picked: the first, or with order seeded a drawn one
 abbrev pub pick_among : Order → Schedule → List ℕ → Option (ℕ × Schedule)

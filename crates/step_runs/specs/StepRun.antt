@@ -9,7 +9,7 @@ use Rattle.rma_types.specs.declared.scripts.Script.{Script}
 use Rattle.rma_record.specs.declared.runs.Run.{Run}
 use Rattle.board_rules.specs.Entries.{Row}
 use Rattle.call_rules.specs.declared.cells.Cell.{Cell}
-use Rattle.call_rules.specs.Layout.{cells_of, calls_of}
+use Rattle.call_rules.specs.Layout.{cells_of, call_count}
 use Rattle.call_rules.specs.Pieces.{numbers_from}
 use Rattle.call_rules.specs.Ranks.{is_member}
 use Rattle.call_rules.specs.Touches.{empty_cell}
@@ -107,7 +107,7 @@ first_world stage order seed = record {
 -- More turns than any run of at most 16 ranks has. Between two entries each rank is found waiting once at most; a call
 -- has two entries and three other turns at most.
 abbrev pub most_turns : Script → ℕ
-most_turns script = 64 * (calls_of script + 1)
+most_turns script = 64 * (call_count script + 1)
 
 -- the run of a script on one thread
 unfoldable pub step_run : Script → Order → Delay → ℕ → Run

@@ -2,7 +2,7 @@
 use Rattle.std.specs.Prelude.{◌≡◌, ℕ, ◌<◌, ◌≤◌, List, IfSome}
 use Rattle.rma_types.specs.declared.scripts.Layout.{Layout}
 use Rattle.rma_types.specs.declared.calls.Call.{Call}
-use Rattle.call_rules.specs.Actions.{window_named}
+use Rattle.call_rules.specs.Actions.{window_of_call}
 use Rattle.rank_rules.specs.Windows.{window_number}
 use Rattle.board_rules.specs.Board.{Decision, Refuse, Allow, NotYet}
 use Rattle.board_rules.specs.Entries.{Row, window_of}
@@ -30,7 +30,7 @@ pub record IsQuestion (q : Question) (asked : Asked) : Type 0 where
 
 -- the name is that of the window that the call names, if it names one
 abbrev pub names_its_window : ℕ → Call → Type 0
-names_its_window name call = IfSome (window_named call) (λ named. named ≡ name)
+names_its_window name call = IfSome (window_of_call call) (λ named. named ≡ name)
 
 -- the window is the one that the entry is on after the rows
 pub record IsAfter (rows : List Row) (asked : Asked) : Type 0 where

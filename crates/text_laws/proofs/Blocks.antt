@@ -20,10 +20,11 @@ use Rattle.script_language.specs.declared.places.Place.TheVariants.{Member, Memb
 use Rattle.script_language.specs.Answers.{◌>>=◌}
 use Rattle.script_language.specs.Calls.{no_fields}
 use Rattle.script_language.specs.Canon.{form_line, call_line, space_lines, rank_lines, canon}
-use Rattle.script_language.specs.Drafts.{no_lines, with_line, with_call, may_stand, limited, script_of, finished}
+use Rattle.script_language.specs.Drafts.{no_lines, with_line, with_call, is_in_place, draft_within_limits, script_of}
+use Rattle.script_language.specs.Drafts.{script_at_end}
 use Rattle.script_language.specs.Forms.{places_of}
 use Rattle.script_language.specs.Reading.{Reads}
-use Rattle.script_language.specs.Spelling.{spelled}
+use Rattle.script_language.specs.Spelling.{spelling_of}
 use Rattle.script_language.specs.Tokens.{tokens_read}
 use Rattle.text_laws.proofs.CallLines.{call_tokens, call_line_said, call_tokens_plain}
 use Rattle.text_laws.proofs.Lines.{IsPlain}
@@ -45,7 +46,8 @@ some_calls script spaces done now rest block = lines_say script.ranks spaces (do
 some_limited : (script : Script) (spaces : List (Option ℕ)) (done : List (List MpiCall)) (now more : List MpiCall)
     (rest : List (List MpiCall)) (block : List ℕ) → IsWithinLimits script →
     AreBelow (map space_of spaces) script.spaces → AreFronts (done ++ (now ++ more) ∷ rest) script.calls →
-    limited (some_calls script spaces done now rest block) ≡ Ok (some_calls script spaces done now rest block)
+    draft_within_limits (some_calls script spaces done now rest block)
+    ≡ Ok (some_calls script spaces done now rest block)
 some_limited script spaces done now more rest block limits below fronts =
     part_limited (some_calls script spaces done now rest block) script limits below
     (fewer_calls done now more rest script.calls fronts)
@@ -65,8 +67,9 @@ call_leads script spaces done now call more rest limits below fronts written =
     ap (λ (calls : List MpiCall). set lists (length done) (calls ++ call ∷ []))
     (get_or-append_seam done now (blanks [] rest) [])
     ∙ set-append_seam done now (blanks [] rest) (now ++ call ∷ []) in
-    let within : limited (with_call draft call) ≡ Ok next =
-    ap (λ (calls : List (List MpiCall)). limited (lines_say script.ranks spaces calls (length done ∷ []))) put
+    let within : draft_within_limits (with_call draft call) ≡ Ok next =
+    ap (λ (calls : List (List MpiCall)). draft_within_limits (lines_say script.ranks spaces calls (length done ∷ [])))
+    put
     ∙ some_limited script spaces done (now ++ call ∷ []) more rest (length done ∷ []) limits below fronts in
     line_leads draft next (call_tokens call) (call_tokens_plain call written) (call_line_said draft call written refl
     ∙ within)
@@ -106,8 +109,8 @@ rank_leads script spaces done calls rest block limits some few room below fronts
     let draft = some_calls script spaces done [] rest block in
     let next = some_calls script spaces done [] rest (length done ∷ []) in
     let fields : Fields = record no_fields { members = length done ∷ [] } in
-    let stands : may_stand draft Rank ≡ true = rw (le-leb 1 script.ranks some) refl in
-    let plain : AllByRecursion IsPlain (flat_map (spelled fields) (places_of Rank)) =
+    let stands : is_in_place draft Rank ≡ true = rw (le-leb 1 script.ranks some) refl in
+    let plain : AllByRecursion IsPlain (flat_map (spelling_of fields) (places_of Rank)) =
     (number_plain (length done) (omega arith), tt) in
     let reads : tokens_read draft no_fields (Member ∷ Members ∷ []) (number (length done) ∷ []) ≡ Ok fields =
     next_token draft no_fields fields Member (Members ∷ []) (number (length done)) []
@@ -175,16 +178,17 @@ begins : (script : Script) → IsWellFormed script →
 begins script formed =
     let next = lines_say script.ranks (blanks None script.spaces) (blanks [] script.calls) [] in
     let fields : Fields = record no_fields { ranks = script.ranks } in
-    let plain : AllByRecursion IsPlain (flat_map (spelled fields) (places_of Ranks)) =
+    let plain : AllByRecursion IsPlain (flat_map (spelling_of fields) (places_of Ranks)) =
     (let few = formed.few_ranks in number_plain script.ranks (omega arith), tt) in
     let spaces : replicate script.ranks None ≡ blanks None script.spaces = ap (λ (n : ℕ). replicate n None)
     (sym formed.spaces) ∙ repeated_blanks None script.spaces in
     let calls : replicate script.ranks [] ≡ blanks [] script.calls = ap (λ (n : ℕ). replicate n []) (sym formed.lists)
     ∙ repeated_blanks [] script.calls in
     let below : AreBelow (map space_of (blanks None script.spaces)) script.spaces = no_spaces script.spaces in
-    let within : limited (with_line no_lines Ranks fields) ≡ Ok next =
-    ap (λ (xs : List (Option ℕ)). limited (lines_say script.ranks xs (replicate script.ranks []) [])) spaces
-    ∙ ap (λ (lists : List (List MpiCall)). limited (lines_say script.ranks (blanks None script.spaces) lists [])) calls
+    let within : draft_within_limits (with_line no_lines Ranks fields) ≡ Ok next =
+    ap (λ (xs : List (Option ℕ)). draft_within_limits (lines_say script.ranks xs (replicate script.ranks []) [])) spaces
+    ∙ ap (λ (lists : List (List MpiCall)). draft_within_limits
+    (lines_say script.ranks (blanks None script.spaces) lists [])) calls
     ∙ part_limited next script formed.limits below (no_calls script.calls script.calls (fronts_self script.calls)) in
     directive_leads no_lines next Ranks fields fields refl plain
     (ranks_read script.ranks formed.some_rank formed.few_ranks) within
@@ -209,7 +213,7 @@ read_again script formed few =
     let leads : Leads no_lines (canon script) last =
     leads_on no_lines second last (number_line ++ space_lines 0 script.spaces) (rank_lines 0 script.calls)
     (leads_on no_lines first second number_line (space_lines 0 script.spaces) (begins script formed) spaces) calls.1 in
-    let ends : finished last ≡ Ok script =
+    let ends : script_at_end last ≡ Ok script =
     ap (λ (b : Bool). cond (b && true) (Ok (script_of last)) (Err Shape)) (le-leb 1 script.ranks some)
     ∙ ap (λ (xs : List ℕ). Ok (record { ranks = script.ranks; spaces = xs; calls = script.calls }))
     (entries_back script.spaces) in

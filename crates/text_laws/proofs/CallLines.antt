@@ -38,10 +38,10 @@ use Rattle.script_language.specs.declared.forms.Form.{Form}
 use Rattle.script_language.specs.declared.forms.Form.TheVariants.{Ranks, Space, Rank, Repeat, End, Call}
 use Rattle.script_language.specs.Answers.{◌>>=◌, found_or}
 use Rattle.script_language.specs.Calls.{no_fields, call_of, form_of, fields_of}
-use Rattle.script_language.specs.Drafts.{may_stand, with_line, with_call, limited, is_in_block}
+use Rattle.script_language.specs.Drafts.{is_in_place, with_line, with_call, draft_within_limits, is_in_block}
 use Rattle.script_language.specs.Forms.{word_of_form, places_of, call_places}
-use Rattle.script_language.specs.Reading.{placed, rest_read, line_read}
-use Rattle.script_language.specs.Spelling.{spelled}
+use Rattle.script_language.specs.Reading.{form_in_place, rest_read, line_read}
+use Rattle.script_language.specs.Spelling.{spelling_of}
 use Rattle.script_language.specs.Tokens.{tokens_read}
 use Rattle.script_language.specs.Words.{form_named}
 use Rattle.text_laws.proofs.Lines.{IsPlain}
@@ -252,28 +252,29 @@ word_plain (Call WaitReqForm) = record { some = refl; bytes = refl }
 word_plain (Call TestReqForm) = record { some = refl; bytes = refl }
 
 -- a line where it may stand, whose tokens can be read
-pub line_said : (draft : Draft) (form : Form) (fields told : Fields) → may_stand draft form ≡ true →
-    tokens_read draft no_fields (places_of form) (flat_map (spelled fields) (places_of form)) ≡ Ok told →
-    line_read draft (word_of_form form ∷ flat_map (spelled fields) (places_of form)) ≡ limited
+pub line_said : (draft : Draft) (form : Form) (fields told : Fields) → is_in_place draft form ≡ true →
+    tokens_read draft no_fields (places_of form) (flat_map (spelling_of fields) (places_of form)) ≡ Ok told →
+    line_read draft (word_of_form form ∷ flat_map (spelling_of fields) (places_of form)) ≡ draft_within_limits
     (with_line draft form told)
 line_said draft form fields told stands reads =
-    let tokens = flat_map (spelled fields) (places_of form) in
-    ap (λ (o : Option Form). (found_or Word o >>= placed draft) >>= rest_read draft tokens) (word_back form)
+    let tokens = flat_map (spelling_of fields) (places_of form) in
+    ap (λ (o : Option Form). (found_or Word o >>= form_in_place draft) >>= rest_read draft tokens) (word_back form)
     ∙ ap (λ (b : Bool). cond b (Ok form) (Err Shape) >>= rest_read draft tokens) stands
-    ∙ ap (λ (r : Result Fields FaultKind). r >>= λ (f : Fields). limited (with_line draft form f)) reads
+    ∙ ap (λ (r : Result Fields FaultKind). r >>= λ (f : Fields). draft_within_limits (with_line draft form f)) reads
 
 -- the tokens of a call's line
 abbrev pub call_tokens : MpiCall → List (List ℕ)
-call_tokens call = word_of_form (Call (form_of call)) ∷ flat_map (spelled (fields_of call)) (call_places (form_of call))
+call_tokens call = word_of_form (Call (form_of call))
+    ∷ flat_map (spelling_of (fields_of call)) (call_places (form_of call))
 
 -- the line of a call, in a block
 pub call_line_said : (draft : Draft) (call : MpiCall) → IsWrittenCall call → is_in_block draft ≡ true →
-    line_read draft (call_tokens call) ≡ limited (with_call draft call)
+    line_read draft (call_tokens call) ≡ draft_within_limits (with_call draft call)
 call_line_said draft call written begun =
     line_said draft (Call (form_of call)) (fields_of call)
     (filled no_fields (fields_of call) (call_places (form_of call))) begun
     (places_said draft no_fields (fields_of call) (call_places (form_of call)) (call_said call written))
-    ∙ ap (λ (said : MpiCall). limited (with_call draft said)) (call_back call)
+    ∙ ap (λ (said : MpiCall). draft_within_limits (with_call draft said)) (call_back call)
 
 pub call_tokens_plain : (call : MpiCall) → IsWrittenCall call → AllByRecursion IsPlain (call_tokens call)
 call_tokens_plain call written = (

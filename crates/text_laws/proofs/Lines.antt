@@ -5,7 +5,7 @@ use Rattle.std.specs.Prelude.{filter}
 use Rattle.std.specs.List.{AllByRecursion, list_all, slice_split, prefix_len}
 use Rattle.std.proofs.lemmas.Bool.{leb-true}
 use Rattle.std.proofs.lemmas.Grind.{common_steps}
-use Rattle.call_rules.specs.Text.{spaced}
+use Rattle.call_rules.specs.Text.{join_by_spaces}
 use Rattle.script_language.specs.Lines.{is_blank, has_bytes, tokens_of}
 
 pub both_true : (a b : Bool) → (a && b) ≡ true → (a ≡ true) × (b ≡ true)
@@ -64,12 +64,12 @@ whole_taken p (x ∷ xs) all =
 
 -- a byte other than those of tokens and the space between them stands nowhere in the line
 pub nowhere : (q : ℕ) → q < 45 → eqb 32 q ≡ false → (tokens : List (List ℕ)) → AllByRecursion IsPlain tokens →
-    AllByRecursion (λ b. eqb b q ≡ false) (spaced tokens)
+    AllByRecursion (λ b. eqb b q ≡ false) (join_by_spaces tokens)
 nowhere q low space [] plain = tt
 nowhere q low space (x ∷ []) plain = all_from is_plain_byte (λ b. eqb b q ≡ false) (λ b h. other_byte q b low h) x
     plain.0.bytes
 nowhere q low space (x ∷ y ∷ xs) plain =
-    all_append (λ b. eqb b q ≡ false) x (32 ∷ spaced (y ∷ xs))
+    all_append (λ b. eqb b q ≡ false) x (32 ∷ join_by_spaces (y ∷ xs))
     (all_from is_plain_byte (λ b. eqb b q ≡ false) (λ b h. other_byte q b low h) x plain.0.bytes)
     (space, nowhere q low space (y ∷ xs) plain.1)
 
@@ -78,19 +78,19 @@ kept : (token : List ℕ) (rest : List (List ℕ)) → has_bytes token ≡ true 
 kept token rest some = rw some refl
 
 pub parted : (tokens : List (List ℕ)) → AllByRecursion IsPlain tokens →
-    filter has_bytes (slice_split is_blank (spaced tokens)) ≡ tokens
+    filter has_bytes (slice_split is_blank (join_by_spaces tokens)) ≡ tokens
 parted [] plain = refl
 parted (x ∷ []) plain =
     ap (filter has_bytes) (split_none is_blank x
     (all_from is_plain_byte (λ b. is_blank b ≡ false) no_blank x plain.0.bytes)) ∙ kept x [] plain.0.some
 parted (x ∷ y ∷ xs) plain =
-    ap (filter has_bytes) (split_at is_blank x 32 (spaced (y ∷ xs))
+    ap (filter has_bytes) (split_at is_blank x 32 (join_by_spaces (y ∷ xs))
     (all_from is_plain_byte (λ b. is_blank b ≡ false) no_blank x plain.0.bytes) refl)
-    ∙ kept x (slice_split is_blank (spaced (y ∷ xs))) plain.0.some
+    ∙ kept x (slice_split is_blank (join_by_spaces (y ∷ xs))) plain.0.some
     ∙ ap (λ (ts : List (List ℕ)). x ∷ ts) (parted (y ∷ xs) plain.1)
 
-pub tokens_back : (tokens : List (List ℕ)) → AllByRecursion IsPlain tokens → tokens_of (spaced tokens) ≡ tokens
+pub tokens_back : (tokens : List (List ℕ)) → AllByRecursion IsPlain tokens → tokens_of (join_by_spaces tokens) ≡ tokens
 tokens_back tokens plain =
     ap (λ (bytes : List ℕ). filter has_bytes (slice_split is_blank bytes))
-    (whole_taken (λ b. eqb b 35) (spaced tokens) (nowhere 35 (omega arith) refl tokens plain))
+    (whole_taken (λ b. eqb b 35) (join_by_spaces tokens) (nowhere 35 (omega arith) refl tokens plain))
     ∙ parted tokens plain

@@ -23,7 +23,7 @@ use Rattle.script_language.specs.declared.places.Place.TheVariants.{Values}
 use Rattle.script_language.specs.Answers.{◌>>=◌, found_or}
 use Rattle.script_language.specs.Calls.{no_asserts}
 use Rattle.script_language.specs.Integers.{plain_integer}
-use Rattle.script_language.specs.Spelling.{spelled, target_text, pattern_text}
+use Rattle.script_language.specs.Spelling.{spelling_of, target_text, pattern_text}
 use Rattle.script_language.specs.Tokens.{token_read, pattern_read, tokens_read}
 use Rattle.script_language.specs.Words.{dtype_text, op_text, lock_text, all_assertions, window_text, request_text}
 use Rattle.text_laws.proofs.Lines.{IsPlain, all_append}
@@ -99,7 +99,7 @@ values_plain dtype (value ∷ values) patterns =
 -- ---- all places of a line
 
 pub places_said : (draft : Draft) (acc fields : Fields) (places : List Place) → AreSaid acc fields places →
-    tokens_read draft acc places (flat_map (spelled fields) places) ≡ Ok (filled acc fields places)
+    tokens_read draft acc places (flat_map (spelling_of fields) places) ≡ Ok (filled acc fields places)
 places_said draft acc fields [] said = refl
 places_said draft acc fields (Ranks ∷ places) said = absurd said.0
 places_said draft acc fields (Owner ∷ places) said = absurd said.0
@@ -109,42 +109,43 @@ places_said draft acc fields (Members ∷ places) said = absurd said.0
 places_said draft acc fields (Times ∷ places) said = absurd said.0
 places_said draft acc fields (Request ∷ places) said =
     next_token draft acc (fill acc fields Request) Request places (request_text fields.req)
-    (flat_map (spelled fields) places) (request_plain fields.req said.0) refl
+    (flat_map (spelling_of fields) places) (request_plain fields.req said.0) refl
     (ap (λ (o : Option ℕ). found_or Name o >>= λ (v : ℕ). Ok (record acc { req = v }))
     (request_back fields.req said.0))
     ∙ places_said draft (fill acc fields Request) fields places said.1
 places_said draft acc fields (Window ∷ places) said =
     next_token draft acc (fill acc fields Window) Window places (window_text fields.win)
-    (flat_map (spelled fields) places) (window_plain fields.win said.0) refl
+    (flat_map (spelling_of fields) places) (window_plain fields.win said.0) refl
     (ap (λ (o : Option ℕ). found_or Name o >>= λ (v : ℕ). Ok (record acc { win = v }))
     (window_back fields.win said.0))
     ∙ places_said draft (fill acc fields Window) fields places said.1
 places_said draft acc fields (Base ∷ places) said =
-    next_token draft acc (fill acc fields Base) Base places (integer fields.base) (flat_map (spelled fields) places)
+    next_token draft acc (fill acc fields Base) Base places (integer fields.base) (flat_map (spelling_of fields) places)
     (integer_plain fields.base (short_up_to 2147483647 fields.base (omega arith) said.0)) refl
     (ap (λ (r : Result ℤ _). r >>= λ (v : ℤ). Ok (record acc { base = v }))
     (up_to_back 2147483647 fields.base (omega arith) said.0))
     ∙ places_said draft (fill acc fields Base) fields places said.1
 places_said draft acc fields (Size ∷ places) said =
-    next_token draft acc (fill acc fields Size) Size places (integer fields.bytes) (flat_map (spelled fields) places)
+    next_token draft acc (fill acc fields Size) Size places (integer fields.bytes)
+    (flat_map (spelling_of fields) places)
     (integer_plain fields.bytes (short_up_to 65536 fields.bytes (omega arith) said.0)) refl
     (ap (λ (r : Result ℤ _). r >>= λ (v : ℤ). Ok (record acc { bytes = v }))
     (up_to_back 65536 fields.bytes (omega arith) said.0))
     ∙ places_said draft (fill acc fields Size) fields places said.1
 places_said draft acc fields (UnitPlace ∷ places) said =
     next_token draft acc (fill acc fields UnitPlace) UnitPlace places (integer fields.unit)
-    (flat_map (spelled fields) places) (integer_plain fields.unit (short_up_to 64 fields.unit (omega arith) said.0))
+    (flat_map (spelling_of fields) places) (integer_plain fields.unit (short_up_to 64 fields.unit (omega arith) said.0))
     refl (ap (λ (r : Result ℤ _). r >>= λ (v : ℤ). Ok (record acc { unit = v }))
     (up_to_back 64 fields.unit (omega arith) said.0))
     ∙ places_said draft (fill acc fields UnitPlace) fields places said.1
 places_said draft acc fields (LockKind ∷ places) said =
     next_token draft acc (fill acc fields LockKind) LockKind places (lock_text fields.lock)
-    (flat_map (spelled fields) places) (lock_plain fields.lock) refl
+    (flat_map (spelling_of fields) places) (lock_plain fields.lock) refl
     (ap (λ (o : Option Lock). found_or Word o >>= λ (v : Lock). Ok (record acc { lock = v }))
     (lock_back fields.lock))
     ∙ places_said draft (fill acc fields LockKind) fields places said.1
 places_said draft acc fields (Peer ∷ places) said =
-    next_token draft acc (fill acc fields Peer) Peer places (integer fields.peer) (flat_map (spelled fields) places)
+    next_token draft acc (fill acc fields Peer) Peer places (integer fields.peer) (flat_map (spelling_of fields) places)
     (integer_plain fields.peer (short_up_to 2147483647 fields.peer (omega arith) said.0)) refl
     (ap (λ (r : Result ℤ _). r >>= λ (v : ℤ). Ok (record acc { peer = v }))
     (up_to_back 2147483647 fields.peer (omega arith) said.0))
@@ -152,7 +153,7 @@ places_said draft acc fields (Peer ∷ places) said =
 places_said draft acc fields (Group ∷ places) said =
     let few : length acc.group + length fields.group ≤ 16 = rw said.0.1 (omega (arith, said.0.3.0)) in
     let P : List Place → Type 0 = λ ps. tokens_read draft acc (Group ∷ ps)
-    (map integer fields.group ++ flat_map (spelled fields) ps) ≡ Ok (filled (fill acc fields Group) fields ps) in
+    (map integer fields.group ++ flat_map (spelling_of fields) ps) ≡ Ok (filled (fill acc fields Group) fields ps) in
     subst P (sym said.0.0)
     (ap (λ (last : List (List ℕ)). tokens_read draft acc (Group ∷ Assertions ∷ []) (map integer fields.group ++ last))
     (append-nil (asserted fields.asserts))
@@ -160,7 +161,7 @@ places_said draft acc fields (Group ∷ places) said =
     ∙ ap (λ (before : List ℤ). Ok (record acc { group = before ++ fields.group; asserts = fields.asserts })) said.0.1)
 places_said draft acc fields (Assertions ∷ places) said =
     let P : List Place → Type 0 = λ ps. tokens_read draft acc (Assertions ∷ ps)
-    (asserted fields.asserts ++ flat_map (spelled fields) ps) ≡ Ok (filled (fill acc fields Assertions) fields ps)
+    (asserted fields.asserts ++ flat_map (spelling_of fields) ps) ≡ Ok (filled (fill acc fields Assertions) fields ps)
     in
     subst P (sym said.0.0)
     (ap (λ (tokens : List (List ℕ)). tokens_read draft acc (Assertions ∷ []) tokens)
@@ -168,51 +169,52 @@ places_said draft acc fields (Assertions ∷ places) said =
     ∙ assertions_said draft acc fields.asserts said.0.1)
 places_said draft acc fields (Target ∷ places) said =
     next_token draft acc (fill acc fields Target) Target places (target_text fields.target)
-    (flat_map (spelled fields) places) (target_plain fields.target said.0) refl
+    (flat_map (spelling_of fields) places) (target_plain fields.target said.0) refl
     (ap (λ (r : Result (Option ℤ) _). r >>= λ (v : Option ℤ). Ok (record acc { target = v }))
     (target_back fields.target said.0))
     ∙ places_said draft (fill acc fields Target) fields places said.1
 places_said draft acc fields (Displacement ∷ places) said =
     next_token draft acc (fill acc fields Displacement) Displacement places (integer fields.disp)
-    (flat_map (spelled fields) places)
+    (flat_map (spelling_of fields) places)
     (integer_plain fields.disp (short_up_to 2147483647 fields.disp (omega arith) said.0)) refl
     (ap (λ (r : Result ℤ _). r >>= λ (v : ℤ). Ok (record acc { disp = v }))
     (up_to_back 2147483647 fields.disp (omega arith) said.0))
     ∙ places_said draft (fill acc fields Displacement) fields places said.1
 places_said draft acc fields (ElementType ∷ places) said =
     next_token draft acc (fill acc fields ElementType) ElementType places (dtype_text fields.dtype)
-    (flat_map (spelled fields) places) (dtype_plain fields.dtype) refl
+    (flat_map (spelling_of fields) places) (dtype_plain fields.dtype) refl
     (ap (λ (o : Option Dtype). found_or Datatype o >>= λ (v : Dtype). Ok (record acc { dtype = v }))
     (dtype_back fields.dtype))
     ∙ places_said draft (fill acc fields ElementType) fields places said.1
 places_said draft acc fields (Operation ∷ places) said =
     next_token draft acc (fill acc fields Operation) Operation places (op_text fields.op)
-    (flat_map (spelled fields) places) (op_plain fields.op) refl
+    (flat_map (spelling_of fields) places) (op_plain fields.op) refl
     (ap (λ (o : Option Operator). found_or NoOperation o >>= λ (v : Operator). Ok (record acc { op = v }))
     (op_back fields.op))
     ∙ places_said draft (fill acc fields Operation) fields places said.1
 places_said draft acc fields (Count ∷ places) said =
-    next_token draft acc (fill acc fields Count) Count places (integer fields.count) (flat_map (spelled fields) places)
+    next_token draft acc (fill acc fields Count) Count places (integer fields.count)
+    (flat_map (spelling_of fields) places)
     (integer_plain fields.count (short_up_to 256 fields.count (omega arith) said.0)) refl
     (ap (λ (r : Result ℤ _). r >>= λ (v : ℤ). Ok (record acc { count = v }))
     (up_to_back 256 fields.count (omega arith) said.0))
     ∙ places_said draft (fill acc fields Count) fields places said.1
 places_said draft acc fields (Compare ∷ places) said =
     next_token draft acc (fill acc fields Compare) Compare places (pattern_text fields.dtype fields.compare)
-    (flat_map (spelled fields) places) (pattern_plain fields.dtype fields.compare said.0.1) refl
+    (flat_map (spelling_of fields) places) (pattern_plain fields.dtype fields.compare said.0.1) refl
     (ap (λ (r : Result ℕ _). r >>= λ (v : ℕ). Ok (record acc { compare = v }))
     (pattern_back acc fields.dtype fields.compare said.0.0 said.0.1))
     ∙ places_said draft (fill acc fields Compare) fields places said.1
 places_said draft acc fields (Value ∷ places) said =
     next_token draft acc (fill acc fields Value) Value places (pattern_text fields.dtype fields.value)
-    (flat_map (spelled fields) places) (pattern_plain fields.dtype fields.value said.0.1) refl
+    (flat_map (spelling_of fields) places) (pattern_plain fields.dtype fields.value said.0.1) refl
     (ap (λ (r : Result ℕ _). r >>= λ (v : ℕ). Ok (record acc { value = v }))
     (pattern_back acc fields.dtype fields.value said.0.0 said.0.1))
     ∙ places_said draft (fill acc fields Value) fields places said.1
 places_said draft acc fields (Values ∷ places) said =
     let few : length acc.values + length fields.values ≤ 256 = rw said.0.2 (omega (arith, said.0.3)) in
     let P : List Place → Type 0 = λ ps. tokens_read draft acc (Values ∷ ps)
-    (map (pattern_text fields.dtype) fields.values ++ flat_map (spelled fields) ps) ≡ Ok
+    (map (pattern_text fields.dtype) fields.values ++ flat_map (spelling_of fields) ps) ≡ Ok
     (filled (fill acc fields Values) fields ps) in
     subst P (sym said.0.0)
     (ap (λ (tokens : List (List ℕ)). tokens_read draft acc (Values ∷ []) tokens)
@@ -221,7 +223,7 @@ places_said draft acc fields (Values ∷ places) said =
     ∙ ap (λ (before : List ℕ). Ok (record acc { values = before ++ fields.values })) said.0.2)
 
 pub places_plain : (acc fields : Fields) (places : List Place) → AreSaid acc fields places →
-    AllByRecursion IsPlain (flat_map (spelled fields) places)
+    AllByRecursion IsPlain (flat_map (spelling_of fields) places)
 places_plain acc fields [] said = tt
 places_plain acc fields (Ranks ∷ places) said = absurd said.0
 places_plain acc fields (Owner ∷ places) said = absurd said.0
@@ -256,10 +258,10 @@ places_plain acc fields (Peer ∷ places) said = (
       (fill acc fields Peer) fields places said.1,
 )
 places_plain acc fields (Group ∷ places) said = all_append IsPlain (map integer fields.group)
-    (flat_map (spelled fields) places) (group_plain fields.group said.0.3.1)
+    (flat_map (spelling_of fields) places) (group_plain fields.group said.0.3.1)
     (places_plain (fill acc fields Group) fields places said.1)
 places_plain acc fields (Assertions ∷ places) said = all_append IsPlain (asserted fields.asserts)
-    (flat_map (spelled fields) places) (assertions_plain fields.asserts all_assertions)
+    (flat_map (spelling_of fields) places) (assertions_plain fields.asserts all_assertions)
     (places_plain (fill acc fields Assertions) fields places said.1)
 places_plain acc fields (Target ∷ places) said =
     (target_plain fields.target said.0, places_plain (fill acc fields Target) fields places said.1)
@@ -288,5 +290,5 @@ places_plain acc fields (Value ∷ places) said = (
       (fill acc fields Value) fields places said.1,
 )
 places_plain acc fields (Values ∷ places) said = all_append IsPlain (map (pattern_text fields.dtype) fields.values)
-    (flat_map (spelled fields) places) (values_plain fields.dtype fields.values said.0.4)
+    (flat_map (spelling_of fields) places) (values_plain fields.dtype fields.values said.0.4)
     (places_plain (fill acc fields Values) fields places said.1)

@@ -5,13 +5,13 @@ use Rattle.std.specs.List.{AllByRecursion}
 use Rattle.std.proofs.lemmas.Bool.{le-leb}
 use Rattle.std.proofs.lemmas.List.{append-nil}
 use Rattle.rma_types.specs.declared.scripts.Script.{Script}
-use Rattle.call_rules.specs.Text.{line, spaced}
+use Rattle.call_rules.specs.Text.{line, join_by_spaces}
 use Rattle.script_language.specs.declared.drafts.Draft.{Draft}
 use Rattle.script_language.specs.declared.faults.Fault.{Fault}
 use Rattle.script_language.specs.declared.faults.FaultKind.{FaultKind}
 use Rattle.script_language.specs.declared.faults.FaultKind.TheVariants.{Limit}
 use Rattle.script_language.specs.Answers.{◌>>=◌}
-use Rattle.script_language.specs.Drafts.{no_lines, finished}
+use Rattle.script_language.specs.Drafts.{no_lines, script_at_end}
 use Rattle.script_language.specs.Lines.{lines_of}
 use Rattle.script_language.specs.Reading.{line_read, at_line, lines_read, text_read, read}
 use Rattle.text_laws.proofs.Lines.{IsPlain, split_at, nowhere, tokens_back}
@@ -33,13 +33,13 @@ leads_on draft middle next first second one other n rest =
 
 -- one line of plain tokens
 pub line_leads : (draft next : Draft) (tokens : List (List ℕ)) → AllByRecursion IsPlain tokens →
-    line_read draft tokens ≡ Ok next → Leads draft (line (spaced tokens)) next
+    line_read draft tokens ≡ Ok next → Leads draft (line (join_by_spaces tokens)) next
 line_leads draft next tokens plain reads n rest =
     let then : Result Draft FaultKind → Result Draft Fault = λ r. at_line n r >>= λ (d : Draft). lines_read (n + 1) d
     (lines_of rest) in (
       n + 1,
-      ap (λ (text : List ℕ). lines_read n draft (lines_of text)) (append_assoc (spaced tokens) (10 ∷ []) rest)
-          ∙ ap (lines_read n draft) (split_at (λ byte. eqb byte 10) (spaced tokens) 10 rest
+      ap (λ (text : List ℕ). lines_read n draft (lines_of text)) (append_assoc (join_by_spaces tokens) (10 ∷ []) rest)
+          ∙ ap (lines_read n draft) (split_at (λ byte. eqb byte 10) (join_by_spaces tokens) 10 rest
           (nowhere 10 (omega arith) refl tokens plain) refl)
           ∙ ap (λ (said : List (List ℕ)). then (line_read draft said)) (tokens_back tokens plain)
           ∙ ap then reads,
@@ -47,7 +47,7 @@ line_leads draft next tokens plain reads n rest =
 
 -- a text that is not too long, whose lines lead to a script
 pub text_says : (text : List ℕ) (draft : Draft) (script : Script) → Leads no_lines text draft →
-    finished draft ≡ Ok script → length text ≤ 1048576 → read text ≡ Ok script
+    script_at_end draft ≡ Ok script → length text ≤ 1048576 → read text ≡ Ok script
 unfolding read
 text_says text draft script leads ends few =
     let reached = leads 1 [] in
@@ -56,5 +56,5 @@ text_says text draft script leads ends few =
     let last = length (lines_of text) in
     ap (λ (b : Bool). cond b (text_read (lines_of text)) (Err (record { line = 0; kind = Limit })))
     (le-leb (length text) 1048576 few)
-    ∙ ap (λ (r : Result Draft Fault). r >>= λ (d : Draft). at_line last (finished d)) all
+    ∙ ap (λ (r : Result Draft Fault). r >>= λ (d : Draft). at_line last (script_at_end d)) all
     ∙ ap (at_line last) ends

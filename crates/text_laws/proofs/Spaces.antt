@@ -20,9 +20,9 @@ use Rattle.script_language.specs.declared.places.Place.TheVariants.{Ranks as Ran
 use Rattle.script_language.specs.Answers.{◌>>=◌}
 use Rattle.script_language.specs.Calls.{no_fields}
 use Rattle.script_language.specs.Canon.{form_line, space_lines}
-use Rattle.script_language.specs.Drafts.{no_lines, with_line, may_stand, limited}
+use Rattle.script_language.specs.Drafts.{no_lines, with_line, is_in_place, draft_within_limits}
 use Rattle.script_language.specs.Forms.{word_of_form, places_of}
-use Rattle.script_language.specs.Spelling.{spelled}
+use Rattle.script_language.specs.Spelling.{spelling_of}
 use Rattle.script_language.specs.Tokens.{rank_read, owner_read, tokens_read}
 use Rattle.text_laws.proofs.CallLines.{line_said, word_plain}
 use Rattle.text_laws.proofs.Lines.{IsPlain}
@@ -44,12 +44,14 @@ lines_say ranks spaces calls block = record {
 }
 
 -- the line of a directive where it may stand, whose tokens can be read
-pub directive_leads : (draft next : Draft) (form : Form) (fields told : Fields) → may_stand draft form ≡ true →
-    AllByRecursion IsPlain (flat_map (spelled fields) (places_of form)) → tokens_read draft no_fields (places_of form)
-    (flat_map (spelled fields) (places_of form)) ≡ Ok told → limited (with_line draft form told) ≡ Ok next →
+pub directive_leads : (draft next : Draft) (form : Form) (fields told : Fields) → is_in_place draft form ≡ true →
+    AllByRecursion IsPlain (flat_map (spelling_of fields) (places_of form)) →
+    tokens_read draft no_fields (places_of form)
+    (flat_map (spelling_of fields) (places_of form)) ≡ Ok told → draft_within_limits (with_line draft form told)
+    ≡ Ok next →
     Leads draft (form_line form fields) next
 directive_leads draft next form fields told stands plain reads within =
-    line_leads draft next (word_of_form form ∷ flat_map (spelled fields) (places_of form)) (word_plain form, plain)
+    line_leads draft next (word_of_form form ∷ flat_map (spelling_of fields) (places_of form)) (word_plain form, plain)
     (line_said draft form fields told stands reads ∙ within)
 
 -- ---- the number of ranks
@@ -114,8 +116,8 @@ space_leads script done bytes rest calls limits some few below small spaces fron
     let draft = lines_say script.ranks (done ++ None ∷ blanks None rest) calls [] in
     let next = lines_say script.ranks ((done ++ Some bytes ∷ []) ++ blanks None rest) calls [] in
     let fields : Fields = record no_fields { owner = length done; room = bytes } in
-    let stands : may_stand draft Space ≡ true = rw (le-leb 1 script.ranks some) refl in
-    let plain : AllByRecursion IsPlain (flat_map (spelled fields) (places_of Space)) =
+    let stands : is_in_place draft Space ≡ true = rw (le-leb 1 script.ranks some) refl in
+    let plain : AllByRecursion IsPlain (flat_map (spelling_of fields) (places_of Space)) =
     (number_plain (length done) (omega arith), (number_plain bytes (omega arith), tt)) in
     let seam : set (done ++ None ∷ blanks None rest) (length done) (Some bytes) ≡ (done ++ Some bytes ∷ []) ++ blanks
     None rest =
@@ -125,8 +127,8 @@ space_leads script done bytes rest calls limits some few below small spaces fron
     subst (λ (blank : List (Option ℕ)). AreBelow (map space_of ((done ++ Some bytes ∷ []) ++ blank)) script.spaces)
     (blank_entries rest)
     (fewer_spaces_behind (done ++ Some bytes ∷ []) (map entry rest) script.spaces spaces) in
-    let within : limited (with_line draft Space fields) ≡ Ok next =
-    ap (λ (xs : List (Option ℕ)). limited (lines_say script.ranks xs calls [])) seam
+    let within : draft_within_limits (with_line draft Space fields) ≡ Ok next =
+    ap (λ (xs : List (Option ℕ)). draft_within_limits (lines_say script.ranks xs calls [])) seam
     ∙ part_limited next script limits part fronts in
     directive_leads draft next Space fields fields stands plain
     (space_read script.ranks done (blanks None rest) calls bytes few below small) within

@@ -8,10 +8,10 @@ use Rattle.std.proofs.lemmas.List.{append-nil}
 use Rattle.std.proofs.lemmas.List.Sums.{sum_by-cons, sum_by-append}
 use Rattle.rma_types.specs.declared.calls.Call.{Call}
 use Rattle.rma_types.specs.declared.scripts.Script.{Script}
-use Rattle.call_rules.specs.Layout.{rounded, call_bytes, memory_bytes, memory_of, calls_of, IsWithinLimits}
+use Rattle.call_rules.specs.Layout.{round_up, call_bytes, memory_bytes, memory_of, call_count, IsWithinLimits}
 use Rattle.script_language.specs.declared.drafts.Draft.{Draft}
 use Rattle.script_language.specs.declared.faults.FaultKind.TheVariants.{Limit}
-use Rattle.script_language.specs.Drafts.{script_of, is_within_limits, limited}
+use Rattle.script_language.specs.Drafts.{script_of, is_within_limits, draft_within_limits}
 
 -- as many elements, the same one each
 abbrev pub blanks : {A B : Type 0} → B → List A → List B
@@ -50,7 +50,7 @@ front_bytes calls whole front =
     let same : sum_by call_bytes (calls ++ front.0) ≡ sum_by call_bytes whole = ap (sum_by call_bytes) front.1 in
     omega arith
 
-rounded_below : (a b : ℕ) → a ≤ b → rounded a ≤ rounded b
+rounded_below : (a b : ℕ) → a ≤ b → round_up a ≤ round_up b
 rounded_below a b h = omega arith
 
 counts_below : (xs ys : List (List Call)) → AreFronts xs ys → sum_by length xs ≤ sum_by length ys
@@ -91,14 +91,15 @@ bytes_below (s ∷ spaces) (m ∷ most) (x ∷ xs) (y ∷ ys) below fronts =
 
 -- what the lines say so far is a part of the script, so its totals are within their limits
 pub part_limited : (draft : Draft) (script : Script) → IsWithinLimits script →
-    AreBelow (script_of draft).spaces script.spaces → AreFronts draft.calls script.calls → limited draft ≡ Ok draft
+    AreBelow (script_of draft).spaces script.spaces → AreFronts draft.calls script.calls → draft_within_limits draft
+    ≡ Ok draft
 part_limited draft script limits below fronts =
     let some = counts_below draft.calls script.calls fronts in
     let bytes = bytes_below (script_of draft).spaces script.spaces draft.calls script.calls below fronts in
-    let few : calls_of (script_of draft) ≤ 65536 = (let most = limits.calls in omega arith) in
+    let few : call_count (script_of draft) ≤ 65536 = (let most = limits.calls in omega arith) in
     let small : memory_of (script_of draft) ≤ 65536 = (let most = limits.memory in omega arith) in
     let test : is_within_limits (script_of draft) ≡ true = rw
-    (le-leb (calls_of (script_of draft)) 65536 few, le-leb (memory_of (script_of draft)) 65536 small) refl in
+    (le-leb (call_count (script_of draft)) 65536 few, le-leb (memory_of (script_of draft)) 65536 small) refl in
     ap (λ (b : Bool). cond b (Ok draft) (Err Limit)) test
 
 -- ---- parts of lists

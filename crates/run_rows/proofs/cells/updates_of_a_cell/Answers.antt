@@ -5,7 +5,7 @@ use Rattle.std.specs.List.{count_by, find, filter}
 use Rattle.std.specs.Option.{option_map_or}
 use Rattle.std.proofs.lemmas.Bool.{cases_Bool, cond-true, cond-false, eq-eqb, ne_eqb}
 use Rattle.std.proofs.lemmas.List.Sums.{length-filter}
-use Rattle.lawful_runs.specs.Cells.{state, changed, has_place}
+use Rattle.lawful_runs.specs.Cells.{state, bits_after, has_place}
 use Rattle.lawful_runs.specs.Accesses.{Touching}
 use Rattle.run_rows.specs.CellLaws.{FoldsOneAtATime, StaysWithoutAnUpdate, ChangesNothingBefore}
 use Rattle.run_rows.proofs.cells.updates_of_a_cell.Goals as goal
@@ -70,13 +70,13 @@ one_at_a_time updates update has once =
     let place = update.place in
     let found = finds_once (has_place place) updates update has.0 (eq-eqb place place refl) has.1 has.2 once in
     ap (λ n. state updates n) (add-one place)
-    ∙ ap (λ one. option_map_or (λ (u : Touching). changed (state updates place) u.change) one (state updates place))
+    ∙ ap (λ one. option_map_or (λ (u : Touching). bits_after (state updates place) u.change) one (state updates place))
     found
 
 without_an_update : StaysWithoutAnUpdate
 without_an_update updates place none =
     ap (λ n. state updates n) (add-one place)
-    ∙ ap (λ one. option_map_or (λ (u : Touching). changed (state updates place) u.change) one (state updates place))
+    ∙ ap (λ one. option_map_or (λ (u : Touching). bits_after (state updates place) u.change) one (state updates place))
     (finds_none (has_place place) updates none)
 
 before : ChangesNothingBefore
@@ -86,8 +86,8 @@ before front back update (suc place) below =
     let rest = front ++ back in
     let found = finds_past (has_place place) front back update
     (ne_eqb update.place place (λ same. absurd (omega (arith, same, below)))) in
-    ap (λ one. option_map_or (λ (u : Touching). changed (state all place) u.change) one (state all place)) found
-    ∙ ap (λ (bits : ℕ). option_map_or (λ (u : Touching). changed bits u.change) (find (has_place place) rest) bits)
+    ap (λ one. option_map_or (λ (u : Touching). bits_after (state all place) u.change) one (state all place)) found
+    ∙ ap (λ (bits : ℕ). option_map_or (λ (u : Touching). bits_after bits u.change) (find (has_place place) rest) bits)
     (before front back update place (omega (arith, below)))
 
 pub returns : goal.returns

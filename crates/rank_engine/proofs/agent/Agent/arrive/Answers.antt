@@ -1,7 +1,7 @@
 -- A collective call: its Arrive, and its Leave.
 use Rattle.std.proofs.Common.{◌∙◌, ap, sym}
 use Rattle.cell_face.specs.Faces.{Face}
-use Rattle.step_runs.specs.Agents.{finished}
+use Rattle.step_runs.specs.Agents.{end_call}
 use Rattle.step_runs.specs.BoardSteps.{arrive, enter}
 use Rattle.rma_types.specs.declared.accesses.Step.TheVariants.{Leave}
 use Rattle.sync_board.specs.Boards.{rows_on}
@@ -46,7 +46,7 @@ returns-clause-turn g c =
     face between c.requires.ready c.requires.new c.requires.course c.in_ok-arrived.ensures.turn begun in
     if_ok_then c.close.result
     (λ (turned : Turned). IsTurn turned 1 (enter c.open.new.self.stage c.open.new.self.agent (rows_on c.open.new.board)
-    c.args.call.now Leave finished) c.open.new.self c.close.new.self c.open.new.board c.close.new.board between after)
+    c.args.call.now Leave end_call) c.open.new.self c.close.new.self c.open.new.board c.close.new.board between after)
     (λ (turned : Turned). IsTurn turned 2 (arrive c.args.self.now.stage c.args.self.now.agent (rows_on c.args.board.now)
     c.args.call.now) c.args.self.now c.close.new.self c.args.board.now c.close.new.board face after)
     (λ turned two. left_turn turned c.args.self.now c.open.new.self c.close.new.self c.args.call.now c.args.board.now

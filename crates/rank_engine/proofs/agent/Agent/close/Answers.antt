@@ -6,7 +6,7 @@ use Rattle.rma_record.specs.declared.items.Item.TheVariants.{Entry}
 use Rattle.cell_face.specs.Faces.{Face}
 use Rattle.rank_rules.specs.Courses.{course_of}
 use Rattle.step_laws.proofs.OwnTests.{windows_allow}
-use Rattle.step_runs.specs.Agents.{finished}
+use Rattle.step_runs.specs.Agents.{end_call}
 use Rattle.step_runs.specs.BoardSteps.{next_row}
 use Rattle.rank_engine.proofs.Asked.{closing_step, may_ask}
 use Rattle.rank_engine.proofs.Ended.{one_longer}
@@ -144,7 +144,7 @@ returns-in_ok-learn_windows-in-Entered-clause-turn g c =
     c.self.inside.rank (g.L.Keep.kept c.keep.new.self) c.learn_windows.new.windows c.after.new.self
     c.self.inside.queue (c.self.inside.at + 1) false false c.self.inside.draws
     c.self.inside.ended (g.L.Keep.free c.keep.new.self) (g.L.Keep.home c.keep.new.self) in
-    seen_turn s c.args.self.now after c.args.call.now c.args.step finished Did 1 c.args.board.now c.ask.new.board face
+    seen_turn s c.args.self.now after c.args.call.now c.args.step end_call Did 1 c.args.board.now c.ask.new.board face
     face_after same
     (closed_turn s after c.args.call.now c.args.step c.in-Entered.place c.in-Entered.made
     (g.L.Keep.kept c.keep.new.self)
@@ -175,10 +175,10 @@ returns-in-NotYetEntered-clause-turn g c =
     c.self.inside.ended (g.L.Keep.free c.reserve.new.self) (g.L.Keep.home c.reserve.new.self) in
     let room : between ≡ s = with_room s (g.L.Keep.kept c.reserve.new.self) (g.L.Keep.free c.reserve.new.self)
     (g.L.Keep.home c.reserve.new.self) c.reserve.ensures.kept c.reserve.ensures.free c.reserve.ensures.home in
-    seen_turn s c.args.self.now between c.args.call.now c.args.step finished NotYet 1 c.args.board.now c.ask.new.board
+    seen_turn s c.args.self.now between c.args.call.now c.args.step end_call NotYet 1 c.args.board.now c.ask.new.board
     face
     face_after same
-    (not_yet_turn s between c.args.call.now c.args.step finished c.in_ok-place.field-0 c.args.board.now
+    (not_yet_turn s between c.args.call.now c.args.step end_call c.in_ok-place.field-0 c.args.board.now
     c.ask.new.board face
     face_after ready c.in_ok-place.ensures.handed c.in-NotYetEntered.is c.in_ok-place.ensures.answer room)
 
@@ -202,10 +202,10 @@ returns-in_ok-refuse-in-Refused-clause-turn g c =
     c.self.inside.ended (g.L.Keep.free c.reserve.new.self) (g.L.Keep.home c.reserve.new.self) in
     let room : between ≡ s = with_room s (g.L.Keep.kept c.reserve.new.self) (g.L.Keep.free c.reserve.new.self)
     (g.L.Keep.home c.reserve.new.self) c.reserve.ensures.kept c.reserve.ensures.free c.reserve.ensures.home in
-    seen_turn s c.args.self.now c.refuse.new.self c.args.call.now c.args.step finished Did 1 c.args.board.now
+    seen_turn s c.args.self.now c.refuse.new.self c.args.call.now c.args.step end_call Did 1 c.args.board.now
     c.ask.new.board
     face face_after same
-    (turned_away s between c.refuse.new.self c.args.call.now c.args.step finished c.in_ok-place.field-0
+    (turned_away s between c.refuse.new.self c.args.call.now c.args.step end_call c.in_ok-place.field-0
     c.in-Refused.class
     c.in-Refused.seen c.args.board.now c.ask.new.board face face_after ready c.in_ok-place.ensures.handed
     c.in-Refused.is

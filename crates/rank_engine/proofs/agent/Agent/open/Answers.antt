@@ -12,7 +12,7 @@ use Rattle.rank_engine.proofs.EntryTurns.{not_yet_turn, opened_turn, seen_turn, 
 use Rattle.rank_engine.specs.Moves.{IsMove}
 use Rattle.step_runs.specs.DataSteps.{with_item, without_delivery}
 use Rattle.cell_face.specs.Faces.{Face}
-use Rattle.step_runs.specs.Agents.{opened}
+use Rattle.step_runs.specs.Agents.{enter_call}
 use Rattle.step_runs.specs.BoardSteps.{AtBoard, enter}
 use Rattle.sync_board.specs.Boards.{rows_on}
 use Rattle.rma_types.specs.declared.scripts.NoMemory.{NoMemory}
@@ -86,13 +86,14 @@ returns-clause-turn g c =
     let room : between ≡ s = with_room s (g.L.Keep.kept c.reserve.new.self) (g.L.Keep.free c.reserve.new.self)
     (g.L.Keep.home c.reserve.new.self) c.reserve.ensures.kept c.reserve.ensures.free c.reserve.ensures.home in
     let to : AtBoard = enter c.args.self.now.stage c.args.self.now.agent (rows_on c.args.board.now) c.args.call.now
-    c.args.step opened in
+    c.args.step enter_call in
     elim c.match-branch-3.branch [
       | in-Entered w ↦
           let item : Item = Entry c.self.inside.at w.in-Entered.place c.args.step in
           subst (λ (r : Result Turned NoMemory). IfOk r (λ (turned : Turned). IsTurn turned 1 to c.args.self.now
           c.match-branch-3.self c.args.board.now c.ask.new.board face face_after)) (sym w.result-is)
-          (seen_turn s c.args.self.now c.match-branch-3.self c.args.call.now c.args.step opened Did 1 c.args.board.now
+          (seen_turn s c.args.self.now c.match-branch-3.self c.args.call.now c.args.step enter_call Did 1
+          c.args.board.now
           c.ask.new.board face face_after same
           (opened_turn s c.match-branch-3.self c.args.call.now c.args.step w.in-Entered.place
           (g.L.Keep.kept w.keep.new.self) (g.L.Keep.free w.keep.new.self) (g.L.Keep.home w.keep.new.self)
@@ -109,19 +110,20 @@ returns-clause-turn g c =
       | in-NotYetEntered w ↦
           subst (λ (r : Result Turned NoMemory). IfOk r (λ (turned : Turned). IsTurn turned 1 to c.args.self.now
           c.match-branch-3.self c.args.board.now c.ask.new.board face face_after)) (sym w.result-is)
-          (seen_turn s c.args.self.now c.match-branch-3.self c.args.call.now c.args.step opened NotYet 1
+          (seen_turn s c.args.self.now c.match-branch-3.self c.args.call.now c.args.step enter_call NotYet 1
           c.args.board.now
           c.ask.new.board face face_after same
-          (not_yet_turn s c.match-branch-3.self c.args.call.now c.args.step opened c.in_ok-place.field-0
+          (not_yet_turn s c.match-branch-3.self c.args.call.now c.args.step enter_call c.in_ok-place.field-0
           c.args.board.now
           c.ask.new.board face face_after ready c.in_ok-place.ensures.handed w.in-NotYetEntered.is
           c.in_ok-place.ensures.answer (w.self-is ∙ room)))
       | in-Refused+in_ok-refuse-in-Refused w ↦
           subst (λ (r : Result Turned NoMemory). IfOk r (λ (turned : Turned). IsTurn turned 1 to c.args.self.now
           c.match-branch-3.self c.args.board.now c.ask.new.board face face_after)) (sym w.result-is)
-          (seen_turn s c.args.self.now c.match-branch-3.self c.args.call.now c.args.step opened Did 1 c.args.board.now
+          (seen_turn s c.args.self.now c.match-branch-3.self c.args.call.now c.args.step enter_call Did 1
+          c.args.board.now
           c.ask.new.board face face_after same
-          (turned_away s between c.match-branch-3.self c.args.call.now c.args.step opened c.in_ok-place.field-0
+          (turned_away s between c.match-branch-3.self c.args.call.now c.args.step enter_call c.in_ok-place.field-0
           w.in-Refused.class w.in-Refused.seen c.args.board.now c.ask.new.board face face_after ready
           c.in_ok-place.ensures.handed w.in-Refused.is c.in_ok-place.ensures.answer room
           (subst (λ (x : RankState). IsMove between x (without_delivery (with_item between.stage between.agent

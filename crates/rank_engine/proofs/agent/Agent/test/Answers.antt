@@ -3,7 +3,7 @@ use Rattle.std.proofs.Common.{◌≡◌, length, ap, ◌∙◌, subst}
 use Rattle.std.proofs.lemmas.List.{length-map}
 use Rattle.cell_face.specs.Faces.{Face}
 use Rattle.rma_types.specs.declared.accesses.Step.TheVariants.{One}
-use Rattle.step_runs.specs.Agents.{finished}
+use Rattle.step_runs.specs.Agents.{end_call}
 use Rattle.step_runs.specs.BoardSteps.{enter}
 use Rattle.sync_board.specs.Boards.{entry_row, rows_on}
 use Rattle.rank_engine.proofs.TwoEntries.{entered_test, tested_turn}
@@ -20,7 +20,7 @@ returns-in_ok-keep_tested-in-Ok-clause-turn g c =
     tested_turn c.args.self.now c.close.new.self c.keep_tested.new.self c.args.call.now c.in-Ok.seen c.args.board.now
     c.close.new.board face between
     (subst (λ (turned : Turned). IsTurn turned 1 (enter c.args.self.now.stage c.args.self.now.agent
-    (rows_on c.args.board.now) c.args.call.now One finished) c.args.self.now c.close.new.self c.args.board.now
+    (rows_on c.args.board.now) c.args.call.now One end_call) c.args.self.now c.close.new.self c.args.board.now
     c.close.new.board face between) c.in-NotYet.is c.in_ok-close.ensures.turn)
     all c.in_ok-keep_tested-in-Ok.ensures.moved
 
@@ -30,5 +30,5 @@ returns-in-Did-clause-turn g c =
     let after : Face = g.M.Memory.face c.close.new.notes in
     entered_test c.args.self.now c.close.new.self c.args.call.now c.args.board.now c.close.new.board face after
     (subst (λ (turned : Turned). IsTurn turned 1 (enter c.args.self.now.stage c.args.self.now.agent
-    (rows_on c.args.board.now) c.args.call.now One finished) c.args.self.now c.close.new.self c.args.board.now
+    (rows_on c.args.board.now) c.args.call.now One end_call) c.args.self.now c.close.new.self c.args.board.now
     c.close.new.board face after) c.in-Did.is c.in_ok-close.ensures.turn)

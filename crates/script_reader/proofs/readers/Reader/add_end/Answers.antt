@@ -1,6 +1,6 @@
 use Rattle.std.proofs.Common.{◌≡◌, [], length, unwrap_or, Ok, Err, sym}
 use Rattle.std.proofs.lemmas.Result.{err_from_is_err_and}
-use Rattle.script_language.specs.Drafts.{added_to, repeated}
+use Rattle.script_language.specs.Drafts.{added_to, repeat_calls}
 use Rattle.script_reader.specs.Totals.{within_limits, totals_behind}
 use Rattle.script_reader.proofs.Adding.{end_ok, end_err}
 use Rattle.script_reader.proofs.Growing.{kept_below}
@@ -31,7 +31,7 @@ returns-clause-draft c =
     (← c.len-ranks.ensures, ← c.unwrap_or-times.ensures, ← c.replace-inside.ensures.value, ← c.as_slice.ensures)
     c.in_ok-totals.ensures in
     let lists : c.from_vec.result ≡ added_to c.args.self.now.draft.block
-    (repeated (unwrap_or c.args.self.now.draft.times 0) c.args.self.now.draft.inside) c.args.self.now.draft.calls =
+    (repeat_calls (unwrap_or c.args.self.now.draft.times 0) c.args.self.now.draft.inside) c.args.self.now.draft.calls =
     cc c.in_ok-expand.ensures in
     let none : c.replace-inside.new.dest ≡ [] = cc in
     rw none (end_ok c.args.self.now.draft c.args.fields c.from_vec.result c.args.self.now.totals c.in_ok-totals.totals
@@ -45,7 +45,7 @@ returns-clause-totals c =
     (← c.len-ranks.ensures, ← c.unwrap_or-times.ensures, ← c.replace-inside.ensures.value, ← c.as_slice.ensures)
     c.in_ok-totals.ensures in
     let lists : c.from_vec.result ≡ added_to c.args.self.now.draft.block
-    (repeated (unwrap_or c.args.self.now.draft.times 0) c.args.self.now.draft.inside) c.args.self.now.draft.calls =
+    (repeat_calls (unwrap_or c.args.self.now.draft.times 0) c.args.self.now.draft.inside) c.args.self.now.draft.calls =
     cc c.in_ok-expand.ensures in
     (end_ok c.args.self.now.draft c.args.fields c.from_vec.result c.args.self.now.totals c.in_ok-totals.totals
     c.requires.sound c.requires.totals within lists).1
