@@ -71,7 +71,8 @@ module _ (script : Script) (delay : Delay) (run : Run) (lawful : IsLawful script
             ∙ events;
         asked = map-append (λ (s : Seen). s.entry.event) old.seen (new ∷ [])
             ∙ ap (λ l. l ++ entry.event ∷ []) old.asked
-            ∙ events_more script.ranks before row ∙ ap (events_of script.ranks) (sym (map-append (λ (s : Seen). s.row) old.seen (new ∷ [])));
+            ∙ events_more script.ranks before row
+            ∙ ap (events_of script.ranks) (sym (map-append (λ (s : Seen). s.row) old.seen (new ∷ [])));
         rows = map-append (λ (s : Seen). s.row) old.seen (new ∷ []) ∙ ap (λ l. l ++ row ∷ []) old.rows
             ∙ sym (take_at (rows_of script run) count row of_rows) ∙ ap (λ n. take n (rows_of script run)) (sym next);
         board = ap (λ l. l ++ given_seen from new ∷ []) old.board ∙ sym (map-append (given_seen from) old.seen

@@ -43,6 +43,10 @@ LimitsOfNumbers = Fail (
     ∷ call_fails (codes "start w0 0 2147483648") Limit
     ∷ [])
 
+-- a script has at most 16 ranks
+abbrev pub LimitOfRanks : Type 0
+LimitOfRanks = Say (codes "ranks 16" ∷ []) (script (replicate 16 []))
+
 abbrev pub sixteen : List ℕ
 sixteen = copies 16 (codes " 1")
 

@@ -1,5 +1,5 @@
 -- Texts that are read.
-use Rattle.std.specs.Prelude.{ℕ, pos, negsuc, true, false, List, [], ◌∷◌, codes, Some, None}
+use Rattle.std.specs.Prelude.{ℕ, pos, negsuc, true, false, List, [], ◌∷◌, ◌++◌, codes, Some, None}
 use Rattle.rma_types.specs.declared.calls.Asserts.{Asserts}
 use Rattle.rma_types.specs.declared.calls.Call.{Call}
 use Rattle.rma_types.specs.declared.calls.Call.TheVariants.{Allocate, Create, Dynamic, Free, Attach, Detach, Fence}
@@ -138,7 +138,8 @@ OnePutIsSaid = AreCanonical
 -- comments, blank lines, spaces, tabs and carriage returns say nothing, and the last line needs no line feed
 abbrev pub BlanksAreSkipped : Type 0
 BlanksAreSkipped =
-    Reads (codes "\n  ranks\t 2 # two\n#\nrank 0\r\n\tallocate w0 4 4\r\n  \r\nfence  w0#\nput w0 1  0 int32 5 0 \nrank 1 # 2\n # rank 0\nbarrier") one_put
+    Reads (codes "\n  ranks\t 2 # two\n#\nrank 0\r\n\tallocate w0 4 4\r\n  \r\nfence  w0#\n"
+    ++ codes "put w0 1  0 int32 5 0 \nrank 1 # 2\n # rank 0\nbarrier") one_put
     × Reads (codes "ranks 2\nrank 0\nallocate w0 4 4\nfence w0\nput w0 1 0 int32 5 0\nrank 1\nbarrier\n\n\n") one_put
 
 -- a number may have leading zeros, and zero a minus sign

@@ -1,9 +1,10 @@
 //! The limits of the language.
-ghost use Rattle.language_rows.specs.Limits.{LimitsOfNumbers, LimitsOfGroups, LimitsOfValues, LimitsOfMemory};
+ghost use Rattle.language_rows.specs.Limits.{LimitOfRanks, LimitsOfNumbers, LimitsOfGroups, LimitsOfValues, LimitsOfMemory};
 ghost use Rattle.language_rows.specs.Limits.{IsTheLongest, LimitsOfCalls, TooLongIsRefused};
 
 /// Numbers, groups and values at their limits and past them.
 pub fn limits_of_a_line()
+    ensures ranks { LimitOfRanks }
     ensures numbers { LimitsOfNumbers }
     ensures groups { LimitsOfGroups }
     ensures values { LimitsOfValues }

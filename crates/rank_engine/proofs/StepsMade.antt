@@ -53,7 +53,8 @@ steps_delivered before between after at done face face_after knows sound sound_b
       few = let more = move_few before between (Some at) move in omega arith;
       free = let less = move.below in omega arith;
       share = let less = move_share before between (Some at) sound move in
-          let ahead = delivered_ahead between after at done face face_after knows sound_between delivered.0 delivered.1 in
+          let ahead = delivered_ahead between after at done face face_after knows sound_between delivered.0
+          delivered.1 in
           omega arith;
     }
 

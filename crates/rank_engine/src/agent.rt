@@ -222,8 +222,8 @@ impl<'s, L: Keep + Drop> Agent<'s, L> {
     /// A step of the rank at the board: an entry, or the two of a collective call; a refusal by the board; or a false
     /// test (MPI 3.1, section 11.5). It makes no touch.
     ///
-    /// A token of `notes` is given with each Arrive, post, complete, unlock and unlock_all; what an entry gains is met. A
-    /// step that refuses the call does nothing else. Where memory runs out, the log keeps all its items.
+    /// A token of `notes` is given with each Arrive, post, complete, unlock and unlock_all; what an entry gains is met.
+    /// A step that refuses the call does nothing else. Where memory runs out, the log keeps all its items.
     pub fn next_board<M: Memory>(
         &mut self,
         notes: &mut M,
@@ -282,8 +282,8 @@ impl<'s, L: Keep + Drop> Agent<'s, L> {
         }
     }
 
-    /// Delivers the first pending access of a rank that waits or has ended. Where memory runs out, the log is as it was,
-    /// and no cell is touched.
+    /// Delivers the first pending access of a rank that waits or has ended. Where memory runs out, the log is as it
+    /// was, and no cell is touched.
     pub fn drain<M: Memory>(&mut self, mem: &mut M) -> Result<Turned, NoMemory>
         requires free { 300 ≤ self.old.free }
         requires room { HasRoom self.old (M.face mem.old) }

@@ -36,8 +36,8 @@ first_epochs = replicate 32 no_epochs
 abbrev pub epochs_at : List Epochs → ℕ → Epochs
 epochs_at epochs win = slice_index_or epochs win no_epochs
 
--- No access epoch, or a fence epoch without an RMA call. That a start, a lock or a post may follow such a fence epoch is
--- this project's profile.
+-- No access epoch, or a fence epoch without an RMA call. That a start, a lock or a post may follow such a fence epoch
+-- is this project's profile.
 abbrev pub may_begin : AccessEpoch → Bool
 may_begin Idle = true
 may_begin FenceUnused = true

@@ -6,11 +6,23 @@ use Rattle.rma_record.specs.declared.runs.Run.{Run}
 use Rattle.lawful_runs.specs.Items.{is_refused}
 use Rattle.run_texts.specs.Report.{all_ended}
 
--- 7 where a rank stands; else 1 where there is a finding or a refused call; else 0
+-- each rank ended, no call was refused, and nothing was found
+abbrev pub all_is_well : ℕ
+all_is_well = 0
+
+-- there is a finding or a refused call
+abbrev pub something_is_wrong : ℕ
+something_is_wrong = 1
+
+-- a rank stands at a call
+abbrev pub rank_is_stuck : ℕ
+rank_is_stuck = 7
+
+-- of a run whose report was written
 abbrev pub status : Run → List Finding → ℕ
 status run found =
-    if not (all_ended run) then 7
-    else (if nat_lt 0 (length found) || list_any (list_any is_refused) run.logs then 1 else 0)
+    if not (all_ended run) then rank_is_stuck
+    else (if nat_lt 0 (length found) || list_any (list_any is_refused) run.logs then something_is_wrong else all_is_well)
 
 -- the words of the command line are refused
 abbrev pub words_refused : ℕ

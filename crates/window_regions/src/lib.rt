@@ -13,6 +13,7 @@ mod tests;
 mod window;
 
 pub use attached::Attached;
+pub use call_rules::Piece;
 pub use own::OwnRanges;
 pub use places::{Range, address, piece, place};
 pub use table::WindowTable;

@@ -5,6 +5,10 @@ use Rattle.script_language.specs.Reading.{read}
 use Rattle.script_language.specs.Canon.{canon}
 use Rattle.language_rows.proofs.limits.limits_of_a_line.Goals as goal
 
+pub returns-clause-ranks : goal.returns-clause-ranks
+unfolding read canon digits
+returns-clause-ranks c = refl
+
 pub returns-clause-numbers : goal.returns-clause-numbers
 unfolding read canon digits
 returns-clause-numbers c = refl
