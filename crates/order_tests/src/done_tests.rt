@@ -102,6 +102,18 @@ fn a_read_is_done_where_its_request_ends(rt: HostRuntime) -> Result<(), NoMemory
 }
 
 #[test]
+fn a_read_is_done_where_its_request_is_tested(rt: HostRuntime) -> Result<(), NoMemory> {
+    let alloc = rt.alloc();
+    are_done(
+        &rt,
+        alloc,
+        "ranks 2\nrank 0\nallocate w0 4 4\nlock_all w0\nrget q0 w0 1 0 int32 1\ntestreq q0\nunlock_all w0\nrank 1\nallocate w0 4 4\n",
+        id(0, 3),
+        &[id(0, 5), id(0, 6)],
+    )
+}
+
+#[test]
 fn what_is_no_access_has_no_points(rt: HostRuntime) -> Result<(), NoMemory> {
     let alloc = rt.alloc();
     are_done(&rt, alloc, PUT_FLUSHED, id(0, 2), &[])?;

@@ -1,7 +1,7 @@
 //! Entries put at their places.
-use crate::entries_by_place;
+use crate::{entries_by_place, wide_layout};
 use rma_record::{Item, Keep, Log, Logs};
-use rma_types::{Id, NoMemory, Step};
+use rma_types::{Id, MemoryPart, NoMemory, Step};
 use std::alloc::AllocError;
 use std::process::Abort;
 
@@ -41,5 +41,19 @@ fn entries_stand_at_their_places(rt: HostRuntime) -> Result<(), NoMemory> {
     assert!(rt; order.len() == 2);
     assert!(rt; order[0].id == item(1, 0) && order[1].id == item(0, 1));
     assert!(rt; order[0].call == 0 && order[1].call == 1 && order[1].step == Step::Arrive);
+    Ok(())
+}
+
+#[test]
+fn a_wide_layout_has_65536_bytes_for_each_rank(rt: HostRuntime) -> Result<(), NoMemory> {
+    let layout = wide_layout(rt.alloc(), 16)?;
+    assert!(rt; layout.parts.len() == 16 && layout.bases.len() == 16);
+    let part = MemoryPart {
+        first_cell: 0,
+        bytes: 65536,
+    };
+    for at in 0..16usize {
+        assert!(rt; layout.parts.get(at) == Some(&part));
+    }
     Ok(())
 }
