@@ -7,6 +7,7 @@ use crate::tokens::Token;
 /// A front of 16 places, for a board or a check that has no memory behind it.
 #[derive(Clone, Copy, Debug, PartialEq, Eq)]
 pub struct Front {
+    /// For each of 16 cells, how many of its updates are known.
     pub places: [u32; 16],
 }
 

@@ -28,6 +28,7 @@ impl Model for Attached {
 
 /// All of them count as attached to the window w0.
 impl Attached {
+    /// No ranges. It takes no memory.
     pub fn new(alloc: Global) -> Attached
         ensures { result ≡ [] }
     {
@@ -36,7 +37,8 @@ impl Attached {
         }
     }
 
-    /// A range comes: so many bytes from the base on, at least 1, of which none is in a range that is there.
+    /// A range comes (MPI 3.1, section 11.2.4): so many bytes from the base on, at least 1, of which none is in a range
+    /// that is there.
     ///
     /// `Err` changes nothing.
     pub fn add(&mut self, base: u32, bytes: u32) -> Result<(), NoMemory>
@@ -56,14 +58,15 @@ impl Attached {
         self.ranges.is_taken(base, bytes)
     }
 
-    /// The range that begins at the base goes.
+    /// The range that begins at the base goes (MPI 3.1, section 11.2.4). Where none begins there, nothing changes.
     pub fn remove(&mut self, base: u32)
         ensures { self.new ≡ filter (λ range. not (range.base == base)) self.old }
     {
         self.ranges.detach(0, base);
     }
 
-    /// Whether each of so many bytes from an address on lies in one of the ranges.
+    /// Whether each of so many bytes from an address on lies in one of the ranges, which may adjoin (MPI 3.1, section
+    /// 11.2.4). Of 0 bytes it is true.
     pub fn covers(&self, lo: u32, len: u32) -> bool
         ensures { result ≡ do_they_cover self.now lo len }
     {

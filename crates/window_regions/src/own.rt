@@ -35,6 +35,7 @@ impl Model for OwnRanges {
 }
 
 impl OwnRanges {
+    /// No ranges. It takes no memory.
     pub fn new(alloc: Global) -> OwnRanges
         ensures { result ≡ [] }
     {

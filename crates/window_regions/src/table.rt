@@ -245,7 +245,8 @@ impl WindowTable {
         self.own.attach(win, base, bytes)
     }
 
-    /// The range that begins at the base is detached from the window.
+    /// The range that begins at the base is detached from the window (MPI 3.1, section 11.2.4). A range of another
+    /// window stays.
     pub fn detach(&mut self, win: u8, base: u32)
         ensures { self.new ≡ rules.without_range self.old win base }
     {
