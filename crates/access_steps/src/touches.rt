@@ -17,11 +17,12 @@ use cell_face::{Memory, Moved, Seen, next_bits};
 use rma_record::{Item, Keep};
 use rma_types::{Access, Call, Dtype, Layout, Op};
 
-/// How far a call of `touch_on` came: the next element that is to be touched, and whether it stopped because an attempt
-/// on that element came too late.
+/// How far a call of `touch_on` came.
 #[derive(Clone, Copy, Debug, PartialEq, Eq)]
 pub struct Progress {
+    /// The next element that is to be touched, 0 to 255; the number of elements, at most 256, where none is left.
     pub next: u32,
+    /// Whether it stopped at that element because an attempt on it came too late.
     pub moved: bool,
 }
 
@@ -124,8 +125,10 @@ pub fn touch_on<M: Memory, L: Keep>(
     ensures end { result.next ≤ element_count call.now }
     ensures touches { TouchesKept (M.face mem.old) (M.face mem.new) (M.knows mem.new) (L.kept log.old) (L.kept log.new)
         issue (planned_touches layout.now access.now call.now from (result.next - from)) }
-    ensures moved { MatchBool result.moved (Rose (M.face mem.old).moves (M.face mem.new).moves)
-        ((M.face mem.new).moves ≡ (M.face mem.old).moves × result.next ≡ element_count call.now) }
+    ensures moved { MatchBool result.moved
+        (Rose (M.face mem.old).moves (M.face mem.new).moves) ((M.face mem.new).moves ≡ (M.face mem.old).moves) }
+    ensures left { MatchBool result.moved
+        (result.next < element_count call.now) (result.next ≡ element_count call.now) }
     ensures known { Keeps (M.knows mem.old) (M.knows mem.new) }
 
     // Where the memory tells its cells, no attempt comes too late.

@@ -1,5 +1,5 @@
 -- A rank's pending accesses and its live requests: MPI 3.1, sections 11.3.5 and 11.7.
-use Rattle.std.specs.Prelude.{ℕ, ◌≡◌, ◌+◌, ◌-◌, ◌≤◌, ◌++◌, Bool, true, false, List, [], map, Option, Some, IsTrue}
+use Rattle.std.specs.Prelude.{ℕ, ◌≡◌, ◌+◌, ◌-◌, ◌<◌, ◌≤◌, ◌++◌, Bool, true, false, List, [], map, Option, Some, IsTrue}
 use Rattle.std.specs.Prelude.{slice_get, slice_index, slice_set, remove, drop, IfSome}
 use Rattle.std.specs.Option.{option_map_or}
 use Rattle.rma_types.specs.declared.accesses.Access.{Access}
@@ -84,6 +84,7 @@ pub record Delivers (queue after : Queue) (at : ℕ) (done : Bool) (layout : Lay
   pub within : next ≤ element_count call
   pub queue_after : after ≡ after_delivery done queue at next
   pub whole : done ≡ true → next ≡ element_count call
+  pub left : done ≡ false → next < element_count call
   pub touches : TouchesKept before_face after_face knows kept_before kept_after one.index
       (planned_touches layout one.access call (slice_index queue.touched at) (next - slice_index queue.touched at))
 

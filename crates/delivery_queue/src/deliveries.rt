@@ -36,8 +36,9 @@ pub fn touch_pending<M: Memory, L: Keep>(
         (L.kept log.old) (L.kept log.new) one.now.index
         (planned_touches layout.now one.now.access call.now from (progress.next - from))) }
     ensures moved { IfOk result (λ progress. MatchBool progress.moved
-        (Rose (M.face mem.old).moves (M.face mem.new).moves)
-        ((M.face mem.new).moves ≡ (M.face mem.old).moves × progress.next ≡ element_count call.now)) }
+        (Rose (M.face mem.old).moves (M.face mem.new).moves) ((M.face mem.new).moves ≡ (M.face mem.old).moves)) }
+    ensures left { IfOk result (λ progress. MatchBool progress.moved
+        (progress.next < element_count call.now) (progress.next ≡ element_count call.now)) }
     ensures told_whole { IfOk result (λ progress. IfSome (M.face mem.old).told (λ _. progress.moved ≡ false)) }
     ensures told { IfOk result (λ _. IfSome (M.face mem.old).told (λ cells. IfSome (transfer_of call.now) (λ t.
         let left = drop from (pieces layout.now one.now.access t.dtype) in

@@ -1,6 +1,6 @@
 //! A rank's pending accesses and live requests.
 ghost use Rattle.std.specs.Prelude.{◌≡◌, ◌<◌, ◌≤◌, ◌+◌, ◌++◌, [], ◌∷◌, length, slice_get, slice_index, true, false};
-ghost use Rattle.std.specs.Prelude.{Some, IfSome, IfOk, OnOk, OnErr};
+ghost use Rattle.std.specs.Prelude.{Some, IfSome, IfOk, OnOk, OnErr, MatchBool};
 ghost use Rattle.call_rules.specs.WellFormed.{IsWrittenCall};
 ghost use Rattle.delivery_queue.specs.Queues.{no_accesses, issued, with_access, with_touched, without_access, Delivers};
 ghost use Rattle.delivery_queue.specs.Queues.{DeliversWhole, IsDeliverable};
@@ -25,8 +25,9 @@ use std::marker::Model;
 /// What a delivery came to: whether the access is done, and how many of its elements were touched.
 #[derive(Clone, Copy, Debug, PartialEq, Eq)]
 pub struct Delivery {
+    /// All elements are touched, and the access is pending no more; else an attempt on the next element came too late.
     pub done: bool,
-    /// At most 256.
+    /// 0 to 256.
     pub touches: u32,
 }
 
@@ -215,8 +216,8 @@ impl Pending {
         ensures told { IfOk result (λ delivery. IfSome (M.face mem.old).told (λ cells.
             (delivery.done ≡ true) × DeliversWhole self.old at layout.now calls.now cells
             (M.face mem.new).told (L.kept log.old) (L.kept log.new))) }
-        ensures moved { IfOk result (λ delivery.
-            delivery.done ≡ false → Rose (M.face mem.old).moves (M.face mem.new).moves) }
+        ensures moved { IfOk result (λ delivery. MatchBool delivery.done
+            ((M.face mem.new).moves ≡ (M.face mem.old).moves) (Rose (M.face mem.old).moves (M.face mem.new).moves)) }
         ensures known { Keeps (M.knows mem.old) (M.knows mem.new) }
         ensures free_below { L.free log.new ≤ L.free log.old }
         ensures home { L.home log.new ≡ L.home log.old }

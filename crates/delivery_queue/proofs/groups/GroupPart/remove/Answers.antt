@@ -1,4 +1,4 @@
-use Rattle.std.proofs.Common.{◌≡◌, ◌<◌, sym, List, length}
+use Rattle.std.proofs.Common.{◌<◌, List, length}
 use Rattle.delivery_queue.specs.declared.begun.Begun.{Begun}
 use Rattle.delivery_queue.specs.Blocks.{ones_in}
 use Rattle.delivery_queue.proofs.Joined.{removed_kept}
