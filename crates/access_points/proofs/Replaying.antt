@@ -1,8 +1,8 @@
 -- One entry more is put to the board, and all of them.
-use Rattle.std.proofs.Common.{◌≡◌, ℕ, suc, ◌+◌, ◌<◌, ◌≤◌, Bool, List, [], ◌∷◌, ◌++◌, length, Some, refl, ap, sym}
+use Rattle.std.proofs.Common.{◌≡◌, ℕ, suc, ◌+◌, ◌<◌, Bool, List, [], ◌∷◌, ◌++◌, length, Some, refl, ap, sym}
 use Rattle.std.proofs.Common.{subst, ◌∙◌, arith}
 use Rattle.std.specs.Prelude.{is_some, map, take, slice_get, slice_index_or, if◌then◌else◌, ◌&&◌}
-use Rattle.std.specs.List.{list_any, zip}
+use Rattle.std.specs.List.{list_any}
 use Rattle.std.proofs.lemmas.List.{length-map, map-append, take_all}
 use Rattle.rma_types.specs.declared.accesses.Id.{Id}
 use Rattle.rma_types.specs.declared.calls.Call.{Call}
@@ -13,8 +13,8 @@ use Rattle.board_rules.specs.Edges.{events_of}
 use Rattle.board_rules.specs.Entries.{Row}
 use Rattle.kept_rows.specs.Gifts.{Given, gained_by, next_event}
 use Rattle.lawful_runs.specs.LawfulRun.{IsLawful}
-use Rattle.lawful_runs.specs.Logs.{Named, calls_of, entries_of, rows_of}
-use Rattle.order_rules.specs.Before.{NamedEvent, events_in, is_edge_between, is_same_id, named_event}
+use Rattle.lawful_runs.specs.Logs.{calls_of, entries_of, rows_of}
+use Rattle.order_rules.specs.Before.{NamedEvent, events_in, is_edge_between, is_same_id}
 use Rattle.placed_entries.specs.Places.{placed_item}
 use Rattle.placed_entries.specs.Rows.{row_placed}
 use Rattle.placed_entries.specs.declared.places.Placed.{Placed}

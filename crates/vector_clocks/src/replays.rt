@@ -116,7 +116,7 @@ fn enter(
 }
 
 /// A list of marks for each of 16 ranks, all empty.
-#[tactic(auto, using(crate::proofs::Wides::one_more_of))]
+#[tactic(auto, using(placed_entries::proofs::Wides::one_more_of))]
 pub(crate) fn no_marks(alloc: Global) -> Result<Vec<Items<Mark>>, NoMemory>
     ensures { IfOk result (λ clocks. clocks.items ≡ replicate 16 []) }
 {

@@ -1,5 +1,5 @@
 -- The first mark that counts the item is that of the least index.
-use Rattle.std.proofs.Common.{◌∙◌, sym, ap, arith}
+use Rattle.std.proofs.Common.{◌∙◌, sym, ap}
 use Rattle.std.specs.Prelude.{nat_le}
 use Rattle.std.proofs.lemmas.Bool.{lt-leb}
 use Rattle.vector_clocks.proofs.FirstCounts.{first_counts, none_counts}
