@@ -1,7 +1,13 @@
--- What a log keeps where memory ran out: all its items.
+-- What stays where memory ran out: all items of a log, and all entries of a board.
 use Rattle.std.specs.Prelude.{◌≡◌, List, ◌++◌}
 use Rattle.rma_record.specs.declared.items.Item.{Item}
+use Rattle.kept_rows.specs.Gifts.{Given}
+use Rattle.sync_board.specs.Boards.{BoardState}
 
 -- the log after a step begins with all items that it had before it, each as it was
 abbrev pub KeepsItems : (before after : List Item) → Type 0
 KeepsItems before after = (more : List Item) × (after ≡ before ++ more)
+
+-- the board after a step begins with all entries that it had before it, each as it was, and is otherwise the same
+abbrev pub KeepsEntries : (before after : BoardState) → Type 0
+KeepsEntries before after = (more : List Given) × (after ≡ record before { entries = before.entries ++ more })

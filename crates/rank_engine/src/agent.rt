@@ -8,11 +8,11 @@ ghost use Rattle.rank_rules.specs.Knowledge.{own_class as class_by_rank};
 ghost use Rattle.step_runs.specs.Agents.{next_call as next_call_of, begins_with_entry, is_seeded, must_draw};
 ghost use Rattle.call_rules.specs.Layout.{layout as memory_layout};
 ghost use Rattle.call_rules.specs.WellFormed.{IsWellFormed};
-ghost use Rattle.cell_face.specs.Faces.{Keeps};
+ghost use Rattle.cell_face.specs.Faces.{Keeps, Unwritten};
 ghost use Rattle.rank_engine.specs.BoardAnswers.{IsBoardAnswer, IsBoardOf};
 ghost use Rattle.rank_engine.specs.DataAnswers.{HasRoom, IsDataAnswer, IsWholeStep, IsDrainAnswer, IsWholeDrain};
 ghost use Rattle.rank_engine.specs.DataAnswers.{is_again, is_full};
-ghost use Rattle.rank_engine.specs.KeptItems.{KeepsItems};
+ghost use Rattle.rank_engine.specs.KeptItems.{KeepsEntries, KeepsItems};
 ghost use Rattle.rank_engine.specs.RankStates.{new_state, is_at_hand, needs_entry};
 ghost use Rattle.rank_engine.specs.Refusals.{RefusesAlone};
 
@@ -223,7 +223,8 @@ impl<'s, L: Keep + Drop> Agent<'s, L> {
     /// test (MPI 3.1, section 11.5). It makes no touch.
     ///
     /// A token of `notes` is given with each Arrive, post, complete, unlock and unlock_all; what an entry gains is met.
-    /// A step that refuses the call does nothing else. Where memory runs out, the log keeps all its items.
+    /// A step that refuses the call does nothing else. Where memory runs out, the log keeps all its items and the board
+    /// all its entries, and no cell is touched.
     pub fn next_board<M: Memory>(
         &mut self,
         notes: &mut M,
@@ -236,6 +237,8 @@ impl<'s, L: Keep + Drop> Agent<'s, L> {
         ensures refusal { IfOk result (λ _. RefusesAlone self.old self.new) }
         ensures known { IfOk result (λ _. Keeps (M.knows notes.old) (M.knows notes.new)) }
         ensures kept { OnErr result (KeepsItems self.old.agent.log self.new.agent.log) }
+        ensures unwritten { OnErr result (Unwritten (M.face notes.old) (M.face notes.new)) }
+        ensures entries { OnErr result (KeepsEntries board.old board.new) }
     {
         if self.log.free_known() < STEP_ROOM {
             return Ok(Turned::Full);

@@ -1,7 +1,7 @@
 //! The steps of a rank at the board: an entry, or the two of a collective call; a refusal; or a false test (MPI 3.1,
 //! section 11.5, in this project's profile).
 ghost use Rattle.std.specs.Prelude.{◌≡◌, ◌<◌, ◌≤◌, false, true, None, IfOk, OnErr};
-ghost use Rattle.cell_face.specs.Faces.{Keeps};
+ghost use Rattle.cell_face.specs.Faces.{Keeps, Unwritten};
 ghost use Rattle.rank_rules.specs.Courses as rules;
 ghost use Rattle.rma_record.specs.declared.items.Item.TheVariants.{Tested};
 ghost use Rattle.rma_types.specs.declared.accesses.Step.TheVariants.{Arrive as ArriveStep, Leave as LeaveStep};
@@ -11,7 +11,7 @@ ghost use Rattle.step_runs.specs.BoardSteps.{arrive as arrive_by, enter as enter
 ghost use Rattle.step_runs.specs.DataSteps.{without_delivery, with_item};
 ghost use Rattle.sync_board.specs.Boards.{rows_on};
 ghost use Rattle.rank_engine.specs.Entering.{IsClosing, IsOpening, IsReady, IsTurn};
-ghost use Rattle.rank_engine.specs.KeptItems.{KeepsItems};
+ghost use Rattle.rank_engine.specs.KeptItems.{KeepsEntries, KeepsItems};
 ghost use Rattle.rank_engine.specs.Moves.{IsMove};
 
 use crate::agent::Agent;
@@ -64,6 +64,8 @@ impl<'s, L: Keep + Drop> Agent<'s, L> {
             self.old self.new board.old board.new (M.face notes.old) (M.face notes.new)) }
         ensures known { IfOk result (λ _. Keeps (M.knows notes.old) (M.knows notes.new)) }
         ensures kept { OnErr result (self.new.agent.log ≡ self.old.agent.log) }
+        ensures unwritten { OnErr result (Unwritten (M.face notes.old) (M.face notes.new)) }
+        ensures entries { OnErr result (KeepsEntries board.old board.new) }
     {
         if self.kept == u32::MAX {
             return Err(NoMemory);
@@ -104,6 +106,8 @@ impl<'s, L: Keep + Drop> Agent<'s, L> {
             self.old self.new board.old board.new (M.face notes.old) (M.face notes.new)) }
         ensures known { IfOk result (λ _. Keeps (M.knows notes.old) (M.knows notes.new)) }
         ensures kept { OnErr result (self.new.agent.log ≡ self.old.agent.log) }
+        ensures unwritten { OnErr result (Unwritten (M.face notes.old) (M.face notes.new)) }
+        ensures entries { OnErr result (KeepsEntries board.old board.new) }
     {
         if self.kept == u32::MAX {
             return Err(NoMemory);
@@ -148,6 +152,8 @@ impl<'s, L: Keep + Drop> Agent<'s, L> {
             self.old self.new board.old board.new (M.face notes.old) (M.face notes.new)) }
         ensures known { IfOk result (λ _. Keeps (M.knows notes.old) (M.knows notes.new)) }
         ensures kept { OnErr result (self.new.agent.log ≡ self.old.agent.log) }
+        ensures unwritten { OnErr result (Unwritten (M.face notes.old) (M.face notes.new)) }
+        ensures entries { OnErr result (KeepsEntries board.old board.new) }
     {
         match self.close(notes, board, call, Step::One)? {
             Turned::NotYet => match u32::try_from(board.entries().len()) {
@@ -178,6 +184,8 @@ impl<'s, L: Keep + Drop> Agent<'s, L> {
             self.old self.new board.old board.new (M.face notes.old) (M.face notes.new)) }
         ensures known { IfOk result (λ _. Keeps (M.knows notes.old) (M.knows notes.new)) }
         ensures kept { OnErr result (KeepsItems self.old.agent.log self.new.agent.log) }
+        ensures unwritten { OnErr result (Unwritten (M.face notes.old) (M.face notes.new)) }
+        ensures entries { OnErr result (KeepsEntries board.old board.new) }
     {
         let arrived = self.open(notes, board, call, Step::Arrive)?;
         if !self.entered {
@@ -203,6 +211,8 @@ impl<'s, L: Keep + Drop> Agent<'s, L> {
             self.old self.new board.old board.new (M.face notes.old) (M.face notes.new)) }
         ensures known { IfOk result (λ _. Keeps (M.knows notes.old) (M.knows notes.new)) }
         ensures kept { OnErr result (KeepsItems self.old.agent.log self.new.agent.log) }
+        ensures unwritten { OnErr result (Unwritten (M.face notes.old) (M.face notes.new)) }
+        ensures entries { OnErr result (KeepsEntries board.old board.new) }
     {
         if self.entered {
             return self.close(notes, board, call, Step::Leave);
