@@ -1,5 +1,4 @@
 -- Sequences of entries, and timed work.
-pub mod AskedAlways
 pub mod SmallParts
 pub mod WrittenGroups
 pub mod ZeroBases

@@ -1,14 +1,22 @@
 //! What a board may be asked of a next entry.
-ghost use Rattle.std.specs.Prelude.{◌≡◌, ℕ, true};
-ghost use Rattle.sync_board.specs.Boards.{MayAsk};
+ghost use Rattle.std.specs.Prelude.{◌≡◌, true};
+ghost use Rattle.sync_board.specs.Boards.{MayAsk, MayJudge};
 
-use crate::inside::{brings_inside, lies_inside};
+use crate::inside::brings_inside;
 use crate::steps::is_step;
 use crate::written::is_written;
 use rma_types::{Call, Layout, Step};
 
-/// Whether a board may be asked this: a rank of the run, a call that a line can say, whose ranks and range are those of
-/// the run, and a step of that call.
+/// Whether a board may be asked if it allows this: a rank of the run, a call that a line can say, whose ranks are those
+/// of the run, and a step of that call.
+pub(crate) fn may_judge(ranks: u8, rank: u8, call: &Call, step: Step) -> bool
+    ensures { result ≡ true → MayJudge ranks rank call.now step }
+{
+    rank < ranks && is_written(call, ranks) && is_step(step, call)
+}
+
+/// Whether a board may be asked to put this: it may be asked if it allows it, and the range that the call brings lies
+/// in the memory of the rank.
 pub(crate) fn may_ask(
     ranks: u8,
     layout: &Layout,
@@ -20,23 +28,5 @@ pub(crate) fn may_ask(
     ensures { result ≡ true → MayAsk ranks layout.now
         (record { rank = rank; number = number; call = call.now; step = step }) }
 {
-    rank < ranks
-        && is_written(call, ranks)
-        && brings_inside(layout, rank, number, call)
-        && is_step(step, call)
-}
-
-/// Whether a board may be asked this of a call of any number. An allocate is not asked so.
-pub(crate) fn may_always_ask(ranks: u8, layout: &Layout, rank: u8, call: &Call, step: Step) -> bool
-    ensures { result ≡ true → (number : ℕ) → MayAsk ranks layout.now
-        (record { rank = rank; number = number; call = call.now; step = step }) }
-{
-    if rank >= ranks || !is_written(call, ranks) {
-        return false;
-    }
-    if lies_inside(layout, rank, call) {
-        is_step(step, call)
-    } else {
-        false
-    }
+    may_judge(ranks, rank, call, step) && brings_inside(layout, rank, number, call)
 }

@@ -1,5 +1,5 @@
 //! Whether the range that a call brings to a window lies in its rank's memory (MPI 3.1, sections 11.2.1 to 11.2.4).
-ghost use Rattle.std.specs.Prelude.{◌≡◌, ◌≤◌, ◌+◌, ℕ, [], true, slice_index_or};
+ghost use Rattle.std.specs.Prelude.{◌≡◌, ◌≤◌, ◌+◌, [], true, slice_index_or};
 ghost use Rattle.call_rules.specs.Actions.{action_of};
 ghost use Rattle.call_rules.specs.Ranks.{natural as natural_of};
 ghost use Rattle.board_rules.specs.Shapes.{base_of as base_of_call};
@@ -65,14 +65,15 @@ fn ends_within(base: u32, bytes: u32, room: u32) -> bool
     base <= room && bytes <= room - base
 }
 
-/// Whether the range that the call brings lies in the rank's memory, whichever number the call has. Of an allocate,
-/// whose number says where its memory begins, this is not said.
-pub(crate) fn lies_inside(layout: &Layout, rank: u8, call: &Call) -> bool
-    ensures { result ≡ true → (number : ℕ) → BringsInside layout.now rank number (action_of call.now) }
+/// Whether the range that the call of this number brings lies in the rank's memory.
+pub(crate) fn brings_inside(layout: &Layout, rank: u8, number: u32, call: &Call) -> bool
+    ensures { result ≡ true → BringsInside layout.now rank number (action_of call.now) }
 {
     let room = bytes_at(layout, rank);
     match call {
-        Call::Allocate { .. } => false,
+        Call::Allocate { bytes, .. } => {
+            ends_within(base_of(layout, rank, number), natural(*bytes), room)
+        }
         Call::Create { base, bytes, .. } => ends_within(natural(*base), natural(*bytes), room),
         Call::Attach { base, bytes, .. } => {
             1 <= *bytes && ends_within(natural(*base), natural(*bytes), room)
@@ -106,19 +107,5 @@ pub(crate) fn lies_inside(layout: &Layout, rank: u8, call: &Call) -> bool
         | Call::Store { .. }
         | Call::WaitReq { .. }
         | Call::TestReq { .. } => true,
-    }
-}
-
-/// Whether the range that the call of this number brings lies in the rank's memory.
-pub(crate) fn brings_inside(layout: &Layout, rank: u8, number: u32, call: &Call) -> bool
-    ensures { result ≡ true → BringsInside layout.now rank number (action_of call.now) }
-{
-    match call {
-        Call::Allocate { bytes, .. } => ends_within(
-            base_of(layout, rank, number),
-            natural(*bytes),
-            bytes_at(layout, rank),
-        ),
-        _ => lies_inside(layout, rank, call),
     }
 }

@@ -4,7 +4,7 @@ ghost use Rattle.std.specs.Option.{option_map};
 ghost use Rattle.board_rounds.specs.Sequences.{shape_of};
 
 use crate::answers::{Answer, Made};
-use crate::asking::{may_always_ask, may_ask};
+use crate::asking::{may_ask, may_judge};
 use crate::layouts::is_layout_of;
 use cell_face::Front;
 use rma_types::{Call, Layout, NoMemory, Step};
@@ -105,12 +105,13 @@ impl Sequence {
         }
     }
 
-    /// Whether the next entry of a rank would be entered; none where the board may not be asked.
+    /// Whether the next entry of a rank would be entered, whichever number its call has; none where the board may not be
+    /// asked (MPI 3.1, sections 11.2 and 11.5).
     pub fn allows(&self, rank: u8, call: &Call, step: Step) -> Option<bool>
         ensures { IfSome result (λ allowed. (number : ℕ) → allowed ≡ is_allow (decide self.now.ranks (rows_on self.now)
             (record { rank = rank; number = number; call = call.now; step = step }))) }
     {
-        if may_always_ask(self.ranks, &self.layout, rank, call, step) {
+        if may_judge(self.ranks, rank, call, step) {
             Some(self.board.allows(rank, call, step))
         } else {
             None

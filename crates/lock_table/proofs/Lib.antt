@@ -1,3 +1,4 @@
 pub mod RankMasks
 pub mod TargetLocks
 pub mod TableLocks
+pub mod Exclusion

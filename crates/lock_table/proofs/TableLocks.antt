@@ -180,7 +180,7 @@ at_target p q window i targets d within other here =
     (λ kind holder. rw e (here kind holder))
     ∙ ap (λ t. list_any q (locks_at_target window t (get_or targets i d))) e
 
-clash : (window i : ℕ) (kind : Lock) (rank target : ℕ) (other : Lock) (holder : ℕ) →
+pub clash : (window i : ℕ) (kind : Lock) (rank target : ℕ) (other : Lock) (holder : ℕ) →
     do_clash (lock window i kind rank) (lock window target other holder) ≡ (eqb i target && excludes kind other)
 clash window i kind rank target other holder = rw (eq-eqb window window refl) refl
 

@@ -1,11 +1,11 @@
 -- The held locks of one window, as a table keeps them: MPI 3.1, section 11.5.3.
-use Rattle.std.specs.Prelude.{◌≡◌, ℕ, ◌+◌, Bool, ◌&&◌, ◌==◌, List, [], ◌∷◌, ◌++◌, map, pos, not, Some}
+use Rattle.std.specs.Prelude.{◌≡◌, ℕ, ◌+◌, Bool, false, ◌&&◌, ◌==◌, List, [], ◌∷◌, ◌++◌, map, pos, not, Some}
 use Rattle.std.specs.List.{filter, list_any}
 use Rattle.std.specs.Int.{bit_at}
 use Rattle.rma_types.specs.declared.calls.Lock.{Lock}
 use Rattle.rma_types.specs.declared.calls.Lock.TheVariants.{Shared as SharedLock, Exclusive as ExclusiveLock}
 use Rattle.call_rules.specs.Pieces.{numbers_from}
-use Rattle.board_rules.specs.Locks.{Held, is_given_back}
+use Rattle.board_rules.specs.Locks.{Held, do_clash, is_given_back}
 use Rattle.lock_table.specs.declared.targets.Target.{Target}
 use Rattle.lock_table.specs.declared.targets.Target.TheVariants.{Shared, Exclusive}
 
@@ -29,6 +29,11 @@ is_held_by rank target one = one.holder == rank && one.target == target
 -- the two lists have the same locks: no test tells them apart
 abbrev pub HasSameLocks : List Held → List Held → Type 0
 HasSameLocks a b = (test : Held → Bool) → list_any test a ≡ list_any test b
+
+-- no two locks of the list exclude each other: none is excluded by an earlier one
+abbrev pub NoTwoClash : List Held → Type 0
+NoTwoClash [] = Unit {0}
+NoTwoClash (one ∷ others) = (list_any (do_clash one) others ≡ false) × NoTwoClash others
 
 -- the locks of a list that a rank does not give back at a target
 abbrev pub kept : ℕ → ℕ → ℕ → List Held → List Held

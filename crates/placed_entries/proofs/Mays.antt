@@ -66,16 +66,18 @@ may_ask script delay run formed lawful layout wide one member call got =
     (at_index (AllByRecursion IsWrittenCall) script.calls one.id.rank [] formed.calls tt)
     (get_in (calls_of script one.id.rank) one.call call got) in
     record {
-      rank = entry.within;
-      written = written;
-      names = subst (λ ranks. NamesRanks ranks (action_of call)) place.of_ranks
-          (names_ranks (known_at (rank_in script delay run one.id.rank) judged.before).windows.ranks
-          (known_at (rank_in script delay run one.id.rank) judged.before).epochs (action_of call)
-          (epochs_allow (known_at (rank_in script delay run one.id.rank) judged.before) call own));
+      entry = record {
+        below = entry.within;
+        written = written;
+        names = subst (λ ranks. NamesRanks ranks (action_of call)) place.of_ranks
+            (names_ranks (known_at (rank_in script delay run one.id.rank) judged.before).windows.ranks
+            (known_at (rank_in script delay run one.id.rank) judged.before).epochs (action_of call)
+            (epochs_allow (known_at (rank_in script delay run one.id.rank) judged.before) call own));
+        fits = fits judged.call call one.step same judged.fits;
+      };
       inside = inside script.ranks layout wide one.id.rank one.call entry.within
           (known_at (rank_in script delay run one.id.rank) judged.before).windows (omega (arith, small, place.of_space))
           call written (windows_allow (known_at (rank_in script delay run one.id.rank) judged.before) call own);
-      step = fits judged.call call one.step same judged.fits;
     }
   where
     same_call : (other : Call) → Some other ≡ Some call → other ≡ call

@@ -229,16 +229,18 @@ pub may_ask : (s : RankState) (call : Call) (step : Step) (board : BoardState) (
     IsReady s call board face → is_step_of step call ≡ true →
     MayAsk board.ranks board.layout (next_row s.agent call step)
 may_ask s call step board face sound ready step_is = record {
-  rank = subst (λ n. s.agent.rank < n) (sym ready.board_is.ranks) sound.rank;
-  written = ready.written;
-  names = names_ranks board.ranks s.agent.known.epochs (action_of call)
-      (subst (λ n. epoch_class n s.agent.known.epochs (action_of call) ≡ None)
-      (sound.windows.ranks ∙ sym ready.board_is.ranks) (epochs_allow s.agent.known call ready.own));
+  entry = record {
+    below = subst (λ n. s.agent.rank < n) (sym ready.board_is.ranks) sound.rank;
+    written = ready.written;
+    names = names_ranks board.ranks s.agent.known.epochs (action_of call)
+        (subst (λ n. epoch_class n s.agent.known.epochs (action_of call) ≡ None)
+        (sound.windows.ranks ∙ sym ready.board_is.ranks) (epochs_allow s.agent.known call ready.own));
+    fits = step_is;
+  };
   inside = subst (λ l. BringsInside l s.agent.rank s.agent.at (action_of call))
       (sym (ready.board_is.layout ∙ sound.layout))
       (brings_inside s.stage.script s.agent.rank s.agent.at call s.agent.known.windows sound.formed sound.rank
       ready.here
       (subst (λ l. s.agent.known.windows.space ≤ bytes_at l s.agent.rank) sound.layout sound.windows.space)
       (windows_allow s.agent.known call ready.own));
-  step = step_is;
 }

@@ -7,7 +7,7 @@ use Rattle.rank_rules.specs.Windows.{window_number}
 use Rattle.board_rules.specs.Board.{Decision, Refuse, Allow, NotYet}
 use Rattle.board_rules.specs.Entries.{Row, window_of}
 use Rattle.board_rules.specs.Questions.{Question}
-use Rattle.sync_board.specs.Boards.{MayAsk}
+use Rattle.sync_board.specs.Boards.{MayAsk, MayJudge}
 use Rattle.sync_board.specs.declared.asked.Asked.{Asked}
 use Rattle.sync_board.specs.declared.asked.Judged.{Judged}
 use Rattle.sync_board.specs.declared.asked.Judged.TheVariants.{Refused, Allowed, NotYet as NotYetJudged}
@@ -15,6 +15,11 @@ use Rattle.sync_board.specs.declared.asked.Judged.TheVariants.{Refused, Allowed,
 -- the entry as a row
 abbrev pub row_asked : Asked → Row
 row_asked asked = record { rank = asked.rank; number = asked.number; call = asked.call.now; step = asked.step }
+
+-- at most 16 ranks, and what is asked of an entry that is only judged
+pub record MayBeJudged (asked : Asked) : Type 0 where
+  pub few : asked.ranks ≤ 16
+  pub may : MayJudge asked.ranks asked.rank asked.call.now asked.step
 
 -- at most 16 ranks, and what is asked of a next entry
 pub record MayBeAsked (layout : Layout) (asked : Asked) : Type 0 where

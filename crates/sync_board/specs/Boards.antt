@@ -77,14 +77,18 @@ is_step_of Arrive call = is_some (collective_of call)
 is_step_of Leave call = is_some (collective_of call)
 is_step_of One call = if is_some (collective_of call) then false else true
 
--- What is asked of a next entry: a rank of the run; a call that a line can say, and that passed the rank's own tests of
--- ranks and ranges; and a step of that call.
+-- What is asked of an entry that is only judged: a rank of the run; a call that a line can say, and that passed the
+-- rank's own tests of ranks; and a step of that call. Of which number the call is, does not matter.
+pub record MayJudge (ranks rank : ℕ) (call : Call) (step : Step) : Type 0 where
+  pub below : rank < ranks
+  pub written : IsWrittenCall call
+  pub names : NamesRanks ranks (action_of call)
+  pub fits : is_step_of step call ≡ true
+
+-- What is asked of a next entry: it may be judged, and the range that its call brings lies in the memory of its rank.
 pub record MayAsk (ranks : ℕ) (layout : Layout) (row : Row) : Type 0 where
-  pub rank : row.rank < ranks
-  pub written : IsWrittenCall row.call
-  pub names : NamesRanks ranks (action_of row.call)
+  pub entry : MayJudge ranks row.rank row.call row.step
   pub inside : BringsInside layout row.rank row.number (action_of row.call)
-  pub step : is_step_of row.step row.call ≡ true
 
 -- A layout of a run of so many ranks: a part of memory for each, of at most 65,536 bytes, and a list of bases for each.
 pub record IsLayoutOf (ranks : ℕ) (layout : Layout) : Type 0 where

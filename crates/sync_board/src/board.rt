@@ -64,7 +64,7 @@ fn forked<N: Token>(gift: &mut Option<N>) -> Option<N>
 impl<N: Token> Board<N> {
     ghost use Rattle.board_rules.specs.Board.{Allow, decide as answer_to};
     ghost use Rattle.sync_board.specs.Asked.{IsAfter, row_asked};
-    ghost use Rattle.sync_board.specs.Boards.{IsAnswer, IsLayoutOf, MayAsk, entry_row, is_allow, rows_on};
+    ghost use Rattle.sync_board.specs.Boards.{IsAnswer, IsLayoutOf, MayAsk, MayJudge, entry_row, is_allow, rows_on};
 
     /// A board without entries, for 1 to 16 ranks with this layout of memory. The root is a token of the memory from
     /// which gifts come; it is kept, and is no gift.
@@ -163,7 +163,7 @@ impl<N: Token> Board<N> {
         ensures unchanged { OnErr result (self.new ≡ self.old) }
     {
         let asked = self.state.ask(self.ranks, rank, number, call, step);
-        match self.state.judge(self.alloc, &asked, &self.layout) {
+        match self.state.judge(self.alloc, &asked) {
             Judged::Refused(class) => {
                 let seen = self.list.rows.len() as u32;
                 Ok(Decided::Refused { class, seen, gift })
@@ -173,15 +173,15 @@ impl<N: Token> Board<N> {
         }
     }
 
-    /// Whether the next entry of a rank would be entered. It takes no memory.
+    /// Whether the next entry of a rank would be entered, whichever number its call has in the rank's list (MPI 3.1,
+    /// sections 11.2 and 11.5). It takes no memory.
     pub fn allows(&self, rank: u8, call: &Call, step: Step) -> bool
-        requires { (number : ℕ) → MayAsk self.now.ranks self.now.layout
-            (record { rank = rank; number = number; call = call.now; step = step }) }
+        requires { MayJudge self.now.ranks rank call.now step }
         ensures { (number : ℕ) → result ≡ is_allow (answer_to self.now.ranks (rows_on self.now)
             (record { rank = rank; number = number; call = call.now; step = step })) }
     {
         let asked = self.state.ask(self.ranks, rank, 0, call, step);
-        match self.state.judge(self.alloc, &asked, &self.layout) {
+        match self.state.judge(self.alloc, &asked) {
             Judged::Refused(_) => false,
             Judged::NotYet => false,
             Judged::Allowed => true,

@@ -8,12 +8,11 @@ ghost use Rattle.call_rules.specs.Transfers.{rank_reached};
 ghost use Rattle.board_rules.specs.Board.{decision};
 ghost use Rattle.board_rules.specs.Entries.{Barrier as BarrierCollective, collective_of};
 ghost use Rattle.board_rules.specs.Questions.{Question};
-ghost use Rattle.sync_board.specs.Asked.{IsQuestion, MayBeAsked, decision_of};
+ghost use Rattle.sync_board.specs.Asked.{IsQuestion, MayBeJudged, decision_of};
 ghost use Rattle.sync_board.specs.Rounds.{collective_by};
 ghost use Rattle.sync_board.specs.Windows.{KeepsBefore};
 
 use crate::asked::{Asked, Judged, rank_of, reached};
-use crate::layouts::KeptLayout;
 use crate::rounds::Kind;
 use crate::truths::natural;
 use crate::window_record::WindowRecord;
@@ -128,9 +127,9 @@ impl WindowRecord {
     }
 
     /// The answer to an entry of step One.
-    fn judge_one(&self, asked: &Asked, layout: &KeptLayout) -> Judged
-        requires { MayBeAsked layout.now asked.now }
-        ensures { (q : Question) → IsQuestion q asked.now → KeepsBefore layout.now q self.now →
+    fn judge_one(&self, asked: &Asked) -> Judged
+        requires { MayBeJudged asked.now }
+        ensures { (layout : Layout) (q : Question) → IsQuestion q asked.now → KeepsBefore layout q self.now →
             decision_of result ≡ decision q One }
     {
         let rank = asked.rank;
@@ -246,15 +245,15 @@ impl WindowRecord {
     }
 
     /// The answer to an entry. Barriers are on no window, and their Leave is answered without one.
-    pub(crate) fn judge(&self, asked: &Asked, layout: &KeptLayout) -> Judged
-        requires { MayBeAsked layout.now asked.now }
-        ensures { (q : Question) → IsQuestion q asked.now → KeepsBefore layout.now q self.now →
+    pub(crate) fn judge(&self, asked: &Asked) -> Judged
+        requires { MayBeJudged asked.now }
+        ensures { (layout : Layout) (q : Question) → IsQuestion q asked.now → KeepsBefore layout q self.now →
             (collective_of q.call ≡ Some BarrierCollective → asked.now.step ≡ Arrive) →
             decision_of result ≡ decision q asked.now.step }
     {
         match asked.step {
             Step::Arrive => self.judge_arrival(asked),
-            Step::One => self.judge_one(asked, layout),
+            Step::One => self.judge_one(asked),
             Step::Leave => match asked.call {
                 Call::Allocate { .. } => self.judge_leave(asked, Kind::Creation),
                 Call::Create { .. } => self.judge_leave(asked, Kind::Creation),

@@ -7,7 +7,7 @@ ghost use Rattle.rank_rules.specs.Windows.{window_number};
 ghost use Rattle.board_rules.specs.Board.{decision, is_allowed_now};
 ghost use Rattle.board_rules.specs.Entries.{Barrier as BarrierCollective, Act, Row, acts, collective_of, window_of};
 ghost use Rattle.board_rules.specs.Questions.{Question};
-ghost use Rattle.sync_board.specs.Asked.{IsQuestion, MayBeAsked, decision_of};
+ghost use Rattle.sync_board.specs.Asked.{IsQuestion, MayBeAsked, MayBeJudged, decision_of};
 ghost use Rattle.sync_board.specs.Boards.{BoardState, IsLayoutOf, IsShapeMade, rows_on};
 ghost use Rattle.sync_board.specs.Named.{IsNameUntouched, KeepsName, KeepsWindows};
 ghost use Rattle.sync_board.specs.Windows.{entries_after};
@@ -39,24 +39,18 @@ impl Idle for NameRecord {
 
 impl NameRecord {
     /// The answer to an entry on the window of the round.
-    pub(crate) fn judge(
-        &self,
-        alloc: Global,
-        round: usize,
-        asked: &Asked,
-        layout: &KeptLayout,
-    ) -> Judged
-        requires { MayBeAsked layout.now asked.now }
-        ensures { (q : Question) (name : ℕ) → IsQuestion q asked.now → q.window ≡ window_number round name →
-            KeepsName layout.now q.ranks name q.entries self.now.rounds.items →
+    pub(crate) fn judge(&self, alloc: Global, round: usize, asked: &Asked) -> Judged
+        requires { MayBeJudged asked.now }
+        ensures { (layout : Layout) (q : Question) (name : ℕ) → IsQuestion q asked.now →
+            q.window ≡ window_number round name → KeepsName layout q.ranks name q.entries self.now.rounds.items →
             (collective_of q.call ≡ Some BarrierCollective → asked.now.step ≡ Arrive) →
             decision_of result ≡ decision q asked.now.step }
     {
         match self.rounds.get(round) {
-            Some(kept) => kept.judge(asked, layout),
+            Some(kept) => kept.judge(asked),
             None => {
                 let idle = WindowRecord::idle(alloc);
-                idle.judge(asked, layout)
+                idle.judge(asked)
             }
         }
     }
@@ -129,28 +123,21 @@ impl Windows {
     }
 
     /// The answer to an entry on the window of the name and the round.
-    pub(crate) fn judge(
-        &self,
-        alloc: Global,
-        name: u8,
-        round: u32,
-        asked: &Asked,
-        layout: &KeptLayout,
-    ) -> Judged
-        requires asked { MayBeAsked layout.now asked.now }
+    pub(crate) fn judge(&self, alloc: Global, name: u8, round: u32, asked: &Asked) -> Judged
+        requires asked { MayBeJudged asked.now }
         requires name { name < 32 }
-        ensures { (q : Question) → IsQuestion q asked.now → q.window ≡ window_number round name →
-            KeepsWindows layout.now q.ranks q.entries self.now.names.items →
+        ensures { (layout : Layout) (q : Question) → IsQuestion q asked.now → q.window ≡ window_number round name →
+            KeepsWindows layout q.ranks q.entries self.now.names.items →
             (collective_of q.call ≡ Some BarrierCollective → asked.now.step ≡ Arrive) →
             decision_of result ≡ decision q asked.now.step }
     {
         let at = name as usize;
         if at < self.names.len() {
             let one = &self.names[at];
-            one.judge(alloc, round as usize, asked, layout)
+            one.judge(alloc, round as usize, asked)
         } else {
             let idle = NameRecord::idle(alloc);
-            idle.judge(alloc, round as usize, asked, layout)
+            idle.judge(alloc, round as usize, asked)
         }
     }
 

@@ -11,7 +11,7 @@ ghost use Rattle.board_rules.specs.Entries.{is_arrive, is_collective};
 ghost use Rattle.board_rules.specs.Questions.{Question};
 ghost use Rattle.board_rules.specs.Rounds.{all_arrived};
 ghost use Rattle.kept_rows.specs.KeptCalls.{kept_row};
-ghost use Rattle.sync_board.specs.Asked.{IsAfter, MayBeAsked, decision_of, row_asked};
+ghost use Rattle.sync_board.specs.Asked.{IsAfter, MayBeAsked, MayBeJudged, decision_of, row_asked};
 ghost use Rattle.sync_board.specs.Boards.{is_step_of};
 ghost use Rattle.sync_board.specs.Counted.{KeepsBarriers, KeepsCreations, KeepsState};
 
@@ -203,17 +203,17 @@ impl State {
     }
 
     /// The answer to an entry.
-    pub(crate) fn judge(&self, alloc: Global, asked: &Asked, layout: &KeptLayout) -> Judged
-        requires asked { MayBeAsked layout.now asked.now }
+    pub(crate) fn judge(&self, alloc: Global, asked: &Asked) -> Judged
+        requires asked { MayBeJudged asked.now }
         requires name { asked.now.name < 32 }
-        ensures { (rows : List Row) → IsAfter rows asked.now → KeepsState layout.now asked.now.ranks rows self.now →
+        ensures { (layout : Layout) (rows : List Row) → IsAfter rows asked.now →
+            KeepsState layout asked.now.ranks rows self.now →
             decision_of result ≡ decide asked.now.ranks rows (row_asked asked.now) }
     {
         if leaves_barrier(asked) {
             self.judge_barrier(asked)
         } else {
-            self.windows
-                .judge(alloc, asked.name, asked.round, asked, layout)
+            self.windows.judge(alloc, asked.name, asked.round, asked)
         }
     }
 

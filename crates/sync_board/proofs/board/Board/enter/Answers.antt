@@ -86,11 +86,11 @@ invariant_of-self-in-Ok g c =
     let after = subst (λ (b : BoardState). IsAfter (rows_on b) c.args.asked.now) (sym c.self.view_is) c.requires.after
     in
     let next : IsNext c.self.inside.ranks entries row c.args.asked.now.window = record {
-      rank = subst (λ (b : BoardState). c.args.asked.now.rank < b.ranks) (sym c.self.view_is) c.requires.asked.rank;
+      rank = subst (λ (b : BoardState). c.args.asked.now.rank < b.ranks) (sym c.self.view_is) c.requires.asked.entry.below;
       is_on = sym after.window;
       named = names_so c.self.inside.ranks (action_of c.args.asked.now.call.now)
           (subst (λ (b : BoardState). NamesRanks b.ranks (action_of c.args.asked.now.call.now))
-          (sym c.self.view_is) c.requires.asked.names);
+          (sym c.self.view_is) c.requires.asked.entry.names);
     } in
     let same : entries_in g.N.Token.front c.prepare_entry.new.list ≡ entries = same_entries g.N.Token.front
     c.self.inside.list c.prepare_entry.new.list c.prepare_entry.ensures.rows c.prepare_entry.ensures.kept in
@@ -155,11 +155,11 @@ returns-in-Ok-clause-answer g c =
     let after = subst (λ (b : BoardState). IsAfter (rows_on b) c.args.asked.now) (sym c.self.view_is) c.requires.after
     in
     let next : IsNext c.self.inside.ranks entries row c.args.asked.now.window = record {
-      rank = subst (λ (b : BoardState). c.args.asked.now.rank < b.ranks) (sym c.self.view_is) c.requires.asked.rank;
+      rank = subst (λ (b : BoardState). c.args.asked.now.rank < b.ranks) (sym c.self.view_is) c.requires.asked.entry.below;
       is_on = sym after.window;
       named = names_so c.self.inside.ranks (action_of c.args.asked.now.call.now)
           (subst (λ (b : BoardState). NamesRanks b.ranks (action_of c.args.asked.now.call.now))
-          (sym c.self.view_is) c.requires.asked.names);
+          (sym c.self.view_is) c.requires.asked.entry.names);
     } in
     let same : entries_in g.N.Token.front c.prepare_entry.new.list ≡ entries = same_entries g.N.Token.front
     c.self.inside.list c.prepare_entry.new.list c.prepare_entry.ensures.rows c.prepare_entry.ensures.kept in
@@ -212,5 +212,5 @@ returns-in-Ok-clause-answer g c =
       look_up = looks (transfer_of c.args.asked.now.call.now) (LooksInside c.args.self.now.layout c.args.asked.now.rank)
           (λ t is. looks_inside c.args.self.now.layout c.args.self.now.ranks (rows_on c.args.self.now) row t
           c.self.inside.state.windows.names.items c.args.asked.now.round c.args.asked.now.name
-          windows at c.requires.name is c.requires.asked.step c.requires.allowed);
+          windows at c.requires.name is c.requires.asked.entry.fits c.requires.allowed);
     }

@@ -17,7 +17,7 @@ as_read z r fits is = ap natural (sym (to_z-of_z fits)) ∙ sym is
 pub returns-in-Post-clause-ok : goal.returns-in-Post-clause-ok
 returns-in-Post-clause-ok c =
     let names : is_wrong_group c.args.asked.now.ranks c.in-Post.group ≡ false = subst
-    (λ call. NamesRanks c.args.asked.now.ranks (action_of call)) c.in-Post.is c.requires.asked.may.names in
+    (λ call. NamesRanks c.args.asked.now.ranks (action_of call)) c.in-Post.is c.requires.asked.may.entry.names in
     on_ok_weaker c.post.result
     (λ more q is allowed kept. more c.args.layout.now q c.args.asked.now.number One _ _ is.rank
     (ap action_of (is.call ∙ c.in-Post.is)) (rw is.ranks c.requires.asked.few) (rw is.ranks names) kept)
