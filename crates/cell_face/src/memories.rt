@@ -8,6 +8,7 @@ use call_rules::Cell as Seen;
 /// The answer of an attempt on a cell that had moved on: its state then.
 #[derive(Clone, Copy, Debug, PartialEq, Eq)]
 pub struct Moved {
+    /// The bits of the cell, and its place, which is above that of the state that was expected.
     pub seen: Seen,
 }
 
