@@ -200,8 +200,8 @@ fn some_entries_may_not_be_asked(rt: HostRuntime) {
     enter(&rt, &mut board, (0, 65535), &barrier, 0);
 }
 
-/// Of 12 bytes the first allocate takes 8, and the second the last 4. Whether one is allowed is asked without its number,
-/// and so without where its memory begins.
+/// Of 12 bytes the first allocate takes 8, and the second the last 4. Whether one is allowed is asked without its
+/// number, and so without where its memory begins.
 #[test]
 fn an_allocate_is_allowed_whichever_number_it_has(rt: HostRuntime) {
     let mut board = board_of(&rt, rt.alloc(), &[12, 12], &TWO);
@@ -209,12 +209,31 @@ fn an_allocate_is_allowed_whichever_number_it_has(rt: HostRuntime) {
     let part = part_of(0, 8, 1);
     assert_eq!(rt; board.allows(0, &large, Step::Arrive), Some(true));
     enter(&rt, &mut board, (0, 0), &large, 0);
-    assert_eq!(rt; board.allows(1, &create(0, 8, 1), Step::Arrive), Some(false));
+    assert_eq!(rt;
+        board.allows(1, &create(0, 8, 1), Step::Arrive),
+        Some(false)
+    );
     assert_eq!(rt; board.allows(0, &large, Step::Leave), Some(false));
     enter(&rt, &mut board, (1, 0), &large, 1);
     assert_eq!(rt; board.allows(0, &large, Step::Leave), Some(true));
-    make(&rt, rt.alloc(), &mut board, (0, 0), &large, 2, &[part, part]);
-    make(&rt, rt.alloc(), &mut board, (1, 0), &large, 3, &[part, part]);
+    make(
+        &rt,
+        rt.alloc(),
+        &mut board,
+        (0, 0),
+        &large,
+        2,
+        &[part, part],
+    );
+    make(
+        &rt,
+        rt.alloc(),
+        &mut board,
+        (1, 0),
+        &large,
+        3,
+        &[part, part],
+    );
     free_all(&rt, &mut board, 2, 1, 4);
     outside(&rt, &mut board, (0, 4), &large, Step::Arrive);
     assert_eq!(rt; board.allows(0, &small, Step::Arrive), Some(true));

@@ -105,8 +105,8 @@ impl Sequence {
         }
     }
 
-    /// Whether the next entry of a rank would be entered, whichever number its call has; none where the board may not be
-    /// asked (MPI 3.1, sections 11.2 and 11.5).
+    /// Whether the next entry of a rank would be entered, whichever number its call has; none where the board may not
+    /// be asked (MPI 3.1, sections 11.2 and 11.5).
     pub fn allows(&self, rank: u8, call: &Call, step: Step) -> Option<bool>
         ensures { IfSome result (λ allowed. (number : ℕ) → allowed ≡ is_allow (decide self.now.ranks (rows_on self.now)
             (record { rank = rank; number = number; call = call.now; step = step }))) }
