@@ -51,11 +51,18 @@ pub(crate) fn is_wait(call: &Call) -> bool
     matches!(call, Call::WaitWin { .. } | Call::TestWin { .. })
 }
 
-/// The access reaches this rank; a negative number counts as rank 0.
+/// The number of a rank; a negative number counts as rank 0.
+pub(crate) fn natural_rank(rank: i32) -> u32
+    ensures { result ≡ natural rank }
+{
+    if rank < 0 { 0 } else { rank as u32 }
+}
+
+/// The access reaches this rank.
 fn is_towards(rank: i32, access: &KeptAccess) -> bool
     ensures { result ≡ access.now.access.target == natural rank }
 {
-    u32::from(access.access.target) == if rank < 0 { 0 } else { rank as u32 }
+    u32::from(access.access.target) == natural_rank(rank)
 }
 
 /// The call completes the access at its target: an unlock or a flush of that rank, or of all (MPI 3.1, sections 11.5.3

@@ -7,9 +7,12 @@
 
 mod accesses;
 mod calls;
+mod keys;
 mod points;
 mod run_points;
 mod searches;
+mod step_searches;
+mod step_tables;
 #[cfg(test)]
 mod tests;
 

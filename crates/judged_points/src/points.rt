@@ -4,16 +4,18 @@ ghost use Rattle.order_rules.specs.Roles.{role_of};
 ghost use Rattle.vector_clocks.specs.Marks.{before_in};
 ghost use Rattle.rma_rules.specs.Same.{role_by};
 ghost use Rattle.judged_points.specs.Alike.{judged_by};
-ghost use Rattle.judged_points.specs.KeptPoints.{AllAscending, done, done_by as done_by_of, kept_accesses};
+ghost use Rattle.judged_points.specs.KeptPoints.{done, done_by as done_by_of, kept_accesses};
 ghost use Rattle.judged_points.specs.KeptPoints.{point as point_of, with_points};
 ghost use Rattle.judged_points.specs.KeptPoints.{visible_separate as visible_separate_of};
 ghost use Rattle.judged_points.specs.KeptPoints.{visible_unified as visible_unified_of};
+ghost use Rattle.judged_points.specs.Tables.{HaveTheirSteps, searched};
 
 use crate::accesses::JudgedPoints;
-use crate::searches::{Sought, first_after, first_end, first_reached};
-use log_replay::{EpochKind, KeptAccess, KeptStep, RankRecord};
+use crate::searches::Sought;
+use crate::step_searches::StepSearches;
+use log_replay::{EpochKind, KeptAccess, KeptStep};
 use rma_rules::{Part, part_of};
-use rma_types::{Id, Items, Model, NoMemory, Script};
+use rma_types::{Id, Items, Model, NoMemory};
 use std::alloc::Global;
 use vector_clocks::Clocks;
 
@@ -22,31 +24,20 @@ use vector_clocks::Clocks;
 ///
 /// The arrival at a fence stands for the leavings to which it leads, and the first wait which the complete of a start
 /// epoch is before for the waits to which that leads.
-fn done_by(
-    script: &Script,
-    records: &[RankRecord],
-    clocks: &Clocks,
-    access: &KeptAccess,
-) -> Option<KeptStep>
-    requires { AllAscending records.now }
+fn done_by(searches: &StepSearches, clocks: &Clocks, access: &KeptAccess) -> Option<KeptStep>
+    requires { HaveTheirSteps searches.now }
     ensures { result ≡
-        done_by_of script.now records.now (before_in clocks.now) access.now.epoch access.now }
+        done_by_of searches.now.script.now (searched searches.now) (before_in clocks.now)
+        access.now.epoch access.now }
 {
     match access.epoch {
         EpochKind::NoEpoch => None,
-        EpochKind::Fence => first_after(script, records, Sought::FenceArrival, access),
-        EpochKind::Start => match first_after(script, records, Sought::Complete, access) {
-            Some(complete) => first_reached(
-                script,
-                records,
-                clocks,
-                &[complete.id],
-                Sought::Wait,
-                access,
-            ),
+        EpochKind::Fence => searches.first_after(Sought::FenceArrival, access),
+        EpochKind::Start => match searches.first_after(Sought::Complete, access) {
+            Some(complete) => searches.first_reached(clocks, &[complete.id], Sought::Wait, access),
             None => None,
         },
-        EpochKind::Passive => first_after(script, records, Sought::AtTarget, access),
+        EpochKind::Passive => searches.first_after(Sought::AtTarget, access),
     }
 }
 
@@ -66,25 +57,22 @@ fn put_point(points: &mut Items<Id>, found: Option<KeptStep>) -> Result<(), NoMe
 /// sections 11.3.5, 11.5 and 11.7, in this project's profile).
 fn done_points(
     alloc: Global,
-    script: &Script,
-    records: &[RankRecord],
+    searches: &StepSearches,
     clocks: &Clocks,
     access: &KeptAccess,
 ) -> Result<Items<Id>, NoMemory>
-    requires { AllAscending records.now }
+    requires { HaveTheirSteps searches.now }
     ensures { IfOk result (λ points. points ≡
-        done script.now records.now (before_in clocks.now) (role_of access.now.access.kind) access.now) }
+        done searches.now.script.now (searched searches.now) (before_in clocks.now)
+        (role_of access.now.access.kind) access.now) }
 {
     let mut points = Items::new(alloc);
     match part_of(access.access.kind) {
-        Part::Update => put_point(&mut points, done_by(script, records, clocks, access))?,
+        Part::Update => put_point(&mut points, done_by(searches, clocks, access))?,
         Part::Read => {
-            put_point(&mut points, done_by(script, records, clocks, access))?;
-            put_point(
-                &mut points,
-                first_after(script, records, Sought::AtOrigin, access),
-            )?;
-            put_point(&mut points, first_end(records, access))?;
+            put_point(&mut points, done_by(searches, clocks, access))?;
+            put_point(&mut points, searches.first_after(Sought::AtOrigin, access))?;
+            put_point(&mut points, searches.first_end(access))?;
         }
         Part::Store | Part::Load => {}
     }
@@ -95,26 +83,23 @@ fn done_points(
 /// this project's profile).
 fn visible_separate(
     alloc: Global,
-    script: &Script,
-    records: &[RankRecord],
+    searches: &StepSearches,
     clocks: &Clocks,
     done: &[Id],
     access: &KeptAccess,
 ) -> Result<Items<Id>, NoMemory>
-    requires { AllAscending records.now }
-    ensures { IfOk result (λ points. points ≡ visible_separate_of script.now records.now
-        (before_in clocks.now) done.now (role_of access.now.access.kind) access.now) }
+    requires { HaveTheirSteps searches.now }
+    ensures { IfOk result (λ points. points ≡
+        visible_separate_of searches.now.script.now (searched searches.now) (before_in clocks.now)
+        done.now (role_of access.now.access.kind) access.now) }
 {
     let mut points = Items::new(alloc);
     match part_of(access.access.kind) {
         Part::Update => put_point(
             &mut points,
-            first_reached(script, records, clocks, done, Sought::TakingIn, access),
+            searches.first_reached(clocks, done, Sought::TakingIn, access),
         )?,
-        Part::Store => put_point(
-            &mut points,
-            first_after(script, records, Sought::GivingOut, access),
-        )?,
+        Part::Store => put_point(&mut points, searches.first_after(Sought::GivingOut, access))?,
         Part::Read | Part::Load => {}
     }
     Ok(points)
@@ -137,26 +122,19 @@ fn visible_unified(alloc: Global, done: &[Id], access: &KeptAccess) -> Result<It
 /// An access with points that stand for all of its points.
 fn points_of(
     alloc: Global,
-    script: &Script,
-    records: &[RankRecord],
+    searches: &StepSearches,
     clocks: &Clocks,
     model: Model,
     access: &KeptAccess,
 ) -> Result<JudgedPoints, NoMemory>
-    requires { AllAscending records.now }
+    requires { HaveTheirSteps searches.now }
     ensures { IfOk result (λ points. judged_by points ≡
-        with_points script.now records.now (before_in clocks.now) model access.now) }
+        with_points searches.now.script.now (searched searches.now) (before_in clocks.now) model
+        access.now) }
 {
-    let done = done_points(alloc, script, records, clocks, access)?;
+    let done = done_points(alloc, searches, clocks, access)?;
     let visible = match model {
-        Model::Separate => visible_separate(
-            alloc,
-            script,
-            records,
-            clocks,
-            done.as_slice(),
-            access,
-        )?,
+        Model::Separate => visible_separate(alloc, searches, clocks, done.as_slice(), access)?,
         Model::Unified => visible_unified(alloc, done.as_slice(), access)?,
     };
     Ok(JudgedPoints {
@@ -170,19 +148,19 @@ fn points_of(
 /// Some accesses more, each with its points.
 fn add_points(
     alloc: Global,
-    script: &Script,
-    records: &[RankRecord],
+    searches: &StepSearches,
     clocks: &Clocks,
     model: Model,
     accesses: &[KeptAccess],
     list: &mut Vec<JudgedPoints>,
 ) -> Result<(), NoMemory>
-    requires { AllAscending records.now }
+    requires { HaveTheirSteps searches.now }
     ensures { OnOk result (map judged_by list.new.items ≡ map judged_by list.old.items
-        ++ map (with_points script.now records.now (before_in clocks.now) model) accesses.now) }
+        ++ map (with_points searches.now.script.now (searched searches.now) (before_in clocks.now)
+        model) accesses.now) }
 {
     for access in accesses {
-        let points = points_of(alloc, script, records, clocks, model, access)?;
+        let points = points_of(alloc, searches, clocks, model, access)?;
         if list.push(points).is_err() {
             return Err(NoMemory);
         }
@@ -193,19 +171,19 @@ fn add_points(
 /// The accesses of all ranks, in the order of their names, each with points that stand for all of its points.
 pub(crate) fn all_points(
     alloc: Global,
-    script: &Script,
-    records: &[RankRecord],
+    searches: &StepSearches,
     clocks: &Clocks,
     model: Model,
 ) -> Result<Vec<JudgedPoints>, NoMemory>
-    requires { AllAscending records.now }
+    requires { HaveTheirSteps searches.now }
     ensures { IfOk result (λ list. map judged_by list.items ≡
-        map (with_points script.now records.now (before_in clocks.now) model) (kept_accesses records.now)) }
+        map (with_points searches.now.script.now (searched searches.now) (before_in clocks.now) model)
+        (kept_accesses (searched searches.now))) }
 {
     let mut list = Vec::new(alloc);
-    for record in records {
-        let accesses = record.accesses.as_slice();
-        add_points(alloc, script, records, clocks, model, accesses, &mut list)?;
+    for rank in searches.ranks.as_slice() {
+        let accesses = rank.kept.accesses.as_slice();
+        add_points(alloc, searches, clocks, model, accesses, &mut list)?;
     }
     Ok(list)
 }

@@ -10,6 +10,7 @@ ghost use Rattle.judged_points.specs.Alike.{AreAlike, judged_by, names_of};
 
 use crate::accesses::JudgedPoints;
 use crate::points::all_points;
+use crate::step_searches::searches_of;
 use log_replay::records_of;
 use point_laws::{arrivals_stand_for_leaves, completes_lead_to_first_waits};
 use rma_record::Run;
@@ -20,7 +21,9 @@ use vector_clocks::Clocks;
 /// The accesses of a lawful run in the order of their names, each with points that stand for all of its done and
 /// visible points (MPI 3.1, sections 11.3.5, 11.4, 11.5 and 11.7, in this project's profile).
 ///
-/// It goes once through each log; a point is found by a binary search in a log, and by looking on from there.
+/// It goes once through each log, and once over the steps of each rank for each of the eight things that an access can
+/// look for; a point is then found by binary searches among the steps that are looked for. So for n items the time is
+/// of the order of n log n, whatever the numbers of windows and of ranks; and each step is kept up to three times more.
 pub fn judged_points(
     alloc: Global,
     script: &Script,
@@ -37,5 +40,6 @@ pub fn judged_points(
     arrivals_stand_for_leaves();
     completes_lead_to_first_waits();
     let records = records_of(alloc, script, run)?;
-    all_points(alloc, script, records.as_slice(), clocks, model)
+    let searches = searches_of(alloc, script, records.as_slice())?;
+    all_points(alloc, &searches, clocks, model)
 }

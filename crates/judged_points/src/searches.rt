@@ -8,7 +8,6 @@ ghost use Rattle.log_replay.specs.declared.kept.KeptStep.{KeptStep as StepValue}
 ghost use Rattle.judged_points.specs.Alike.{reaches};
 ghost use Rattle.judged_points.specs.KeptPoints.{AreAscending, AllAscending, call_at as call_of_step, does as does_by};
 ghost use Rattle.judged_points.specs.KeptPoints.{ends_request as ends_request_of, first_after as after_of};
-ghost use Rattle.judged_points.specs.KeptPoints.{first_end as end_of, first_reached as reached_of};
 ghost use Rattle.judged_points.specs.KeptPoints.{is_on_window as is_on, is_sought as is_sought_by, issued_as};
 ghost use Rattle.judged_points.specs.KeptPoints.{kept_steps};
 
@@ -50,7 +49,7 @@ fn does(sought: Sought, access: &KeptAccess, step: Step, call: &Call) -> bool
 }
 
 /// The call of a step.
-fn call_of<'s>(script: &'s Script, step: &KeptStep) -> Option<&'s Call>
+pub(crate) fn call_of<'s>(script: &'s Script, step: &KeptStep) -> Option<&'s Call>
     ensures { option_copied result ≡ call_of_step script.now step.now }
 {
     match script.calls.get(step.id.rank as usize) {
@@ -106,18 +105,6 @@ fn first_sought(
     None
 }
 
-/// The first of some steps that ends the request of the access.
-fn first_ending(steps: &[KeptStep], access: &KeptAccess) -> Option<KeptStep>
-    ensures { result ≡ find (ends_request_of access.now) steps.now }
-{
-    for step in steps {
-        if ends_request(access, step) {
-            return Some(*step);
-        }
-    }
-    None
-}
-
 /// The steps of a rank.
 fn steps_at<'r>(records: &'r [RankRecord], rank: u8) -> &'r [KeptStep]
     ensures { result.now ≡ kept_steps records.now rank }
@@ -129,7 +116,7 @@ fn steps_at<'r>(records: &'r [RankRecord], rank: u8) -> &'r [KeptStep]
 }
 
 /// How many of the steps stand at or before an index.
-fn steps_within(steps: &[KeptStep], index: u32) -> usize
+pub(crate) fn steps_within(steps: &[KeptStep], index: u32) -> usize
     requires { AreAscending steps.now }
     ensures bound { result ≤ length steps.now }
     ensures point { IsPartitionPoint (λ (k : StepValue). nat_le k.id.index index ≡ true)
@@ -139,7 +126,7 @@ fn steps_within(steps: &[KeptStep], index: u32) -> usize
 }
 
 /// How many of the steps none of the points is before.
-fn steps_unreached(clocks: &Clocks, points: &[Id], steps: &[KeptStep]) -> usize
+pub(crate) fn steps_unreached(clocks: &Clocks, points: &[Id], steps: &[KeptStep]) -> usize
     requires { AreAscending steps.now }
     ensures bound { result ≤ length steps.now }
     ensures point { IsPartitionPoint
@@ -161,34 +148,5 @@ pub fn first_after(
 {
     let steps = steps_at(records, access.id.rank);
     let from = steps_within(steps, access.id.index);
-    first_sought(script, &steps[from..], sought, access)
-}
-
-/// The first step of the origin after the access that ends its request.
-pub(crate) fn first_end(records: &[RankRecord], access: &KeptAccess) -> Option<KeptStep>
-    requires { AllAscending records.now }
-    ensures { result ≡ end_of records.now access.now }
-{
-    let steps = steps_at(records, access.id.rank);
-    let from = steps_within(steps, access.id.index);
-    first_ending(&steps[from..], access)
-}
-
-/// The first step of the target, on the window of the access, which one of the points is before and that is what is
-/// looked for.
-pub(crate) fn first_reached(
-    script: &Script,
-    records: &[RankRecord],
-    clocks: &Clocks,
-    points: &[Id],
-    sought: Sought,
-    access: &KeptAccess,
-) -> Option<KeptStep>
-    requires { AllAscending records.now }
-    ensures { result ≡
-        reached_of script.now records.now (before_in clocks.now) points.now sought access.now }
-{
-    let steps = steps_at(records, access.access.target);
-    let from = steps_unreached(clocks, points, steps);
     first_sought(script, &steps[from..], sought, access)
 }

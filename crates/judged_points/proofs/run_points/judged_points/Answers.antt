@@ -1,7 +1,8 @@
 -- The points of what is kept stand for all.
-use Rattle.std.proofs.Common.{◌≡◌, List, sym, subst}
+use Rattle.std.proofs.Common.{◌≡◌, List, sym, subst, ◌∙◌}
 use Rattle.std.specs.Prelude.{IfOk, map}
 use Rattle.std.proofs.lemmas.Result.{IfOk-weaker}
+use Rattle.rma_types.specs.declared.scripts.Script.{Script}
 use Rattle.order_rules.specs.Findings.{judged_accesses}
 use Rattle.vector_clocks.specs.Marks.{before_in}
 use Rattle.log_replay.specs.declared.kept.RankRecord.{RankRecord}
@@ -12,8 +13,8 @@ use Rattle.judged_points.proofs.KeptParts.{accesses_kept, records_ascend, steps_
 use Rattle.judged_points.proofs.VisibleParts.{all_alike}
 use Rattle.judged_points.proofs.run_points.judged_points.Goals as goal
 
-pub all_points-requires : goal.all_points-requires
-all_points-requires c = subst (λ (records : List RankRecord). AllAscending records) (sym c.as_slice.ensures.value)
+pub searches_of-requires : goal.searches_of-requires
+searches_of-requires c = subst (λ (records : List RankRecord). AllAscending records) (sym c.as_slice.ensures.value)
     (records_ascend c.args.script.now c.args.run.now c.in_ok-records.records.items c.in_ok-records.ensures.ranks
     c.requires.lawful.ranks c.in_ok-records.ensures.records)
 
@@ -42,6 +43,9 @@ returns c =
     (judged_accesses c.args.script.now c.args.run.now c.args.model (before_in c.args.clocks.now)))
     (λ list same. subst (λ accesses. AreAlike (before_in c.args.clocks.now) (names_of accesses) accesses
     (judged_accesses c.args.script.now c.args.run.now c.args.model (before_in c.args.clocks.now))) (sym same) alike)
+    (subst (λ (script : Script). IfOk c.all_points.result (λ list. map judged_by list.items
+    ≡ map (with_points script c.in_ok-records.records.items (before_in c.args.clocks.now) c.args.model)
+    (kept_accesses c.in_ok-records.records.items))) c.in_ok-searches.ensures.script
     (subst (λ (records : List RankRecord). IfOk c.all_points.result (λ list. map judged_by list.items
-    ≡ map (with_points c.args.script.now records (before_in c.args.clocks.now) c.args.model) (kept_accesses records)))
-    c.as_slice.ensures.value c.all_points.ensures)
+    ≡ map (with_points c.in_ok-searches.searches.script.now records (before_in c.args.clocks.now) c.args.model)
+    (kept_accesses records))) (c.in_ok-searches.ensures.records ∙ c.as_slice.ensures.value) c.all_points.ensures))
