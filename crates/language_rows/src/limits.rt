@@ -1,6 +1,6 @@
 //! The limits of the language.
-ghost use Rattle.language_rows.specs.Limits.{LimitOfRanks, LimitsOfNumbers, LimitsOfGroups, LimitsOfValues, LimitsOfMemory};
-ghost use Rattle.language_rows.specs.Limits.{IsTheLongest, LimitsOfCalls, TooLongIsRefused};
+ghost use Rattle.language_rows.specs.Limits.{IsTheLongest, LimitOfRanks, LimitsOfCalls, LimitsOfGroups, LimitsOfMemory};
+ghost use Rattle.language_rows.specs.Limits.{LimitsOfNumbers, LimitsOfValues, TooLongIsRefused};
 
 /// Numbers, groups and values at their limits and past them.
 pub fn limits_of_a_line()

@@ -22,7 +22,8 @@ rank_is_stuck = 7
 abbrev pub status : Run → List Finding → ℕ
 status run found =
     if not (all_ended run) then rank_is_stuck
-    else (if nat_lt 0 (length found) || list_any (list_any is_refused) run.logs then something_is_wrong else all_is_well)
+    else (if nat_lt 0 (length found) || list_any (list_any is_refused) run.logs
+    then something_is_wrong else all_is_well)
 
 -- the words of the command line are refused
 abbrev pub words_refused : ℕ

@@ -9,8 +9,8 @@ ghost use Rattle.window_regions.specs.Shapes.{IsShape};
 use rma_types::{Flavor, Items, Part};
 use std::marker::Model;
 
-/// How a window was made, and the part of each rank in it (MPI 3.1, section 11.2). In a dynamic window each part has base 0, 0 bytes and
-/// unit 1.
+/// How a window was made, and the part of each rank in it (MPI 3.1, section 11.2). In a dynamic window each part has
+/// base 0, 0 bytes and unit 1.
 #[derive(Debug, Drop)]
 pub struct Shape {
     /// Of the three kinds of creation, that of all ranks.

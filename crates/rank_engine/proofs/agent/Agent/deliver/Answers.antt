@@ -69,8 +69,8 @@ returns-clause-whole g c =
     c.calls-calls.ensures.calls ∙ sym (ap (λ (s : RankState). calls_at s.stage s.agent.rank) same) in
     let told = (g.M.Memory.face c.deliver.new.mem).told in
     let whole = second_of (λ (cells : List Cell). c.in_ok-delivery.delivery.done ≡ true)
-    (λ (cells : List Cell). DeliversWhole c.self.inside.queue c.args.at c.self.inside.layout.now c.calls-calls.result.now
-    cells told (g.L.Keep.kept c.self.inside.log) (g.L.Keep.kept c.deliver.new.log))
+    (λ (cells : List Cell). DeliversWhole c.self.inside.queue c.args.at c.self.inside.layout.now
+    c.calls-calls.result.now cells told (g.L.Keep.kept c.self.inside.log) (g.L.Keep.kept c.deliver.new.log))
     (g.M.Memory.face c.args.mem.now).told c.in_ok-delivery.ensures.told in
     subst (λ (s : RankState). IfSome (g.M.Memory.face c.args.mem.now).told (λ (cells : List Cell).
     DeliversWhole (queue_of s) c.args.at s.stage.layout (calls_at s.stage s.agent.rank) cells told s.agent.log

@@ -86,7 +86,8 @@ invariant_of-self-in-Ok g c =
     let after = subst (λ (b : BoardState). IsAfter (rows_on b) c.args.asked.now) (sym c.self.view_is) c.requires.after
     in
     let next : IsNext c.self.inside.ranks entries row c.args.asked.now.window = record {
-      rank = subst (λ (b : BoardState). c.args.asked.now.rank < b.ranks) (sym c.self.view_is) c.requires.asked.entry.below;
+      rank = subst (λ (b : BoardState). c.args.asked.now.rank < b.ranks) (sym c.self.view_is)
+          c.requires.asked.entry.below;
       is_on = sym after.window;
       named = names_so c.self.inside.ranks (action_of c.args.asked.now.call.now)
           (subst (λ (b : BoardState). NamesRanks b.ranks (action_of c.args.asked.now.call.now))
@@ -155,7 +156,8 @@ returns-in-Ok-clause-answer g c =
     let after = subst (λ (b : BoardState). IsAfter (rows_on b) c.args.asked.now) (sym c.self.view_is) c.requires.after
     in
     let next : IsNext c.self.inside.ranks entries row c.args.asked.now.window = record {
-      rank = subst (λ (b : BoardState). c.args.asked.now.rank < b.ranks) (sym c.self.view_is) c.requires.asked.entry.below;
+      rank = subst (λ (b : BoardState). c.args.asked.now.rank < b.ranks) (sym c.self.view_is)
+          c.requires.asked.entry.below;
       is_on = sym after.window;
       named = names_so c.self.inside.ranks (action_of c.args.asked.now.call.now)
           (subst (λ (b : BoardState). NamesRanks b.ranks (action_of c.args.asked.now.call.now))
