@@ -32,6 +32,8 @@ CASES = [
     ("disjoint", (8000, 16000), ""),
     ("locked_puts", (8000, 16000), ""),
     ("past_others", (4000, 8000), "--delay end"),
+    ("flushed_gets", (16020, 32040, 64080), ""),
+    ("past_flushes", (16016, 32032, 64064), ""),
 ]
 # words of the program that asks a board by itself, and the entries that each puts to it
 BOARDS = [("barriers", 131072), ("windows", 131072)]

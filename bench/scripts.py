@@ -17,6 +17,8 @@ Each has 16 ranks. SIZE is about the number of calls of the kind that NAME says,
     disjoint      puts of one value to rank 0, each to its own cell, under a lock_all
     locked_puts   a lock, a put and an unlock on one cell, SIZE times
     past_others   half of them fetch-and-ops of rank 0 on a cell of rank 1, and half on one of rank 2, which is flushed
+    flushed_gets  half of them gets of rank 0 from ranks 1 to 15 in turn, each with a flush of its target
+    past_flushes  half of them puts of rank 0 to ranks 1 to 14 in turn, each with a flush of rank 15
 """
 import sys
 
@@ -96,8 +98,24 @@ def past_others(size):
     return ["rank 0", "allocate w0 4 4", "lock_all w0"] + calls + ["flush w0 2", "unlock_all w0"] + others
 
 
+def from_rank_0(calls):
+    """Calls of rank 0 under a lock_all; the other ranks make the window alone."""
+    others = ["rank " + " ".join(str(rank) for rank in range(1, RANKS)), "allocate w0 4 4"]
+    return ["rank 0", "allocate w0 4 4", "lock_all w0"] + calls + ["unlock_all w0"] + others
+
+
+def flushed_gets(size):
+    block = [call % target for target in range(1, RANKS) for call in ("get w0 %d 0 int32 1", "flush w0 %d")]
+    return from_rank_0(repeated(size // len(block), block))
+
+
+def past_flushes(size):
+    block = [call for target in range(1, RANKS - 1) for call in ("put w0 %d 0 int32 1" % target, "flush w0 15")]
+    return from_rank_0(repeated(size // len(block), block))
+
+
 FORMS = {form.__name__: form for form in (cells, one_cell, fences, barriers, locks, rounds, accumulates, puts, disjoint,
-                                          locked_puts, past_others)}
+                                          locked_puts, past_others, flushed_gets, past_flushes)}
 
 
 def text(name, size):

@@ -22,8 +22,8 @@ use vector_clocks::Clocks;
 /// visible points (MPI 3.1, sections 11.3.5, 11.4, 11.5 and 11.7, in this project's profile).
 ///
 /// It goes once through each log, and once over the steps of each rank for each of the eight things that an access can
-/// look for; a point is then found by binary searches among the steps that are looked for. So for n items the time is
-/// of the order of n log n, whatever the numbers of windows and of ranks; and each step is kept up to three times more.
+/// look for. A point is then found by binary searches among the steps that are looked for, some of which ask the
+/// clocks. So for n items the time is of the order of n log² n at most, whatever the numbers of windows and of ranks.
 pub fn judged_points(
     alloc: Global,
     script: &Script,
