@@ -14,7 +14,7 @@ pub enum ExposureEpoch {
 
 impl ExposureEpoch {
     pub fn is_posted(&self) -> bool
-        ensures { result ≡ rules.is_posted (exposure_of self.now) }
+        ensures { result ≡ rules.is_exposed (exposure_of self.now) }
     {
         match self {
             ExposureEpoch::Unexposed => false,

@@ -61,7 +61,7 @@ impl WindowEpochs {
 
     pub fn may_fence(&self) -> bool
         ensures { result ≡ ((rules.may_begin self.now.access || rules.is_fence_used self.now.access)
-            && not (rules.is_posted self.now.exposure)) }
+            && not (rules.is_exposed self.now.exposure)) }
     {
         (self.access.may_begin() || self.access.is_fence_used()) && !self.exposure.is_posted()
     }
@@ -73,7 +73,7 @@ impl WindowEpochs {
     }
 
     pub fn may_post(&self) -> bool
-        ensures { result ≡ (not (rules.is_fence_used self.now.access) && not (rules.is_posted self.now.exposure)) }
+        ensures { result ≡ (not (rules.is_fence_used self.now.access) && not (rules.is_exposed self.now.exposure)) }
     {
         !self.access.is_fence_used() && !self.exposure.is_posted()
     }
@@ -85,7 +85,7 @@ impl WindowEpochs {
     }
 
     pub fn is_posted(&self) -> bool
-        ensures { result ≡ rules.is_posted self.now.exposure }
+        ensures { result ≡ rules.is_exposed self.now.exposure }
     {
         self.exposure.is_posted()
     }
