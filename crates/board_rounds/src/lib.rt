@@ -5,23 +5,11 @@ mod answers;
 mod asking;
 mod barriers;
 mod entering;
-#[cfg(test)]
-mod fixtures;
-#[cfg(test)]
-mod gain_tests;
 mod groups;
 mod inside;
 mod layouts;
-#[cfg(test)]
-mod lock_tests;
-#[cfg(test)]
-mod round_tests;
-#[cfg(test)]
-mod row_tests;
 mod sequences;
 mod steps;
-#[cfg(test)]
-mod test_calls;
 mod windows;
 mod written;
 

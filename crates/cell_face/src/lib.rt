@@ -9,8 +9,6 @@ mod elements;
 mod fronts;
 mod memories;
 mod plain;
-#[cfg(test)]
-mod tests;
 mod tokens;
 
 pub use call_rules::{Cell as Seen, Change};

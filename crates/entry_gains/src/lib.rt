@@ -7,8 +7,6 @@ mod ledger;
 mod plans;
 mod slots;
 mod tables;
-#[cfg(test)]
-mod tests;
 mod tokens;
 
 pub use cell_face::{Front, Token};

@@ -11,8 +11,6 @@ mod classes;
 mod exposure;
 mod ranks;
 mod state;
-#[cfg(test)]
-mod tests;
 mod windows;
 
 pub use state::EpochState;

@@ -17,6 +17,3 @@ mod standings;
 
 pub use reports::report_text;
 pub use runs::status_of;
-
-#[cfg(test)]
-mod tests;

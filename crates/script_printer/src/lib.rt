@@ -12,6 +12,3 @@ mod scripts;
 mod tokens;
 
 pub use scripts::script_text;
-
-#[cfg(test)]
-mod tests;

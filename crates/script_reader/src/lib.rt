@@ -20,6 +20,3 @@ mod words;
 
 pub use parses::parse;
 pub use script_language::{Fault, FaultKind};
-
-#[cfg(test)]
-mod tests;

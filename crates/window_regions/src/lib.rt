@@ -8,8 +8,6 @@ mod places;
 mod region;
 mod sorted;
 mod table;
-#[cfg(test)]
-mod tests;
 mod window;
 
 pub use attached::Attached;

@@ -1,6 +1,6 @@
 //! What entries gain, over fronts of 16 places: for each cell the greatest place of the gifts from which an edge leads.
+use crate::calls::{fence, lock, lock_all, post, start, unlock, unlock_all};
 use crate::fixtures::{allocate_all, board_of, enter, front, gain, give, leave_with, turn, wait};
-use crate::test_calls::{fence, lock, lock_all, post, start, unlock, unlock_all};
 use cell_face::Front;
 use rma_types::{Call, CallBase, Lock, Step};
 use std::test::Fail;

@@ -1,8 +1,9 @@
+//! The report and the status of a run, with ample memory.
 ghost use Rattle.std.specs.Prelude.{◌≡◌, [], ◌∷◌, IfOk};
 
-use crate::{report_text, status_of};
 use rma_record::{Item, Keep, Log, Logs, Run};
 use rma_types::{Items, NoMemory, Script};
+use run_report::{report_text, status_of};
 use run_texts::Mode;
 use std::alloc::Global;
 use std::test::*;

@@ -1,10 +1,10 @@
 //! Places and ranges of memory, against answers worked out by hand.
 ghost use Rattle.std.specs.Prelude.{◌+◌, ◌^◌, ◌<◌};
 
-use crate::{Attached, OwnRanges, Range, address, place};
 use rma_types::{Class, Dtype, Part};
 use std::process::Abort;
 use std::test::Fail;
+use window_regions::{Attached, OwnRanges, Range, address, place};
 
 /// A displacement counts units of the part that it reaches: 2 of 1 byte, or 2 of 4 bytes.
 #[test]

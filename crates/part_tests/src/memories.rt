@@ -2,7 +2,7 @@
 ghost use Rattle.std.specs.Prelude.{◌<◌, ◌≤◌};
 ghost use Rattle.cell_face.specs.Faces.{cell_count};
 
-use crate::{Change, Front, Memory, Moved, NoNote, PlainMemory, Seen, Token, next_bits};
+use cell_face::{Change, Front, Memory, Moved, NoNote, PlainMemory, Seen, Token, next_bits};
 use rma_types::{Dtype, Op};
 use std::process::Abort;
 use std::test::Fail;

@@ -1,6 +1,6 @@
 //! Locks that exclude each other, and those that do not.
+use crate::calls::{lock, lock_all, post, unlock, unlock_all};
 use crate::fixtures::{allocate_all, board_of, enter, refuse, wait};
-use crate::test_calls::{lock, lock_all, post, unlock, unlock_all};
 use rma_types::{Call, CallBase, Class, Lock, Step};
 use std::test::Fail;
 

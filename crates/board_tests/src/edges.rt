@@ -1,8 +1,8 @@
-//! Gains worked out by hand, over fronts of 16 places, and each call once with ample memory.
+//! What the table of gains alone gives, over fronts of 16 places, and each of its calls once with ample memory.
 ghost use Rattle.std.specs.Prelude.{[]};
 ghost use Rattle.entry_gains.specs.Gains.{IsWhole};
 
-use crate::{Front, Gains};
+use entry_gains::{Front, Gains};
 use rma_types::{Asserts, Call, Group, Lock, Step};
 use std::alloc::AllocError;
 use std::process::Abort;

@@ -1,5 +1,6 @@
-use crate::{Fault, FaultKind, parse};
+//! Texts, and the scripts or faults that they have.
 use rma_types::{Asserts, Call, Dtype, Items, Script};
+use script_reader::{Fault, FaultKind, parse};
 use std::alloc::{AllocError, Global};
 use std::test::*;
 

@@ -1,9 +1,8 @@
 //! What the tests share: boards, and entries with the answers that are wanted.
 ghost use Rattle.std.specs.Prelude.{◌<◌, ◌≤◌};
 
-use crate::steps::is_collective;
-use crate::test_calls::allocate;
-use crate::{Answer, Made, Sequence};
+use crate::calls::allocate;
+use board_rounds::{Answer, Made, Sequence};
 use cell_face::Front;
 use rma_types::{Call, CallBase, Class, Flavor, Items, Layout, MemoryPart, NoMemory, Part, Step};
 use std::alloc::Global;
@@ -66,12 +65,16 @@ pub(crate) fn front(cell: usize, place: u32) -> Front
     Front { places }
 }
 
-/// The step of a call's first entry.
+/// The step of a call's first entry: a collective call has an Arrive.
 fn first_step(call: &Call) -> Step {
-    if is_collective(call) {
-        Step::Arrive
-    } else {
-        Step::One
+    match call {
+        Call::Allocate { .. }
+        | Call::Create { .. }
+        | Call::Dynamic { .. }
+        | Call::Free { .. }
+        | Call::Fence { .. }
+        | Call::Barrier => Step::Arrive,
+        _ => Step::One,
     }
 }
 

@@ -2,7 +2,7 @@
 ghost use Rattle.std.specs.Prelude.{◌≤◌, ◌≤ℤ◌, pos, negsuc, IfOk, IfSome};
 ghost use Rattle.call_rules.specs.WellFormed.{IsWrittenCall, IsRequestName};
 
-use crate::EpochState;
+use rank_epochs::EpochState;
 use rma_types::{Asserts, Bits, Call, Class, Dtype, Group, Lock};
 use std::alloc::{AllocError, Global};
 use std::process::Abort;

@@ -1,11 +1,11 @@
 //! Rounds of collective calls, and windows whose name is used again.
+use crate::calls::{
+    allocate, asserted_fence, attach, create, fence, get, lock, lock_all, no_asserts, post, start,
+    unlock,
+};
 use crate::fixtures::{
     allocate_all, board_of, create_all, dynamic_all, enter, free_all, front, gain, give, leave,
     make, outside, part_of, refuse, stay, wait,
-};
-use crate::test_calls::{
-    allocate, asserted_fence, attach, create, fence, get, lock, lock_all, no_asserts, post, start,
-    unlock,
 };
 use rma_types::{Asserts, Call, CallBase, Class, Lock, Step};
 use std::test::Fail;

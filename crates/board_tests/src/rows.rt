@@ -1,9 +1,9 @@
 //! Worked scripts as sequences of entries, with the answers that are worked out by hand.
+use crate::calls::{
+    allocate, attach, fence, get, lock, lock_all, post, put, start, unlock, unlock_all,
+};
 use crate::fixtures::{
     allocate_all, board_of, dynamic_all, enter, leave, make, meet, part_of, refuse, stay, wait,
-};
-use crate::test_calls::{
-    allocate, attach, fence, get, lock, lock_all, post, put, start, unlock, unlock_all,
 };
 use rma_types::{Call, CallBase, Class, Lock, Step};
 use std::test::Fail;

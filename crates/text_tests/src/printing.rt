@@ -1,6 +1,6 @@
 //! What no clause says: that memory suffices, and the text of one script, worked out by hand.
-use crate::script_text;
 use rma_types::{Asserts, Call, Dtype, Items, Op, Script};
+use script_printer::script_text;
 use std::alloc::{AllocError, Global};
 
 const NO_ASSERTS: Asserts = Asserts {
