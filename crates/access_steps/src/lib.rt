@@ -3,8 +3,6 @@
 #![tactic(auto)]
 
 mod changes;
-#[cfg(test)]
-mod tests;
 mod touches;
 
 pub use changes::{change_of, size_of};

@@ -7,8 +7,6 @@
 mod changes;
 mod reads;
 mod states;
-#[cfg(test)]
-mod tests;
 mod touches;
 
 pub use reads::ordered_read;

@@ -6,8 +6,6 @@
 
 mod numbers;
 mod options;
-#[cfg(test)]
-mod tests;
 mod values;
 mod words;
 mod worked;

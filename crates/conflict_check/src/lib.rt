@@ -8,8 +8,6 @@ mod pairs;
 mod reaches;
 mod run_findings;
 mod standing;
-#[cfg(test)]
-mod tests;
 
 pub use pairs::findings_among;
 pub use run_findings::findings;

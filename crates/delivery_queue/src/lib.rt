@@ -12,8 +12,6 @@ mod parts;
 mod queue;
 mod searches;
 mod sought;
-#[cfg(test)]
-mod tests;
 mod waits;
 mod ways;
 

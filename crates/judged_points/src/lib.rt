@@ -13,8 +13,6 @@ mod run_points;
 mod searches;
 mod step_searches;
 mod step_tables;
-#[cfg(test)]
-mod tests;
 
 pub use accesses::{JudgedPoints, do_reach, points_towards};
 pub use run_points::judged_points;

@@ -6,7 +6,5 @@
 
 mod tables;
 mod targets;
-#[cfg(test)]
-mod tests;
 
 pub use tables::LockTable;

@@ -6,8 +6,6 @@ mod kept;
 mod records;
 mod replays;
 mod tables;
-#[cfg(test)]
-mod tests;
 
 pub use kept::{EpochKind, KeptAccess, KeptStep, RankRecord};
 pub use replays::records_of;

@@ -4,8 +4,6 @@
 
 mod layouts;
 mod places;
-#[cfg(test)]
-mod tests;
 
 pub use layouts::wide_layout;
 pub use places::{Placed, call_at, entries_by_place};

@@ -15,8 +15,6 @@ mod data;
 mod judging;
 mod learning;
 mod moves;
-#[cfg(test)]
-mod tests;
 mod tokens;
 
 pub use agent::Agent;

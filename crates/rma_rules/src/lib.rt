@@ -4,8 +4,6 @@
 
 mod numbers;
 mod pairs;
-#[cfg(test)]
-mod tests;
 
 pub use numbers::{WindowNumbers, numbers_follow};
 pub use pairs::{Part, forbidden_kind, part_of};

@@ -3,15 +3,9 @@
 //! The script comes from standard input and the report goes to standard output. The exit status says how it ended.
 #![tactic(auto)]
 
-#[cfg(test)]
-mod findings_tests;
 mod inputs;
 mod outcomes;
 mod outputs;
-#[cfg(test)]
-mod run_tests;
-#[cfg(test)]
-mod tests;
 mod tops;
 mod words;
 

@@ -37,8 +37,6 @@ mod plans;
 mod safe_streams;
 mod std_streams;
 mod streams;
-#[cfg(test)]
-mod tests;
 mod wholes;
 
 pub use memory_sinks::MemorySink;

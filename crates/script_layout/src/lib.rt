@@ -9,5 +9,3 @@ mod sizes;
 
 pub use layouts::layout_of;
 
-#[cfg(test)]
-mod tests;

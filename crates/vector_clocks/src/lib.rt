@@ -5,8 +5,6 @@ mod clocks;
 mod firsts;
 mod marks;
 mod replays;
-#[cfg(test)]
-mod tests;
 
 pub use clocks::clocks_of;
 pub use marks::{Clocks, Mark};

@@ -1,5 +1,0 @@
-use Rattle.std.proofs.Common.{length}
-use Rattle.board_rounds.proofs.groups.+names_twice.Given as goal
-
-abbrev pub decreases-names_twice : goal.decreases-names_twice
-decreases-names_twice l = length l.group.now

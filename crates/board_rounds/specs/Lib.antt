@@ -1,3 +1,0 @@
--- Sequences of entries, and timed work.
-pub mod Layouts
-pub mod Sequences
