@@ -135,7 +135,8 @@ def fences():
         "put w0 %d 0 int32 5" % after(rank), "fence w0"]))
     content = [line for rank in range(RANKS) for line in memory(rank, b"\5\0\0\0\0\0\0\0")]
     accesses = RANKS * 2047
-    yield run(script, ["ended"] + content + summary(accesses, accesses, 2 * RANKS * 2049), words=ORDERS[:1] + SHUFFLES[:1])
+    report = ["ended"] + content + summary(accesses, accesses, 2 * RANKS * 2049)
+    yield run(script, report, words=ORDERS[:1] + SHUFFLES[:1])
 
 
 def exclusive_locks():
@@ -233,6 +234,14 @@ def shuffled():
     yield run(each(calls), report, words=SHUFFLES + ("--order reverse --delay end", "--order greedy"))
 
 
+def sums():
+    """65,472 sums of 16 ranks on one cell: as many accesses at one rank without a finding."""
+    script = ["ranks 16", EVERY, "allocate w0 4 4", "lock_all w0"] + repeated(EACH - 4, ["acc w0 0 0 int32 sum 1"])
+    accesses = RANKS * (EACH - 4)
+    report = ["ended"] + memory(0, struct.pack("<q", accesses)) + summary(accesses, accesses, 4 * RANKS)
+    yield run(script + ["unlock_all w0"], report, words=SHUFFLES[1:2])
+
+
 def gets():
     """65,008 gets of 16 values by 16 ranks, of what each target stored: a report of more than 12 MB."""
     numbers = [written(-2000000000 - 16 * rank - n for n in range(16)) for rank in range(RANKS)]
@@ -250,7 +259,8 @@ def gets():
 
 def loads_and_stores():
     """16 ranks with 2,047 stores and as many loads of what was stored."""
-    script = each(lambda rank: ["allocate w0 4 4"] + repeated(2047, ["store w0 0 int32 %d" % rank, "load w0 0 int32 1"]))
+    script = each(lambda rank: ["allocate w0 4 4"] + repeated(2047, [
+        "store w0 0 int32 %d" % rank, "load w0 0 int32 1"]))
     values = ["%d:%d value %d" % (rank, call, rank) for rank in range(RANKS) for call in range(2, 2 * 2047 + 1, 2)]
     content = [line for rank in range(RANKS) for line in memory(rank, bytes([rank] + 7 * [0]))]
     accesses = 2 * RANKS * 2047
@@ -276,7 +286,8 @@ def refusals():
 
 def false_tests():
     """65,533 tests of a window that no rank completes."""
-    script = ["ranks 2", "rank 0 1", "allocate w0 0 1", "rank 0", "post w0 1"] + repeated(MOST_CALLS - 3, ["testwin w0"])
+    begin = ["ranks 2", "rank 0 1", "allocate w0 0 1", "rank 0", "post w0 1"]
+    script = begin + repeated(MOST_CALLS - 3, ["testwin w0"])
     lines = ["0:%d test false" % call for call in range(2, MOST_CALLS - 1)]
     yield run(script, ["ended"] + lines + summary(entries=5), words=ORDERS)
 
@@ -324,8 +335,8 @@ def interruptions():
 
 
 CASES = (barriers, stuck, windows, windows_with_memory, regions, groups, fences, exclusive_locks, held_locks,
-         windows_and_requests, delayed_puts, shuffled, gets, loads_and_stores, touches, refusals, false_tests, repeats,
-         pipes, interruptions)
+         windows_and_requests, delayed_puts, shuffled, sums, gets, loads_and_stores, touches, refusals, false_tests,
+         repeats, pipes, interruptions)
 
 
 def faults(program, case):

@@ -15,7 +15,8 @@ import time
 import scripts
 
 PROGRAM = os.path.join(os.path.dirname(os.path.abspath(__file__)), "../crates/rma_runner/out/rma_runner")
-# The script, its sizes, and the words of the command line; first whole scripts, then those that do little but one thing.
+# The script, its sizes, and the words of the command line; first whole scripts, then those that do little but one
+# thing.
 WHOLE = [
     ("cells", (30720, 61440), ""),
     ("cells", (30720, 61440), "--order seeded --delay seeded"),
@@ -66,7 +67,7 @@ def peak(words, script, report):
 
 
 def measured(words, text, runs):
-    """The least user time and the least whole time in seconds, the peak memory in KB, and the words of the last line."""
+    """The least user time and the least whole time in seconds, the peak memory in KB, and the last line's words."""
     with tempfile.TemporaryFile() as script, tempfile.TemporaryFile() as report:
         script.write(text.encode())
         script.flush()

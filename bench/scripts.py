@@ -176,7 +176,8 @@ def range_tests(size):
 
 FORMS = {form.__name__: form for form in (
     cells, one_cell, sums_and_swaps, locks, locked_puts, rounds, accumulates, accumulates_of_one, puts, disjoint,
-    flushed_gets, past_flushes, barriers, fences, windows, flushes, sums, products, pending_sums, past_others, range_tests)}
+    flushed_gets, past_flushes, barriers, fences, windows, flushes, sums, products, pending_sums, past_others,
+    range_tests)}
 
 
 def main():
