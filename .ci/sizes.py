@@ -300,7 +300,7 @@ def repeats():
     yield run(one(repeated(MOST_CALLS, ["barrier"])), most)
     yield run(one(repeated(2, ["barrier"] * (MOST_CALLS // 2))), most)
     yield run(one(repeated(1, ["barrier"]) * 49000), ["ended"] + summary(entries=2 * 49000))
-    yield run(one(repeated(MOST_CALLS, []) * 1000), ["ended"] + summary())
+    yield run(one(repeated(MOST_CALLS, []) * 61000), ["ended"] + summary())
     yield run(one(repeated(MOST_CALLS, ["barrier"]) + ["barrier"]), ["script 6 limit"], 3)
     yield run(one(repeated(MOST_CALLS + 1, [])), ["script 3 limit"], 3)
     yield run(one(repeated(2, ["barrier"] * (MOST_CALLS // 2 + 1))), ["script 32773 limit"], 3)
