@@ -1,7 +1,7 @@
 -- What was found are the findings of the run.
 use Rattle.std.proofs.Common.{inl, subst, sym}
-use Rattle.rma_runner.specs.Answers.{IsJudged}
-use Rattle.rma_runner.proofs.tops.judge_run.Goals as goal
+use Rattle.rma_program.specs.Answers.{IsJudged}
+use Rattle.rma_program.proofs.tops.judge_run.Goals as goal
 
 pub returns-in-Ok-clause-ends : goal.returns-in-Ok-clause-ends
 returns-in-Ok-clause-ends g c =

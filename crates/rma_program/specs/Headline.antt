@@ -23,7 +23,7 @@ use Rattle.refusal_laws.specs.RefusalLaws.{RefusalsChangeNothing}
 use Rattle.rma_streams.specs.Moves.{Wrote, WrotePrefix}
 use Rattle.run_judge.specs.Judgements.{AreReadsOrderedIfNone}
 use Rattle.command_words.specs.declared.options.Options.{Options}
-use Rattle.rma_runner.specs.Answers.{IsRunOf, ReadsAs, report_on}
+use Rattle.rma_program.specs.Answers.{IsRunOf, ReadsAs, report_on}
 
 -- the bytes taken are the whole input and say a script; the run is the script's run by the options; and this holds of
 -- both

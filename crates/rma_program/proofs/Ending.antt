@@ -15,14 +15,14 @@ use Rattle.rma_streams.specs.Faults.{Rose}
 use Rattle.rma_streams.specs.Moves.{Took, AtEnd, Wrote, WrotePrefix}
 use Rattle.script_language.specs.declared.faults.Fault.{Fault}
 use Rattle.script_language.specs.Reading.{Reads}
-use Rattle.rma_runner.proofs.Texts.{text_is_short, is_no_text}
+use Rattle.rma_program.proofs.Texts.{text_is_short, is_no_text}
 use Rattle.command_words.specs.declared.options.Options.{Options}
-use Rattle.rma_runner.specs.declared.outcomes.Outcome.{Outcome}
-use Rattle.rma_runner.specs.Answers.{IsInput, ReadsAs, ReadsAsNone, IsJudged, IsRunOf, Reported, ReportedInPart}
-use Rattle.rma_runner.specs.Answers.{Refused, RefusedInPart, IsNoText, report_on}
-use Rattle.rma_runner.specs.Lines.{fault_line}
-use Rattle.rma_runner.specs.Statuses.{IsRunStatus, IsStepStatus}
-use Rattle.rma_runner.specs.Tops.{EndsFault, EndsScript, StepEnds}
+use Rattle.rma_program.specs.declared.outcomes.Outcome.{Outcome}
+use Rattle.rma_program.specs.Answers.{IsInput, ReadsAs, ReadsAsNone, IsJudged, IsRunOf, Reported, ReportedInPart}
+use Rattle.rma_program.specs.Answers.{Refused, RefusedInPart, IsNoText, report_on}
+use Rattle.rma_program.specs.Lines.{fault_line}
+use Rattle.rma_program.specs.Statuses.{IsRunStatus, IsStepStatus}
+use Rattle.rma_program.specs.Tops.{EndsFault, EndsScript, StepEnds}
 
 -- the status of a run is 0, 1 or 7
 status_by : (ended bad : Bool) → IsRunStatus (cond (not ended) 7 (cond bad 1 0))

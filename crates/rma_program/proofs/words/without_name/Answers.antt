@@ -2,7 +2,7 @@
 use Rattle.std.proofs.Common.{◌≡◌, Result, Ok, Err, IfOk, drop, length, vec_len, ap, ◌∙◌}
 use Rattle.std.specs.Vec.Iter.{into_iter_items, into_iter_len}
 use Rattle.std.proofs.lemmas.Iterator.Adapters.{YieldsList-from_skip, YieldsList-from_vec, fact_from_collect}
-use Rattle.rma_runner.proofs.words.without_name.Goals as goal
+use Rattle.rma_program.proofs.words.without_name.Goals as goal
 
 -- of two facts of a value, the first
 first_fact : {T E : Type 0} (r : Result T E) (P Q : T → Type 0) → IfOk r (λ v. P v × Q v) → IfOk r P

@@ -16,7 +16,7 @@ use Rattle.rma_streams.specs.Moves.{Took, AtEnd, Wrote, WrotePrefix}
 use Rattle.script_language.specs.Reading.{Reads, HasFault}
 use Rattle.script_language.specs.declared.faults.Fault.{Fault}
 use Rattle.command_words.specs.declared.options.Options.{Options}
-use Rattle.rma_runner.specs.Lines.{fault_line}
+use Rattle.rma_program.specs.Lines.{fault_line}
 
 -- the bytes that were taken: the whole input, or as many as are taken of a longer one
 pub record IsInput (before after : Option (List ℕ)) (bytes : List ℕ) : Type 0 where

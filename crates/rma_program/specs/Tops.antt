@@ -6,10 +6,10 @@ use Rattle.rma_record.specs.declared.runs.Run.{Run}
 use Rattle.run_texts.specs.Status.{status, words_refused, script_refused, read_failed, write_failed, out_of_memory}
 use Rattle.rma_streams.specs.Moves.{Wrote, WrotePrefix}
 use Rattle.script_language.specs.declared.faults.Fault.{Fault}
-use Rattle.rma_runner.specs.Answers.{IsJudged, IsRunOf, ReadsAs, ReadsAsNone, report_on}
-use Rattle.rma_runner.specs.Lines.{fault_line, usage_line}
+use Rattle.rma_program.specs.Answers.{IsJudged, IsRunOf, ReadsAs, ReadsAsNone, report_on}
+use Rattle.rma_program.specs.Lines.{fault_line, usage_line}
 use Rattle.command_words.specs.declared.options.Options.{Options}
-use Rattle.rma_runner.specs.declared.outcomes.Outcome.{Outcome}
+use Rattle.rma_program.specs.declared.outcomes.Outcome.{Outcome}
 
 -- the whole text was written and the status is the one of that; or a write failed; or there was no memory for the text
 abbrev pub Ends : ℕ → Option Run → List ℕ → Option (List ℕ) → Option (List ℕ) → Outcome → Type 0

@@ -2,8 +2,8 @@
 ghost use Rattle.std.specs.Prelude.{◌≡◌, Ok, Err, None, drop, IfOk, IfErr, MatchResult};
 ghost use Rattle.std.specs.IoError.{error_kind};
 ghost use Rattle.std.specs.Vec.Iter.{into_iter_items};
-ghost use Rattle.rma_runner.specs.Words.{why_no_words};
-ghost use Rattle.rma_runner.specs.Tops.{EndsUsage};
+ghost use Rattle.rma_program.specs.Words.{why_no_words};
+ghost use Rattle.rma_program.specs.Tops.{EndsUsage};
 
 use crate::outcomes::{OUT_OF_MEMORY, Outcome};
 use crate::tops::refuse_words;

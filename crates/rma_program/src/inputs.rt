@@ -4,8 +4,8 @@ ghost use Rattle.rma_streams.specs.Ends.{NoLateRead};
 ghost use Rattle.rma_streams.specs.Faults.{Rose};
 ghost use Rattle.call_rules.specs.WellFormed.{IsWellFormed};
 ghost use Rattle.script_language.specs.Reading.{Reads};
-ghost use Rattle.rma_runner.specs.Answers.{ReadsAs};
-ghost use Rattle.rma_runner.specs.Inputs.{IsRefusal, IsWhy};
+ghost use Rattle.rma_program.specs.Answers.{ReadsAs};
+ghost use Rattle.rma_program.specs.Inputs.{IsRefusal, IsWhy};
 
 use rma_streams::{ReadError, Source, read_input};
 use rma_types::Script;

@@ -1,9 +1,9 @@
 -- Why no script was read.
 use Rattle.std.specs.Prelude.{ℕ, List, Option}
 use Rattle.script_language.specs.Reading.{HasFault}
-use Rattle.rma_runner.specs.Answers.{ReadsAsNone}
-use Rattle.rma_runner.specs.declared.inputs.NoScript.{NoScript}
-use Rattle.rma_runner.specs.declared.inputs.NoScript.TheVariants.{Failed, NoMemory, Refused}
+use Rattle.rma_program.specs.Answers.{ReadsAsNone}
+use Rattle.rma_program.specs.declared.inputs.NoScript.{NoScript}
+use Rattle.rma_program.specs.declared.inputs.NoScript.TheVariants.{Failed, NoMemory, Refused}
 
 -- the fault is the first of the text, unless memory ran out
 abbrev pub IsRefusal : List ℕ → NoScript → Type 0

@@ -6,11 +6,11 @@ use Rattle.rma_types.specs.declared.scripts.Script.{Script}
 use Rattle.rma_record.specs.declared.runs.Run.{Run}
 use Rattle.refusal_laws.specs.RefusalLaws.{RefusedCallsChangeNothing}
 use Rattle.command_words.specs.declared.options.Options.{Options}
-use Rattle.rma_runner.proofs.Ending.{Case, Whole, Part, NoScript, NoScriptPart, NotRead, NoRoom}
-use Rattle.rma_runner.specs.declared.outcomes.Outcome.{Outcome}
-use Rattle.rma_runner.specs.Answers.{IsJudged, IsRunOf, report_on}
-use Rattle.rma_runner.specs.Headline.{CallsAreRefusedByClass, OfScript, PrintsFindings, ReadsAreOrdered}
-use Rattle.rma_runner.specs.Headline.{RefusalsOfRunChangeNothing, TouchesReadStates, UpdatesStandOnce, WroteOrBegan}
+use Rattle.rma_program.proofs.Ending.{Case, Whole, Part, NoScript, NoScriptPart, NotRead, NoRoom}
+use Rattle.rma_program.specs.declared.outcomes.Outcome.{Outcome}
+use Rattle.rma_program.specs.Answers.{IsJudged, IsRunOf, report_on}
+use Rattle.rma_program.specs.Headline.{CallsAreRefusedByClass, OfScript, PrintsFindings, ReadsAreOrdered}
+use Rattle.rma_program.specs.Headline.{RefusalsOfRunChangeNothing, TouchesReadStates, UpdatesStandOnce, WroteOrBegan}
 
 -- what holds of each run that is judged and reported on holds of the one that is handed back
 of_run : (options : Options) (lb la before after : Option (List ℕ)) (outcome : Outcome)

@@ -11,13 +11,13 @@ ghost use Rattle.rma_streams.specs.Ends.{NoLateRead};
 ghost use Rattle.rma_streams.specs.Faults.{Rose};
 ghost use Rattle.rma_streams.specs.Moves.{Wrote, WrotePrefix};
 ghost use Rattle.script_language.specs.Reading.{Reads};
-ghost use Rattle.rma_runner.specs.Answers.{IsNoText, Refused, RefusedInPart, Reported, ReportedInPart};
-ghost use Rattle.rma_runner.specs.Headline.{CallsAreRefusedByClass, OfScript, PrintsFindings, ReadsAreOrdered};
-ghost use Rattle.rma_runner.specs.Headline.{RefusalsOfRunChangeNothing, TouchesReadStates, UpdatesStandOnce};
-ghost use Rattle.rma_runner.specs.Lines.{usage_line};
-ghost use Rattle.rma_runner.specs.Statuses.{IsRunStatus, IsStepStatus};
-ghost use Rattle.rma_runner.specs.Tops.{EndsFault, EndsJudged, EndsRun, EndsScript, EndsUsage, StepEnds};
-ghost use Rattle.rma_runner.specs.Words.{AreNoOptions, AreOptions, StandFor};
+ghost use Rattle.rma_program.specs.Answers.{IsNoText, Refused, RefusedInPart, Reported, ReportedInPart};
+ghost use Rattle.rma_program.specs.Headline.{CallsAreRefusedByClass, OfScript, PrintsFindings, ReadsAreOrdered};
+ghost use Rattle.rma_program.specs.Headline.{RefusalsOfRunChangeNothing, TouchesReadStates, UpdatesStandOnce};
+ghost use Rattle.rma_program.specs.Lines.{usage_line};
+ghost use Rattle.rma_program.specs.Statuses.{IsRunStatus, IsStepStatus};
+ghost use Rattle.rma_program.specs.Tops.{EndsFault, EndsJudged, EndsRun, EndsScript, EndsUsage, StepEnds};
+ghost use Rattle.rma_program.specs.Words.{AreNoOptions, AreOptions, StandFor};
 
 use crate::inputs::{NoScript, read_script};
 use crate::outcomes::{

@@ -3,9 +3,9 @@ ghost use Rattle.std.specs.Prelude.{◌≡◌, ◌≤◌, IfOk};
 ghost use Rattle.std.specs.String.{string_bytes};
 ghost use Rattle.rma_streams.specs.Faults.{Rose};
 ghost use Rattle.call_rules.specs.WellFormed.{IsWellFormed};
-ghost use Rattle.rma_runner.specs.Answers.{report_on};
-ghost use Rattle.rma_runner.specs.Lines.{kind_text, fault_line, usage_line};
-ghost use Rattle.rma_runner.specs.Outputs.{WritesOrStops};
+ghost use Rattle.rma_program.specs.Answers.{report_on};
+ghost use Rattle.rma_program.specs.Lines.{kind_text, fault_line, usage_line};
+ghost use Rattle.rma_program.specs.Outputs.{WritesOrStops};
 
 use rma_record::Run;
 use rma_streams::{Sink, write_output};

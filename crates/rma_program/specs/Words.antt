@@ -4,8 +4,8 @@ use Rattle.std.specs.declared.io.ErrorKind.{ErrorKind}
 use Rattle.command_words.specs.Words.{options_of}
 use Rattle.command_words.specs.declared.options.Options.{Options}
 use Rattle.std.specs.declared.io.ErrorKind.TheVariants.{OutOfMemory}
-use Rattle.rma_runner.specs.declared.words.NoWords.{NoWords}
-use Rattle.rma_runner.specs.declared.words.NoWords.TheVariants.{NoText, NoMemory}
+use Rattle.rma_program.specs.declared.words.NoWords.{NoWords}
+use Rattle.rma_program.specs.declared.words.NoWords.TheVariants.{NoText, NoMemory}
 
 -- the system's words fail for want of memory, or because one of them is no text
 abbrev pub why_no_words : ErrorKind → NoWords

@@ -1,6 +1,6 @@
 use Rattle.std.proofs.Common.{inl}
-use Rattle.rma_runner.specs.Answers.{IsRunOf}
-use Rattle.rma_runner.proofs.tops.run_script.Goals as goal
+use Rattle.rma_program.specs.Answers.{IsRunOf}
+use Rattle.rma_program.proofs.tops.run_script.Goals as goal
 
 -- what is lawful with the delay is lawful with drawn ones
 pub judge_run-requires-clause-lawful : goal.judge_run-requires-clause-lawful

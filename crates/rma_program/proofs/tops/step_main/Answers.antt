@@ -1,8 +1,8 @@
 -- Each clause follows from how the call ends.
 use Rattle.std.proofs.Common.{◌≡◌, arith}
-use Rattle.rma_runner.proofs.Ending as ending
-use Rattle.rma_runner.proofs.Points as points
-use Rattle.rma_runner.proofs.tops.step_main.Goals as goal
+use Rattle.rma_program.proofs.Ending as ending
+use Rattle.rma_program.proofs.Points as points
+use Rattle.rma_program.proofs.tops.step_main.Goals as goal
 
 pub returns : goal.returns
 returns g c =
