@@ -39,7 +39,9 @@ fn is_asked(rank: u8, number: u32, call: &Call, step: Step) -> bool
                 matches!(&step, Step::Arrive | Step::Leave)
             }
             Call::LockOne {
-                win: 0, target: 15, ..
+                win: 0,
+                target: 15,
+                ..
             }
             | Call::Unlock { win: 0, target: 15 }
             | Call::LockAll { win: 0, .. }
@@ -89,10 +91,12 @@ const NO_ASSERTS: Asserts = Asserts {
 };
 
 pub(crate) const DYNAMIC: Call = Call::Dynamic { win: 0 };
+
 pub(crate) const FENCE: Call = Call::Fence {
     win: 0,
     asserts: NO_ASSERTS,
 };
+
 pub(crate) const LAST_FENCE: Call = Call::Fence {
     win: 0,
     asserts: Asserts {
@@ -100,21 +104,26 @@ pub(crate) const LAST_FENCE: Call = Call::Fence {
         ..NO_ASSERTS
     },
 };
+
 pub(crate) const SHARED: Call = Call::LockOne {
     win: 0,
     kind: Lock::Shared,
     target: 15,
     asserts: NO_ASSERTS,
 };
+
 pub(crate) const EXCLUSIVE: Call = Call::LockOne {
     win: 0,
     kind: Lock::Exclusive,
     target: 15,
     asserts: NO_ASSERTS,
 };
+
 pub(crate) const UNLOCK: Call = Call::Unlock { win: 0, target: 15 };
+
 pub(crate) const LOCK_ALL: Call = Call::LockAll {
     win: 0,
     asserts: NO_ASSERTS,
 };
+
 pub(crate) const UNLOCK_ALL: Call = Call::UnlockAll { win: 0 };

@@ -80,7 +80,10 @@ fn entries_of_sixteen_ranks(rt: HostRuntime) -> Result<(), Fail> {
         (0, 2, LAST_FENCE, Step::Arrive, None, entered(71, None)),
         (1, 2, FENCE, Step::Arrive, seven, differs),
     ] {
-        assert_eq!(rt; ask(&mut board, rank, number, &call, step, gift), Ok(wanted));
+        assert_eq!(rt;
+            ask(&mut board, rank, number, &call, step, gift),
+            Ok(wanted)
+        );
     }
     Ok(())
 }

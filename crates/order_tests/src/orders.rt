@@ -3,7 +3,7 @@ use crate::plays::played;
 use crate::scripts::{PUT_FLUSHED, RING, id};
 use rma_types::{Id, NoMemory};
 use std::process::Abort;
-use vector_clocks::clocks_of;
+use vector_clocks::{Clocks, clocks_of};
 
 /// Two shared unlocks before an exclusive lock.
 const EXCLUSIVE: &str =
@@ -16,14 +16,29 @@ const SHARED: &str =
 const SIXTEEN: &str =
     "ranks 16\nrank 0 1 2 3 4 5 6 7 8 9 10 11 12 13 14 15\nallocate w0 4 4\nlock_all w0\nput w0 0 0 int32 1\nunlock_all w0\n";
 
+/// The first item of each pair is before the second, or of none.
+fn compare(rt: &impl Abort, clocks: &Clocks, pairs: &[(Id, Id)], wanted: bool) {
+    for (a, b) in pairs {
+        assert_eq!(rt; clocks.before(*a, *b), wanted, "{a:?} {b:?}");
+    }
+}
+
 /// Of each script, pairs of items of which the first is before the second, and pairs of which it is not.
 #[test]
 fn items_are_before_others(rt: HostRuntime) -> Result<(), NoMemory> {
     let rows: [(&str, &[(Id, Id)], &[(Id, Id)]); 5] = [
         (
             PUT_FLUSHED,
-            &[(id(0, 5), id(1, 5)), (id(0, 6), id(1, 4)), (id(1, 2), id(0, 7))],
-            &[(id(1, 5), id(0, 5)), (id(0, 7), id(1, 4)), (id(0, 2), id(1, 2))],
+            &[
+                (id(0, 5), id(1, 5)),
+                (id(0, 6), id(1, 4)),
+                (id(1, 2), id(0, 7)),
+            ],
+            &[
+                (id(1, 5), id(0, 5)),
+                (id(0, 7), id(1, 4)),
+                (id(0, 2), id(1, 2)),
+            ],
         ),
         (
             RING,
@@ -66,12 +81,8 @@ fn items_are_before_others(rt: HostRuntime) -> Result<(), NoMemory> {
     for (text, before, apart) in rows {
         let (script, run) = played(rt.alloc(), text)?;
         let clocks = clocks_of(rt.alloc(), &script, &run)?;
-        for (a, b) in before {
-            assert!(rt; clocks.before(*a, *b), "{text} {a:?} {b:?}");
-        }
-        for (a, b) in apart {
-            assert!(rt; !clocks.before(*a, *b), "{text} {a:?} {b:?}");
-        }
+        compare(&rt, &clocks, before, true);
+        compare(&rt, &clocks, apart, false);
     }
     Ok(())
 }

@@ -92,8 +92,14 @@ const STORE_POINTS: [Id; 7] = [
 fn updates_are_visible_at_their_points(rt: HostRuntime) -> Result<(), NoMemory> {
     let (separate, unified) = (Model::Separate, Model::Unified);
     let rows: [(Row, Model); 11] = [
-        ((PUT_BETWEEN_FENCES, id(0, 4), &[id(1, 5), id(1, 7)]), separate),
-        ((PUT_BETWEEN_FENCES, id(0, 4), &[id(0, 7), id(1, 5)]), unified),
+        (
+            (PUT_BETWEEN_FENCES, id(0, 4), &[id(1, 5), id(1, 7)]),
+            separate,
+        ),
+        (
+            (PUT_BETWEEN_FENCES, id(0, 4), &[id(0, 7), id(1, 5)]),
+            unified,
+        ),
         ((FREED, id(0, 4), &[id(1, 5), id(1, 7)]), separate),
         ((WAITS, id(0, 3), &[id(1, 5), id(1, 9)]), separate),
         ((LOCKS, id(0, 3), &[id(1, 4), id(1, 6)]), separate),

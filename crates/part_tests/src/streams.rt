@@ -99,7 +99,10 @@ fn interrupted_calls_are_made_again(rt: HostRuntime) {
 #[test]
 fn streams_that_never_fail_find_memory(rt: HostRuntime) -> Result<(), Fail> {
     let mut source = SafeSource::new(b"abcd".to_vec(rt.alloc())?);
-    assert_eq!(rt; read_input(rt.alloc(), &mut source)?.as_slice(), b"abcd".as_slice());
+    assert_eq!(rt;
+        read_input(rt.alloc(), &mut source)?.as_slice(),
+        b"abcd".as_slice()
+    );
     let mut sink = SafeSink::new(rt.alloc(), 3)?;
     assert_eq!(rt; write_output(&mut sink, b"ab"), Ok(()));
     assert_eq!(rt; write_output(&mut sink, b"cd"), Ok(()));

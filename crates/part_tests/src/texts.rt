@@ -20,7 +20,9 @@ const ENDS: &str =
 #[test]
 fn a_script_has_one_canonical_text(rt: HostRuntime) -> Result<(), Fail> {
     for (spelling, canonical) in [(PUT, PUT), (PUT_AGAIN, PUT), (ENDS, ENDS)] {
-        let script = parse(rt.alloc(), spelling.as_bytes()).ok().ok_or("a script")?;
+        let script = parse(rt.alloc(), spelling.as_bytes())
+            .ok()
+            .ok_or("a script")?;
         let text = script_text(rt.alloc(), &script).ok().ok_or("memory")?;
         assert_eq!(rt; text.as_slice(), canonical.as_bytes());
     }

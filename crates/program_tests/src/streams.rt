@@ -1,7 +1,5 @@
 //! Sources and sinks that are short, or fail at one call.
-use crate::ends::{
-    AT_ONCE, End, FENCED_PUT, FENCED_PUT_REPORT, Pace, USAGE_LINE, end_of,
-};
+use crate::ends::{AT_ONCE, End, FENCED_PUT, FENCED_PUT_REPORT, Pace, USAGE_LINE, end_of};
 use command_words::DEFAULT_OPTIONS;
 use rma_program::step_main;
 use rma_streams::{MemorySink, MemorySource};

@@ -15,8 +15,14 @@ fn texts_are_refused_by_their_first_fault(rt: HostRuntime) -> Result<(), Fail> {
         ("ranks 1\nrank 0\nPUT w0 0 0 int32 1\n", "script 3 word\n"),
         ("ranks 1\nrank 0\nallocate w32 4 4\n", "script 3 name\n"),
         ("ranks 1\nrank 0\nput w0 0 0 int64 1\n", "script 3 type\n"),
-        ("ranks 1\nrank 0\nacc w0 0 0 int32 plus 1\n", "script 3 op\n"),
-        ("ranks 1\nrank 0\nput w0 0 0 int32 +5\n", "script 3 number\n"),
+        (
+            "ranks 1\nrank 0\nacc w0 0 0 int32 plus 1\n",
+            "script 3 op\n",
+        ),
+        (
+            "ranks 1\nrank 0\nput w0 0 0 int32 +5\n",
+            "script 3 number\n",
+        ),
         (
             "ranks 1\nrank 0\nrepeat 65536\nbarrier\nend\nbarrier\n",
             "script 6 limit\n",

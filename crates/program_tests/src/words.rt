@@ -1,7 +1,5 @@
 //! From the words of the command line, as the system gives them, to the status.
-use crate::ends::{
-    AT_ONCE, FENCED_PUT, FENCED_PUT_REPORT, USAGE_LINE, end_of, words_from,
-};
+use crate::ends::{AT_ONCE, FENCED_PUT, FENCED_PUT_REPORT, USAGE_LINE, end_of, words_from};
 use rma_program::{NoWords, end_without_words, words_of};
 use rma_streams::MemorySink;
 use std::io;
