@@ -1,6 +1,6 @@
 //! The pending accesses of a rank, worked out by hand.
 use delivery_queue::Pending;
-use rma_types::{Access, Call, Dtype, Kind, Op};
+use rma_types::{Access, Call, Dtype, Kind, NoMemory, Op};
 use std::test::Fail;
 
 const SUM: Kind = Kind::Acc {
@@ -8,9 +8,29 @@ const SUM: Kind = Kind::Acc {
     dtype: Dtype::Int32,
 };
 
-/// Each access with the place of the one that is delivered before it, its own where it gives way to none. A sum gives
-/// way to a sum on its cell, also through another one: the last shares no cell with the first. A put gives way to none.
-/// An access without bytes is not pending.
+/// Issues an access, that of call 4 with request q63.
+fn issue(queue: &mut Pending, call: u32, access: &Access, fetches: bool) -> Result<(), NoMemory> {
+    if call == 4 && !queue.is_live(63) {
+        queue.issue(call, call, access, fetches, Some(63))
+    } else {
+        queue.issue(call, call, access, fetches, None)
+    }
+}
+
+/// Where the first access stands that a flush of a target has delivered, in full or locally.
+fn first_for(queue: &Pending, is_local: bool, target: i32) -> Option<usize> {
+    if is_local {
+        queue.next_for(&Call::FlushLocal { win: 3, target })
+    } else {
+        queue.next_for(&Call::Flush { win: 3, target })
+    }
+}
+
+/// Which access is delivered before that of each place, or the same where it gives way to none.
+const WAYS: [usize; 7] = [0, 0, 2, 3, 4, 0, 0];
+
+/// A sum gives way to a sum on its cell, also through another one: the last shares no cell with the first. A put gives way
+/// to none. An access without bytes is not pending. A local flush waits for what fetches, and a request for its own.
 #[test]
 fn an_access_gives_way_and_is_waited_for(rt: HostRuntime) -> Result<(), Fail> {
     let mut queue = Pending::new(rt.alloc())?;
@@ -31,24 +51,23 @@ fn an_access_gives_way_and_is_waited_for(rt: HostRuntime) -> Result<(), Fail> {
             len,
             kind,
         };
-        queue.issue(call, 10 + call, &access, fetches, None)?;
+        issue(&mut queue, call, &access, fetches)?;
     }
     assert_eq!(rt; queue.count(), 7);
-    for (at, way) in [0, 0, 2, 3, 4, 0, 0].into_iter().enumerate() {
-        if at < queue.count() {
-            assert_eq!(rt; queue.way(at), way);
-        }
+    for at in 0..7usize {
+        assert!(rt; at < queue.count());
+        assert_eq!(rt; queue.way(at), WAYS[at]);
     }
-    for (call, first) in [
-        (Call::Flush { win: 3, target: 1 }, Some(0)),
-        (Call::Flush { win: 3, target: 2 }, Some(4)),
-        (Call::Flush { win: 3, target: 3 }, None),
-        (Call::FlushAll { win: 4 }, None),
-        (Call::FlushLocal { win: 3, target: 1 }, None),
-        (Call::FlushLocalAll { win: 3 }, Some(4)),
-        (Call::WaitReq { req: 63 }, None),
+    for (is_local, target, first) in [
+        (false, 1, Some(0)),
+        (false, 2, Some(4)),
+        (false, 3, None),
+        (true, 1, None),
+        (true, 2, Some(4)),
     ] {
-        assert_eq!(rt; queue.next_for(&call), first);
+        assert_eq!(rt; first_for(&queue, is_local, target), first);
     }
+    assert_eq!(rt; queue.next_for(&Call::FlushAll { win: 4 }), None);
+    assert_eq!(rt; queue.next_for(&Call::WaitReq { req: 63 }), Some(4));
     Ok(())
 }
