@@ -8,4 +8,3 @@ mod layouts;
 mod sizes;
 
 pub use layouts::layout_of;
-
