@@ -1,11 +1,10 @@
 #!/usr/bin/env python3
-"""Measures the program over the scripts of the benchmark.
+"""Measures the program over whole scripts of the benchmark; run by hand, not by the gate.
 
-Of some runs the least processor time (user and system) and the least time from start to end, which a busy machine
-disturbs less; peak memory by GNU time. Then the program that does one work at a board.
+Of some runs the least user time and the least time from start to end, which a busy machine disturbs less; peak memory
+by GNU time.
 
-    measure.py [PROGRAM [RUNS]]     by default the program that rt ci leaves, 5 runs; run by hand, not by the gate
-    measure.py boards [RUNS]        only the program of a board
+    measure.py [PROGRAM [RUNS [NAME...]]]    by default the program that rt ci leaves, 5 runs, and all scripts
 """
 import os
 import subprocess
@@ -15,33 +14,39 @@ import time
 
 import scripts
 
-HERE = os.path.dirname(os.path.abspath(__file__))
-PROGRAM = os.path.join(HERE, "../crates/rma_runner/out/rma_runner")
-# the script, its sizes, and the words of the command line
-CASES = [
+PROGRAM = os.path.join(os.path.dirname(os.path.abspath(__file__)), "../crates/rma_runner/out/rma_runner")
+# The script, its sizes, and the words of the command line; first whole scripts, then those that do little but one
+# thing.
+WHOLE = [
     ("cells", (30720, 61440), ""),
-    ("one_cell", (30000, 60000), ""),
-    ("fences", (16000, 32000), ""),
-    ("barriers", (32768, 65536), ""),
+    ("cells", (30720, 61440), "--order seeded --delay seeded"),
+    ("one_cell", (16000, 32000, 65472), ""),
+    ("sums_and_swaps", (16000, 32000, 65472), ""),
     ("locks", (8000, 16000), ""),
+    ("locked_puts", (8000, 16000), ""),
     ("rounds", (4800, 9600), ""),
     ("accumulates", (8000, 16000), ""),
+    ("accumulates_of_one", (16000, 65500), ""),
     ("puts", (7200, 14400), "--delay end"),
-    ("cells", (30720, 61440), "--order seeded --delay seeded"),
-    ("one_cell", (8000, 16000), ""),
     ("disjoint", (8000, 16000), ""),
-    ("locked_puts", (8000, 16000), ""),
-    ("past_others", (4000, 8000), "--delay end"),
     ("flushed_gets", (16020, 32040, 64080), ""),
     ("past_flushes", (16016, 32032, 64064), ""),
 ]
-# words of the program that asks a board by itself, and the entries that each puts to it
-BOARDS = [("barriers", 131072), ("windows", 131072)]
-BOARD_PROGRAM = os.path.join(os.path.dirname(os.path.abspath(__file__)), "../crates/board_times/out/board_times")
+PARTS = [
+    ("barriers", (32768, 65536), ""),
+    ("fences", (32000, 64000), ""),
+    ("windows", (16384, 32768), ""),
+    ("flushes", (32000, 64000), ""),
+    ("sums", (8000, 16000), ""),
+    ("products", (8000, 16000), ""),
+    ("pending_sums", (15000, 30000, 60000), "--delay end"),
+    ("past_others", (10000, 20000, 40000), "--delay end"),
+    ("range_tests", (1000, 32000), ""),
+]
 
 
-def run(words, script, report, well=(0, 1)):
-    """Runs the program once, and returns its processor time, its whole time and its user time in seconds."""
+def run(words, script, report):
+    """Runs the program once, and returns its user time and its whole time in seconds."""
     script.seek(0)
     report.seek(0)
     report.truncate()
@@ -49,56 +54,56 @@ def run(words, script, report, well=(0, 1)):
     child = subprocess.Popen(words, stdin=script, stdout=report)
     _, status, used = os.wait4(child.pid, 0)
     end = time.perf_counter()
-    if os.waitstatus_to_exitcode(status) not in well:
+    if os.waitstatus_to_exitcode(status) not in (0, 1):
         sys.exit("%s ended with %d" % (words[0], os.waitstatus_to_exitcode(status)))
-    return used.ru_utime + used.ru_stime, end - begin, used.ru_utime
+    return used.ru_utime, end - begin
 
 
-def peak(program, words, script, report):
+def peak(words, script, report):
     """The program's peak memory in KB. GNU time starts it, since a child of Python's would count Python's own peak."""
     with tempfile.NamedTemporaryFile() as told:
-        run(["/usr/bin/time", "-f", "%M", "-o", told.name, program] + words, script, report)
+        run(["/usr/bin/time", "-f", "%M", "-o", told.name] + words, script, report)
         return int(told.read().split()[-1])
 
 
-def boards(runs):
-    """The program of a board: the memory of an entry is the peak memory of the whole program by its entries."""
-    print("| word of `board_times` | entries | user time in ms | processor time in ms | peak memory in MB | bytes an entry |")
-    print("|---|---|---|---|---|---|")
-    for name, entries in BOARDS:
-        with tempfile.TemporaryFile() as script, tempfile.TemporaryFile() as report:
-            took = [run([BOARD_PROGRAM, name], script, report, (0,)) for _ in range(runs)]
-            memory = peak(BOARD_PROGRAM, [name], script, report)
-        print("| `%s` | %s | %.1f | %.1f | %.1f | %d |" % (
-            name, entries, 1000 * min(it[2] for it in took), 1000 * min(it[0] for it in took), memory / 1024,
-            1024 * memory / entries), flush=True)
+def measured(words, text, runs):
+    """The least user time and the least whole time in seconds, the peak memory in KB, and the last line's words."""
+    with tempfile.TemporaryFile() as script, tempfile.TemporaryFile() as report:
+        script.write(text.encode())
+        script.flush()
+        took = [run(words, script, report) for _ in range(runs)]
+        memory = peak(words, script, report)
+        report.seek(0)
+        last = report.read().decode().splitlines()[-1].split()
+    return min(user for user, _ in took), min(whole for _, whole in took), memory, last
+
+
+def print_table(title, cases, program, runs, names):
+    print("| %s | words | accesses | touches | entries | refused | findings | user time in ms | whole time in ms | "
+          "peak memory in MB |" % title)
+    print("|---" * 10 + "|")
+    for name, sizes, words in cases:
+        for size in sizes:
+            if names and name not in names:
+                continue
+            user, whole, memory, last = measured([program] + words.split(), scripts.FORMS[name](size), runs)
+            print("| `%s %d` | %s | %s | %.0f | %.0f | %.1f |" % (
+                name, size, words, " | ".join(last[2::2]), 1000 * user, 1000 * whole, memory / 1024), flush=True)
 
 
 def main():
-    runs = int(sys.argv[2]) if len(sys.argv) > 2 else 5
-    if sys.argv[1:2] == ["boards"]:
-        return boards(runs)
     program = sys.argv[1] if len(sys.argv) > 1 else PROGRAM
-    scripted(program, runs)
+    runs = int(sys.argv[2]) if len(sys.argv) > 2 else 5
+    names = sys.argv[3:]
+    print_table("script", WHOLE, program, runs, names)
     print()
-    boards(runs)
-
-
-def scripted(program, runs):
-    print("| script | words | accesses | touches | entries | findings | processor time in ms | whole time in ms | peak memory in MB |")
-    print("|---|---|---|---|---|---|---|---|---|")
-    for name, sizes, words in CASES:
-        for size in sizes:
-            with tempfile.TemporaryFile() as script, tempfile.TemporaryFile() as report:
-                script.write(scripts.text(name, size).encode())
-                script.flush()
-                took = [run([program] + words.split(), script, report) for _ in range(runs)]
-                memory = peak(program, words.split(), script, report) / 1024
-                report.seek(0)
-                last = report.read().decode().splitlines()[-1].split()
-                print("| %s %d | %s | %s | %s | %s | %s | %.1f | %.1f | %.1f |" % (
-                    name, size, words, last[2], last[4], last[6], last[10],
-                    1000 * min(it[0] for it in took), 1000 * min(it[1] for it in took), memory), flush=True)
+    print_table("script that does little but one thing", PARTS, program, runs, names)
+    print()
+    print("| name | what the script is |")
+    print("|---|---|")
+    for name in dict.fromkeys(name for name, _, _ in WHOLE + PARTS):
+        if not names or name in names:
+            print("| `%s` | %s |" % (name, scripts.FORMS[name].__doc__))
 
 
 if __name__ == "__main__":

@@ -17,7 +17,7 @@ use Rattle.call_rules.specs.Actions.{EndsRequest, Transfer, transfer_in, action_
 use Rattle.call_rules.specs.Elements.{Fits}
 use Rattle.call_rules.specs.Numbers.{patterns_of}
 use Rattle.call_rules.specs.declared.elements.Piece.{Piece}
-use Rattle.call_rules.specs.Pieces.{numbers_from, first_cell}
+use Rattle.call_rules.specs.Pieces.{numbers_from, piece_at}
 use Rattle.call_rules.specs.Ranks.{natural}
 use Rattle.call_rules.specs.Transfers.{bytes_of, change_of, is_no_op}
 use Rattle.call_rules.specs.WellFormed.{IsWrittenTransfer, IsWrittenAction, IsWrittenCall}
@@ -155,7 +155,7 @@ count_in : (o : Option Transfer) (access : Access) →
 count_in None access a = elim a [ ]
 count_in (Some t) access a = ap (λ n. n / size_of t.dtype) a.1 ∙ quotient t.dtype (natural t.count)
 
-pub count_is : (call : Call) (access : Access) → IsAccessOf call access →
+count_is : (call : Call) (access : Access) → IsAccessOf call access →
     access.len / element_size call ≡ element_count call
 count_is call access a = count_in (transfer_in (action_of call)) access a
 
@@ -174,20 +174,16 @@ pub update_by_change : (call : Call) (element first_byte : ℕ) → IsSome (chan
     IsTrue (is_update call)
 update_by_change call element first_byte some = update_in (transfer_in (action_of call)) element first_byte some
 
--- where an element lies, from the first cell, the access's address, the element's number and its size
-abbrev pub piece_by : ℕ → ℕ → ℕ → ℕ → Piece
-piece_by first lo element size = record {
-  cell = first + (lo + element * size) / 4;
-  first_byte =
-      (lo + element * size) % 4;
-}
-
-pub piece_is : (layout : Layout) (access : Access) (call : Call) (element first size : ℕ) (piece : Piece) →
-    piece ≡ piece_by first access.lo element size → first ≡ first_cell layout access.target → size ≡ element_size call →
+pub piece_is : (layout : Layout) (access : Access) (call : Call) (element : ℕ) (dtype : Dtype) (piece : Piece) →
+    piece ≡ piece_at layout access.target (access.lo + element * size_of dtype) → size_of dtype ≡ element_size call →
     piece ≡ piece_of layout access call element
-piece_is layout access call element first size piece e f s = e
-    ∙ (ap (λ (n : ℕ). piece_by n access.lo element size) f
-    ∙ ap (λ (n : ℕ). piece_by (first_cell layout access.target) access.lo element n) s)
+piece_is layout access call element dtype piece e s = e
+    ∙ ap (λ (n : ℕ). piece_at layout access.target (access.lo + element * n)) s
+
+-- the quotient of the bytes by the datatype's size is the number of the call's elements
+pub count_by : (call : Call) (access : Access) (dtype : Dtype) (size : ℕ) → IsAccessOf call access →
+    size ≡ size_of dtype → size_of dtype ≡ element_size call → access.len / size ≡ element_count call
+count_by call access dtype size a e s = ap (λ (n : ℕ). access.len / n) (e ∙ s) ∙ count_is call access a
 
 abbrev pub plan_by : ℕ → Piece → Option Change → PlannedTouch
 plan_by element piece change = record { element = element; cell = piece.cell; change = change }

@@ -1,6 +1,7 @@
 //! What a call does to each of its elements.
 ghost use Rattle.std.specs.Prelude.{◌≡◌, ◌<◌, ◌^◌, [], ◌∷◌, slice_index, Option, Some, None};
 ghost use Rattle.std.specs.List.{AllByRecursion};
+ghost use Rattle.rma_types.specs.Datatypes.{size_of};
 ghost use Rattle.call_rules.specs.Numbers.{patterns_of};
 ghost use Rattle.call_rules.specs.WellFormed.{IsWrittenCall};
 ghost use Rattle.call_rules.specs.Transfers.{is_no_op};
@@ -89,9 +90,9 @@ pub fn change_of(call: &Call, element: u32, first_byte: u8) -> Option<Change>
     })
 }
 
-/// The bytes of each element that a call moves: 1, 2 or 4.
-pub fn size_of(call: &Call) -> u32
-    ensures { result ≡ element_size call.now }
+/// The datatype of the elements that a call moves, and MPI_BYTE of a call that moves none (MPI 3.1, section 11.3).
+pub fn dtype_of(call: &Call) -> Dtype
+    ensures { size_of result ≡ element_size call.now }
 {
     match call {
         Call::Put { dtype, .. }
@@ -101,7 +102,7 @@ pub fn size_of(call: &Call) -> u32
         | Call::Fop { dtype, .. }
         | Call::Cas { dtype, .. }
         | Call::Load { dtype, .. }
-        | Call::Store { dtype, .. } => dtype.size(),
-        _ => 1,
+        | Call::Store { dtype, .. } => *dtype,
+        _ => Dtype::Byte,
     }
 }

@@ -5,5 +5,5 @@
 mod changes;
 mod touches;
 
-pub use changes::{change_of, size_of};
-pub use touches::{Progress, first_cell_of, touch_on};
+pub use changes::{change_of, dtype_of};
+pub use touches::{Progress, touch_on};

@@ -4,18 +4,19 @@ ghost use Rattle.std.specs.Prelude.{IfOk, IfSome, MatchResult, MatchBool};
 ghost use Rattle.std.specs.Option.{ForSome};
 ghost use Rattle.call_rules.specs.Actions.{transfer_of};
 ghost use Rattle.call_rules.specs.Elements.{Fits, next};
-ghost use Rattle.call_rules.specs.Pieces.{first_cell, pieces};
+ghost use Rattle.call_rules.specs.Pieces.{pieces};
 ghost use Rattle.call_rules.specs.Touches.{touch_each};
 ghost use Rattle.call_rules.specs.WellFormed.{IsWrittenCall};
 ghost use Rattle.cell_face.specs.Faces.{cell_count, Rose, Keeps};
 ghost use Rattle.access_steps.specs.Plans.{element_count, is_update, planned_touches, IsAccessOf, LiesWithin};
 ghost use Rattle.access_steps.specs.TouchesMade.{TouchesKept, IsTouchEach, TouchesOne, TouchesNone};
 
-use crate::changes::{change_of, size_of};
-use call_rules::{Change, Piece};
+use crate::changes::{change_of, dtype_of};
+use call_rules::Change;
 use cell_face::{Memory, Moved, Seen, next_bits};
 use rma_record::{Item, Keep};
 use rma_types::{Access, Call, Dtype, Layout, Op};
+use window_regions::piece;
 
 /// How far a call of `touch_on` came.
 #[derive(Clone, Copy, Debug, PartialEq, Eq)]
@@ -77,30 +78,6 @@ fn touch_cell<M: Memory>(mem: &mut M, cell: u32, change: Option<Change>) -> Resu
     }
 }
 
-/// The first cell of a rank's memory.
-pub fn first_cell_of(layout: &Layout, rank: u8) -> u32
-    ensures { result ≡ first_cell layout.now rank }
-{
-    match layout.parts.get(usize::from(rank)) {
-        Some(part) => part.first_cell,
-        None => 0,
-    }
-}
-
-/// Where an element lies that stands `element * size` bytes after the address `lo` of a memory, whose first cell is
-/// `first_cell`.
-fn piece_after(first_cell: u32, lo: u32, element: u32, size: u32) -> Piece
-    requires { first_cell + (lo + element * size) / 4 < 2 ^ 32 }
-    ensures { let address = lo + element * size in
-        result ≡ record { cell = first_cell + address / 4; first_byte = address % 4 } }
-{
-    let address = u64::from(lo) + u64::from(element) * u64::from(size);
-    Piece {
-        cell: (u64::from(first_cell) + address / 4) as u32,
-        first_byte: (address % 4) as u8,
-    }
-}
-
 /// Touches the elements of an access from `from` on, in ascending order, until all are touched or an attempt came too
 /// late. One Touch item is kept of each element touched; `issue` is the index of the access's Issue item in the same
 /// log.
@@ -142,11 +119,10 @@ pub fn touch_on<M: Memory, L: Keep>(
     ensures free_below { L.free log.new ≤ L.free log.old }
     ensures home { L.home log.new ≡ L.home log.old }
 {
-    let size = size_of(call);
-    let first_cell = first_cell_of(layout, access.target);
-    let count = access.len / size;
+    let dtype = dtype_of(call);
+    let count = access.len / dtype.size();
     for element in from..count {
-        let piece = piece_after(first_cell, access.lo, element, size);
+        let piece = piece(layout, access.target, access.lo, dtype, element);
         let change = change_of(call, element, piece.first_byte);
         match touch_cell(mem, piece.cell, change) {
             Ok(seen) => log.keep(Item::Touch {

@@ -3,4 +3,5 @@ pub mod Fitting
 pub mod Making
 pub mod Naming
 pub mod Reading
+pub mod SmallCells
 pub mod Steps

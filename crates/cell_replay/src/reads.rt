@@ -1,8 +1,8 @@
 //! Ordered reads.
-ghost use Rattle.std.specs.Prelude.{◌≡◌, ◌/◌, ◌+◌, IfOk, IfSome, map};
+ghost use Rattle.std.specs.Prelude.{◌≡◌, ◌<◌, ◌≤◌, ◌^◌, ◌/◌, ◌+◌, IfOk, IfSome, map};
 ghost use Rattle.std.specs.List.{filter};
 ghost use Rattle.rma_types.specs.declared.schedules.Delay.TheVariants.{Seeded};
-ghost use Rattle.call_rules.specs.Pieces.{element_address, piece_at, pieces};
+ghost use Rattle.call_rules.specs.Pieces.{element_address, first_cell, piece_at, pieces};
 ghost use Rattle.call_rules.specs.WellFormed.{IsWellFormed};
 ghost use Rattle.lawful_runs.specs.Accesses.{Touching, on_cell, updates_in};
 ghost use Rattle.lawful_runs.specs.LawfulRun.{IsLawful};
@@ -14,13 +14,13 @@ ghost use Rattle.cell_replay.specs.Kept.{access_by as access_of_item, access_nam
 use crate::changes::dtype_of;
 use crate::states::state_of;
 use crate::touches::{CellTouch, calls_at, log_at, touches_in, updates_on};
-use access_steps::first_cell_of;
 use cell_face::element_in;
 use rma_record::{Item, Run};
 use rma_types::{Access, Bits, Call, Dtype, Id, Items, Layout, NoMemory, Script};
 use script_layout::layout_of;
 use std::alloc::Global;
 use vector_clocks::Clocks;
+use window_regions::piece;
 
 /// Those of some updates that are before the item.
 pub(crate) fn updates_before(
@@ -71,15 +71,15 @@ fn read_element(
     dtype: Dtype,
     element: u32,
 ) -> Result<u64, NoMemory>
-    requires { DoFit (touchings_of touches.now) }
+    requires fit { DoFit (touchings_of touches.now) }
+    requires cell { (piece_at layout.now access.now.target (element_address access.now dtype element)).cell < 2 ^ 32 }
     ensures { IfOk result (λ value. value ≡
         element_left (touchings_of touches.now) (before_in clocks.now) id dtype
         (piece_at layout.now access.now.target (element_address access.now dtype element))) }
 {
-    let address = u64::from(access.lo) + u64::from(element) * u64::from(dtype.size());
-    let cell = u64::from(first_cell_of(layout, access.target)) + address / 4;
-    let bits = left_before(alloc, touches, clocks, id, cell)?;
-    Ok(u64::from(element_in(bits, (address % 4) as u8, dtype)))
+    let piece = piece(layout, access.target, access.lo, dtype, element);
+    let bits = left_before(alloc, touches, clocks, id, u64::from(piece.cell))?;
+    Ok(u64::from(element_in(bits, piece.first_byte, dtype)))
 }
 
 /// The elements of an access, as the updates before the item leave them.
@@ -92,7 +92,8 @@ fn read_elements(
     access: &Access,
     dtype: Dtype,
 ) -> Result<Bits, NoMemory>
-    requires { DoFit (touchings_of touches.now) }
+    requires fit { DoFit (touchings_of touches.now) }
+    requires cells { first_cell layout.now access.now.target ≤ 65536 }
     ensures { IfOk result (λ values. values ≡
         map (element_left (touchings_of touches.now) (before_in clocks.now) id dtype)
         (pieces layout.now access.now dtype)) }

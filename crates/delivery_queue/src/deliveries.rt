@@ -8,7 +8,7 @@ ghost use Rattle.call_rules.specs.Pieces.{pieces};
 ghost use Rattle.cell_face.specs.Faces.{cell_count, Rose, Keeps};
 ghost use Rattle.delivery_queue.specs.Queues.{IsOfCall};
 
-use access_steps::{Progress, size_of, touch_on};
+use access_steps::{Progress, dtype_of, touch_on};
 use cell_face::Memory;
 use rank_rules::PendingAccess;
 use rma_record::Keep;
@@ -50,7 +50,7 @@ pub fn touch_pending<M: Memory, L: Keep>(
     ensures kept { OnErr result (L.kept log.new ≡ L.kept log.old) }
     ensures unchanged { OnErr result (mem.new ≡ mem.old) }
 {
-    let count = one.access.len / size_of(call);
+    let count = one.access.len / dtype_of(call).size();
     log.reserve(count - from)?;
     Ok(touch_on(mem, call, one.index, &one.access, layout, from, log))
 }

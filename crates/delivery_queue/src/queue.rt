@@ -187,14 +187,6 @@ impl Pending {
         self.begun(at).access
     }
 
-    /// How many elements of the access at a place are touched.
-    pub fn touched_at(&self, at: usize) -> u32
-        requires { at < length self.now.pending }
-        ensures { result ≡ slice_index self.now.touched at }
-    {
-        self.begun(at).touched
-    }
-
     /// Delivers the access at a place: it makes room for the touches that are left of it, and makes them in the order
     /// of its elements. The access is done, and pending no more, unless an attempt came too late, which never comes
     /// over a memory that tells its cells.

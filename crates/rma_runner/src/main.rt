@@ -3,14 +3,7 @@
 //! The script comes from standard input and the report goes to standard output. The exit status says how it ended.
 #![tactic(auto)]
 
-mod inputs;
-mod outcomes;
-mod outputs;
-mod tops;
-mod words;
-
-use crate::tops::rma_main;
-use crate::words::{end_without_words, words_of};
+use rma_program::{end_without_words, rma_main, words_of};
 use rma_streams::{StdSink, StdSource};
 use rma_types::OpenGate;
 use std::env;

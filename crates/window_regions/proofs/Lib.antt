@@ -2,6 +2,7 @@
 pub mod Accepted
 pub mod Alone
 pub mod Counts
+pub mod FoundWindows
 pub mod Indexes
 pub mod Inserted
 pub mod RangeTests

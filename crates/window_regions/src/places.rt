@@ -4,10 +4,10 @@ ghost use Rattle.rma_types.specs.Datatypes.{size_of};
 ghost use Rattle.call_rules.specs.Pieces.{piece_at};
 ghost use Rattle.rank_rules.specs.WindowTests.{address_in, is_misplaced as is_misplaced_in};
 ghost use Rattle.rank_rules.specs.WindowTests.{passes_end as passes_end_of};
-ghost use Rattle.rank_rules.specs.Windows.{no_part};
-ghost use Rattle.window_regions.specs.Places.{place_in, address_on};
+ghost use Rattle.window_regions.specs.Places.{place_in, address_on, elements_in as elements_in_part};
 
 use crate::numbers::natural;
+use crate::window::no_part;
 use call_rules::Piece;
 use rma_types::{Class, Dtype, Layout, Part};
 
@@ -25,16 +25,7 @@ pub fn address_of(part: Part, disp: i32) -> u64
     ensures value { result ≡ address_in part disp }
     ensures small { result < 2 ^ 63 + 2 ^ 32 }
 {
-    let disp = if disp < 0 { 0 } else { disp as u32 };
-    u64::from(part.base) + u64::from(disp) * u64::from(part.unit)
-}
-
-/// The address of a displacement in a dynamic window.
-pub fn dynamic_address(part: Part, disp: i32) -> u32
-    requires { part ≡ no_part }
-    ensures { result ≡ address_in part disp }
-{
-    part.base + natural(disp) * part.unit
+    u64::from(part.base) + u64::from(natural(disp)) * u64::from(part.unit)
 }
 
 /// Whether the displacement is below 0, or its address is not a multiple of the element's size.
@@ -51,6 +42,18 @@ pub fn passes_end(part: Part, disp: i32, bytes: u32) -> bool
     u64::from(part.base) + u64::from(part.bytes) < address_of(part, disp) + u64::from(bytes)
 }
 
+/// So many elements, at most 256, from a displacement in a part on, whose address is below 2 to 32.
+pub fn elements_in(part: Part, disp: i32, dtype: Dtype, count: u32) -> Range
+    requires few { count ≤ 256 }
+    requires small { address_in part disp < 2 ^ 32 }
+    ensures { result ≡ elements_in_part part disp dtype count }
+{
+    Range {
+        lo: address_of(part, disp) as u32,
+        len: count * dtype.size(),
+    }
+}
+
 /// Where so many elements lie from a displacement on, in a part that is not of a dynamic window.
 ///
 /// MPI_ERR_DISP where the displacement is below 0 or the address is no multiple of the element's size; else
@@ -60,14 +63,12 @@ pub fn place(part: Part, disp: i32, dtype: Dtype, count: u32) -> Result<Range, C
     requires end { part.base + part.bytes < 2 ^ 32 }
     ensures { result ≡ place_in part disp dtype count }
 {
-    let len = count * dtype.size();
     if is_misplaced(part, disp, dtype) {
         Err(Class::Disp)
-    } else if passes_end(part, disp, len) {
+    } else if passes_end(part, disp, count * dtype.size()) {
         Err(Class::Range)
     } else {
-        let lo = address_of(part, disp) as u32;
-        Ok(Range { lo, len })
+        Ok(elements_in(part, disp, dtype, count))
     }
 }
 
@@ -79,15 +80,11 @@ pub fn address(disp: i32, dtype: Dtype, count: u32) -> Result<Range, Class>
     requires { count ≤ 256 }
     ensures { result ≡ address_on disp dtype count }
 {
-    let len = count * dtype.size();
-    if disp < 0 {
-        return Err(Class::Disp);
-    }
-    let lo = disp as u32;
-    if lo % dtype.size() == 0 {
-        Ok(Range { lo, len })
-    } else {
+    let part = no_part();
+    if is_misplaced(part, disp, dtype) {
         Err(Class::Disp)
+    } else {
+        Ok(elements_in(part, disp, dtype, count))
     }
 }
 

@@ -1,7 +1,8 @@
 //! What a rank knows of its windows and its ranges: MPI 3.1, sections 11.2 and 11.3.
-ghost use Rattle.std.specs.Prelude.{◌≡◌, ◌<◌, ◌≤◌, [], false, pos, None, OnOk, OnErr, IfSome};
+ghost use Rattle.std.specs.Prelude.{◌≡◌, ℕ, ◌<◌, ◌≤◌, [], true, false, pos, None, Err, OnOk, OnErr, IfSome};
 ghost use Rattle.std.specs.Option.{option_map_or};
 ghost use Rattle.rma_types.specs.declared.calls.Flavor.TheVariants.{Dynamic as DynamicFlavor};
+ghost use Rattle.rma_types.specs.declared.classes.Class.TheVariants.{Win as WinClass};
 ghost use Rattle.call_rules.specs.Actions.{action_of, Attaches};
 ghost use Rattle.call_rules.specs.WellFormed.{IsWrittenCall};
 ghost use Rattle.rank_rules.specs.WindowTests as tests;
@@ -253,10 +254,13 @@ impl WindowTable {
         self.own.detach(win, base);
     }
 
-    /// Whether the live window of this name is dynamic (MPI 3.1, section 11.2.4).
+    /// Whether the live window of this name is dynamic (MPI 3.1, section 11.2.4). In a dynamic window the part of each
+    /// rank is one without bytes.
     pub fn is_dynamic(&self, win: u8) -> bool
-        ensures { result ≡ option_map_or (λ window. rules.is_same_flavor window.flavor DynamicFlavor)
+        ensures value { result ≡ option_map_or (λ window. rules.is_same_flavor window.flavor DynamicFlavor)
             (rules.window_of_name self.now win) false }
+        ensures parts { result ≡ true → IfSome (rules.window_of_name self.now win)
+            (λ window. (rank : ℕ) → rules.part_at window.parts rank ≡ rules.no_part) }
     {
         match self.window(win) {
             None => false,
@@ -264,10 +268,11 @@ impl WindowTable {
         }
     }
 
-    /// Where so many elements, at most 256, lie at a target of a live window.
+    /// Where so many elements, at most 256, lie at a target of the live window of this name.
     ///
     /// MPI_ERR_DISP where the displacement is below 0 or the address is no multiple of the element's size; else
-    /// MPI_ERR_RMA_RANGE where the elements end past the end of the target's part.
+    /// MPI_ERR_RMA_RANGE where the elements end past the end of the target's part. MPI_ERR_WIN where no window of the
+    /// name is live.
     pub fn resolve(
         &self,
         win: u8,
@@ -277,8 +282,8 @@ impl WindowTable {
         count: u32,
     ) -> Result<Range, Class>
         requires { count ≤ 256 }
-        ensures { IfSome (rules.window_of_name self.now win)
-            (λ window. result ≡ place_in (rules.part_at window.parts target) disp dtype count) }
+        ensures { result ≡ option_map_or (λ window. place_in (rules.part_at window.parts target) disp dtype count)
+            (rules.window_of_name self.now win) (Err WinClass) }
     {
         match self.window(win) {
             None => Err(Class::Win),

@@ -1,9 +1,10 @@
 //! A live window: its name, its number, how it was made, and the part of each rank in it.
-ghost use Rattle.std.specs.Prelude.{◌≡◌, ◌==◌, ◌+◌, ◌^◌, ◌<◌, not, true, filter};
+ghost use Rattle.std.specs.Prelude.{◌≡◌, ℕ, ◌==◌, ◌+◌, ◌^◌, ◌<◌, not, true, filter};
 ghost use Rattle.std.specs.List.{find};
 ghost use Rattle.std.specs.Option.{option_copied};
 ghost use Rattle.rma_types.specs.declared.calls.Flavor.TheVariants.{Dynamic as DynamicFlavor};
-ghost use Rattle.rank_rules.specs.Windows.{is_same_flavor, no_part, part_at as part_of_rank};
+ghost use Rattle.rank_rules.specs.Windows.{is_same_flavor, no_part as part_without_bytes};
+ghost use Rattle.rank_rules.specs.Windows.{part_at as part_of_rank};
 ghost use Rattle.window_regions.specs.Shapes.{IsShape};
 
 use rma_types::{Flavor, Items, Part};
@@ -64,8 +65,10 @@ impl Window {
         self.number
     }
 
+    /// In a dynamic window the part of each rank is one without bytes.
     pub fn is_dynamic(&self) -> bool
-        ensures { result ≡ is_same_flavor self.now.flavor DynamicFlavor }
+        ensures value { result ≡ is_same_flavor self.now.flavor DynamicFlavor }
+        ensures parts { result ≡ true → (rank : ℕ) → part_of_rank self.now.parts rank ≡ part_without_bytes }
     {
         match self.flavor {
             Flavor::Allocate => false,
@@ -74,13 +77,23 @@ impl Window {
         }
     }
 
-    /// The part of a rank, which ends below 2 to 32. In a dynamic window it is one without bytes.
+    /// The part of a rank, which ends below 2 to 32.
     pub fn part(&self, rank: u32) -> Part
         ensures value { result ≡ part_of_rank self.now.parts rank }
         ensures end { result.base + result.bytes < 2 ^ 32 }
-        ensures dynamic { is_same_flavor self.now.flavor DynamicFlavor ≡ true → result ≡ no_part }
     {
         part_at(self.parts.as_slice(), rank)
+    }
+}
+
+/// The part of each rank in a dynamic window, in which an address is a displacement (MPI 3.1, section 11.2.4).
+pub fn no_part() -> Part
+    ensures { result ≡ part_without_bytes }
+{
+    Part {
+        base: 0,
+        bytes: 0,
+        unit: 1,
     }
 }
 
@@ -90,11 +103,7 @@ pub fn part_at(parts: &[Part], rank: u32) -> Part
 {
     match parts.get(rank as usize) {
         Some(part) => *part,
-        None => Part {
-            base: 0,
-            bytes: 0,
-            unit: 1,
-        },
+        None => no_part(),
     }
 }
 

@@ -13,7 +13,7 @@ ghost use Rattle.window_regions.specs.Places.{HasSmallPlace};
 
 use super::WindowTable;
 use crate::numbers::{count_of, few_elements, natural};
-use crate::places::address_of;
+use crate::places::{Range, elements_in};
 use rma_types::{Access, Call, Dtype, Kind};
 
 impl WindowTable {
@@ -163,11 +163,13 @@ impl WindowTable {
         })) (window_of_name self.now win) None }
     {
         let window = self.window(win)?;
+        let part = window.part(u32::from(rank));
+        let Range { lo, len } = elements_in(part, disp, dtype, few_elements(count));
         Some(Access {
             window: window.number(),
             target: rank,
-            lo: address_of(window.part(u32::from(rank)), disp) as u32,
-            len: few_elements(count) * dtype.size(),
+            lo,
+            len,
             kind,
         })
     }

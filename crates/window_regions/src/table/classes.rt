@@ -1,19 +1,18 @@
 //! The class of a call by each of its tests: MPI 3.1, sections 11.2 and 11.3.
-ghost use Rattle.std.specs.Prelude.{◌≡◌, not, None, if◌then◌else◌};
+ghost use Rattle.std.specs.Prelude.{◌≡◌, None};
 ghost use Rattle.std.specs.Option.{option_copied};
-ghost use Rattle.call_rules.specs.Actions.{Creates, Attaches, Detaches, Frees, Moves, Own, Named};
+ghost use Rattle.call_rules.specs.Actions.{Creates, Attaches, Detaches, Frees, Moves, Own};
 ghost use Rattle.call_rules.specs.Actions.{target_of, get_transfer};
 ghost use Rattle.rma_types.specs.declared.accesses.Kind.TheVariants.{Get as GetKind, Load as LoadKind};
-ghost use Rattle.rma_types.specs.declared.calls.Flavor.TheVariants.{Dynamic as DynamicFlavor};
 ghost use Rattle.call_rules.specs.WellFormed.{IsUpTo};
 ghost use Rattle.rank_rules.specs.Ranges.{covers};
-ghost use Rattle.rank_rules.specs.Classes.{first_class as class_of_first};
 ghost use Rattle.rank_rules.specs.WindowTests as tests;
 ghost use Rattle.rank_rules.specs.Windows as rules;
+ghost use Rattle.window_regions.specs.Places.{class_attached};
 
 use super::WindowTable;
 use crate::numbers::{few_elements, is_rank, natural};
-use crate::places::{dynamic_address, is_misplaced, passes_end};
+use crate::places::{Range, address};
 use crate::window::{Window, find_window};
 use rank_rules::first_class;
 use rma_types::{Class, Dtype, Flavor};
@@ -121,71 +120,21 @@ impl WindowTable {
         ])
     }
 
-    /// Whether bytes of the rank's own memory are out of the window's reach.
-    pub(super) fn is_out_of_own_reach(&self, window: &Window, disp: i32, bytes: u32) -> bool
-        ensures { result ≡ (if rules.is_same_flavor window.now.flavor DynamicFlavor
-            then not (covers (rules.attached_to self.now window.now.win)
-            (tests.address_in (rules.part_at window.now.parts self.now.rank) disp) bytes)
-            else tests.passes_end (rules.part_at window.now.parts self.now.rank) disp bytes) }
+    /// The class of a place in the rank's own part of a dynamic window: MPI_ERR_RMA_RANGE where a byte of it is not
+    /// attached (MPI 3.1, section 11.2.4).
+    fn attached_class(&self, win: u8, place: Result<Range, Class>) -> Option<Class>
+        ensures { result ≡ class_attached (covers (rules.attached_to self.now win)) place }
     {
-        let part = window.part(u32::from(self.rank));
-        if window.is_dynamic() {
-            !self
-                .own
-                .covers(window.win(), dynamic_address(part, disp), bytes)
-        } else {
-            passes_end(part, disp, bytes)
+        match place {
+            Err(class) => Some(class),
+            Ok(range) => {
+                if self.own.covers(win, range.lo, range.len) {
+                    None
+                } else {
+                    Some(Class::Range)
+                }
+            }
         }
-    }
-
-    /// The class of a load or a store by its place in the window.
-    pub(super) fn own_place_class(
-        &self,
-        window: &Window,
-        disp: i32,
-        dtype: Dtype,
-        count: i32,
-    ) -> Option<Class>
-        requires { IsUpTo 256 count }
-        ensures { result ≡ class_of_first (tests.place_tests self.now window.now
-            (get_transfer None window.now.win Own disp dtype LoadKind count)) }
-    {
-        if count < 0 {
-            return None;
-        }
-        let part = window.part(u32::from(self.rank));
-        let bytes = few_elements(count) * dtype.size();
-        first_class(&[
-            (is_misplaced(part, disp, dtype), Class::Disp),
-            (self.is_out_of_own_reach(window, disp, bytes), Class::Range),
-        ])
-    }
-
-    /// The class of an RMA call by its place in the window at a target.
-    pub(super) fn place_class(
-        &self,
-        window: &Window,
-        target: i32,
-        disp: i32,
-        dtype: Dtype,
-        count: i32,
-    ) -> Option<Class>
-        requires { IsUpTo 256 count }
-        ensures { result ≡ class_of_first (tests.place_tests self.now window.now
-            (get_transfer None window.now.win (Named target) disp dtype GetKind count)) }
-    {
-        if !is_rank(target, self.ranks) || count < 0 {
-            return None;
-        }
-        let part = window.part(natural(target));
-        let bytes = few_elements(count) * dtype.size();
-        first_class(&[
-            (is_misplaced(part, disp, dtype), Class::Disp),
-            (
-                !window.is_dynamic() && passes_end(part, disp, bytes),
-                Class::Range,
-            ),
-        ])
     }
 
     /// The class of a load or a store.
@@ -194,9 +143,14 @@ impl WindowTable {
         ensures { result ≡ tests.window_class self.now
             (Moves (get_transfer None win Own disp dtype LoadKind count)) }
     {
-        match self.window(win) {
-            None => Some(Class::Win),
-            Some(window) => self.own_place_class(window, disp, dtype, count),
+        if count < 0 {
+            return self.live_class(win);
+        }
+        let count = few_elements(count);
+        if self.is_dynamic(win) {
+            self.attached_class(win, address(disp, dtype, count))
+        } else {
+            self.resolve(win, self.rank, disp, dtype, count).err()
         }
     }
 
@@ -213,12 +167,19 @@ impl WindowTable {
         ensures { result ≡ tests.window_class self.now
             (Moves (get_transfer None win (target_of target) disp dtype GetKind count)) }
     {
-        match self.window(win) {
-            None => Some(Class::Win),
-            Some(window) => match target {
-                None => None,
-                Some(target) => self.place_class(window, target, disp, dtype, count),
-            },
+        match target {
+            None => self.live_class(win),
+            Some(target) => {
+                if count < 0 || !is_rank(target, self.ranks) {
+                    return self.live_class(win);
+                }
+                let count = few_elements(count);
+                if self.is_dynamic(win) {
+                    address(disp, dtype, count).err()
+                } else {
+                    self.resolve(win, target as u8, disp, dtype, count).err()
+                }
+            }
         }
     }
 }

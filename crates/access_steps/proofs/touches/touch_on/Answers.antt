@@ -1,5 +1,5 @@
 -- The touches so far are those planned so far; one more is planned and made.
-use Rattle.std.proofs.Common.{◌≡◌, ℕ, ◌+◌, ◌-◌, ◌*◌, ◌/◌, ◌<◌, List, [], ◌∷◌, ◌++◌, refl, sym, ap, ◌∙◌, subst, arith}
+use Rattle.std.proofs.Common.{◌≡◌, ℕ, ◌+◌, ◌-◌, ◌*◌, ◌<◌, List, [], ◌∷◌, ◌++◌, refl, sym, ap, ◌∙◌, subst, arith}
 use Rattle.std.proofs.Common.{Option, IsSome}
 use Rattle.std.specs.Option.{ForSome}
 use Rattle.rma_record.specs.declared.items.Item.TheVariants.{Touch}
@@ -9,7 +9,7 @@ use Rattle.call_rules.specs.Elements.{Fits}
 use Rattle.access_steps.specs.Plans.{PlannedTouch, element_size, element_count, change_by, planned_touches}
 use Rattle.access_steps.specs.TouchesMade.{TouchesKept}
 use Rattle.access_steps.proofs.KeptTouches.{kept_none, kept_more, kept_moved, share_left}
-use Rattle.access_steps.proofs.PlanSteps.{length-planned, planned_more, fits_by, multiple_of, count_is}
+use Rattle.access_steps.proofs.PlanSteps.{length-planned, planned_more, fits_by, multiple_of, count_by}
 use Rattle.access_steps.proofs.PlanSteps.{update_by_change, piece_is, plan_by, plan_is}
 use Rattle.access_steps.proofs.ToldTouches.{told_is}
 use Rattle.access_steps.proofs.touches.touch_on.Goals as goal
@@ -28,15 +28,20 @@ loop-element-init g c =
       home = refl;
     }
 
+pub piece-piece-requires : goal.piece-piece-requires
+piece-piece-requires g c =
+    let count = count_by c.args.call.now c.args.access.now c.dtype_of-dtype.result c.size.result c.requires.access
+    c.size.ensures c.dtype_of-dtype.ensures in
+    let here : c.loop-element.element < element_count c.args.call.now = omega (arith, count) in
+    rw c.dtype_of-dtype.ensures (c.requires.cells c.loop-element.element here).1
+
 pub touch_cell-requires-clause-cell : goal.touch_cell-requires-clause-cell
 touch_cell-requires-clause-cell g c =
-    let count : c.args.access.now.len / c.size_of-size.result ≡ element_count c.args.call.now =
-    ap (λ (n : ℕ). c.args.access.now.len / n) c.size_of-size.ensures
-    ∙ count_is c.args.call.now c.args.access.now c.requires.access in
+    let count = count_by c.args.call.now c.args.access.now c.dtype_of-dtype.result c.size.result c.requires.access
+    c.size.ensures c.dtype_of-dtype.ensures in
     let here : c.loop-element.element < element_count c.args.call.now = omega (arith, count) in
-    let place = piece_is c.args.layout.now c.args.access.now c.args.call.now c.loop-element.element _ _
-    c.piece_after-piece.result
-    c.piece_after-piece.ensures c.first_cell_of-first_cell.ensures c.size_of-size.ensures in
+    let place = piece_is c.args.layout.now c.args.access.now c.args.call.now c.loop-element.element
+    c.dtype_of-dtype.result c.piece-piece.result c.piece-piece.ensures c.dtype_of-dtype.ensures in
     omega (
       arith,
       (c.requires.cells c.loop-element.element here).0,
@@ -46,9 +51,8 @@ touch_cell-requires-clause-cell g c =
 
 pub touch_cell-requires-clause-change : goal.touch_cell-requires-clause-change
 touch_cell-requires-clause-change g c =
-    let place = piece_is c.args.layout.now c.args.access.now c.args.call.now c.loop-element.element _ _
-    c.piece_after-piece.result
-    c.piece_after-piece.ensures c.first_cell_of-first_cell.ensures c.size_of-size.ensures in
+    let place = piece_is c.args.layout.now c.args.access.now c.args.call.now c.loop-element.element
+    c.dtype_of-dtype.result c.piece-piece.result c.piece-piece.ensures c.dtype_of-dtype.ensures in
     let change = c.change_of-change.ensures
     ∙ ap (λ (p : Piece). change_by c.args.call.now c.loop-element.element p.first_byte) place in
     subst (λ (o : Option Change). ForSome o Fits) (sym change)
@@ -58,11 +62,10 @@ touch_cell-requires-clause-change g c =
 
 pub touch_cell-requires-clause-share : goal.touch_cell-requires-clause-share
 touch_cell-requires-clause-share g c = λ some.
-    let count : c.args.access.now.len / c.size_of-size.result ≡ element_count c.args.call.now =
-    ap (λ (n : ℕ). c.args.access.now.len / n) c.size_of-size.ensures
-    ∙ count_is c.args.call.now c.args.access.now c.requires.access in
+    let count = count_by c.args.call.now c.args.access.now c.dtype_of-dtype.result c.size.result c.requires.access
+    c.size.ensures c.dtype_of-dtype.ensures in
     let enough = c.requires.share (update_by_change c.args.call.now c.loop-element.element
-    c.piece_after-piece.result.first_byte
+    c.piece-piece.result.first_byte
     (subst (λ (o : Option Change). IsSome o) c.change_of-change.ensures some)) in
     omega (
       arith,
@@ -75,10 +78,21 @@ touch_cell-requires-clause-share g c = λ some.
 
 pub keep-requires : goal.keep-requires
 keep-requires g c =
-    let count : c.args.access.now.len / c.size_of-size.result ≡ element_count c.args.call.now =
-    ap (λ (n : ℕ). c.args.access.now.len / n) c.size_of-size.ensures
-    ∙ count_is c.args.call.now c.args.access.now c.requires.access in
+    let count = count_by c.args.call.now c.args.access.now c.dtype_of-dtype.result c.size.result c.requires.access
+    c.size.ensures c.dtype_of-dtype.ensures in
     omega (arith, count, c.requires.room, c.loop-element.invariant.spare, c.loop-element.invariant.begin)
+
+pub returns-in-Err-clause-end : goal.returns-in-Err-clause-end
+returns-in-Err-clause-end g c =
+    let count = count_by c.args.call.now c.args.access.now c.dtype_of-dtype.result c.size.result c.requires.access
+    c.size.ensures c.dtype_of-dtype.ensures in
+    omega (arith, count)
+
+pub returns-in-Err-clause-left : goal.returns-in-Err-clause-left
+returns-in-Err-clause-left g c =
+    let count = count_by c.args.call.now c.args.access.now c.dtype_of-dtype.result c.size.result c.requires.access
+    c.size.ensures c.dtype_of-dtype.ensures in
+    omega (arith, count)
 
 pub returns-in-Err-clause-touches : goal.returns-in-Err-clause-touches
 returns-in-Err-clause-touches g c =
@@ -86,16 +100,15 @@ returns-in-Err-clause-touches g c =
 
 pub loop-element-preserved : goal.loop-element-preserved
 loop-element-preserved g c =
-    let place = piece_is c.args.layout.now c.args.access.now c.args.call.now c.loop-element.element _ _
-    c.piece_after-piece.result
-    c.piece_after-piece.ensures c.first_cell_of-first_cell.ensures c.size_of-size.ensures in
+    let place = piece_is c.args.layout.now c.args.access.now c.args.call.now c.loop-element.element
+    c.dtype_of-dtype.result c.piece-piece.result c.piece-piece.ensures c.dtype_of-dtype.ensures in
     let plan = plan_is c.args.layout.now c.args.access.now c.args.call.now c.loop-element.element
-    c.piece_after-piece.result
+    c.piece-piece.result
     c.change_of-change.result place c.change_of-change.ensures in
     let before = planned_touches c.args.layout.now c.args.access.now c.args.call.now c.args.from
     (c.loop-element.element - c.args.from) in
     let items = c.keep.ensures.kept ∙ ap (λ (bits : ℕ). g.L.Keep.kept c.loop-element.log
-    ++ Touch c.args.issue c.loop-element.element c.piece_after-piece.result.cell c.in-Ok.seen.place bits ∷ [])
+    ++ Touch c.args.issue c.loop-element.element c.piece-piece.result.cell c.in-Ok.seen.place bits ∷ [])
     c.from.ensures in
     record {
       begin = omega (arith, c.loop-element.invariant.begin);
@@ -107,7 +120,7 @@ loop-element-preserved g c =
           ∙ sym (planned_more c.args.layout.now c.args.access.now c.args.call.now c.args.from c.loop-element.element
           c.loop-element.invariant.begin))
           (kept_more _ _ _ _ _ _ _ _ _ before
-          (plan_by c.loop-element.element c.piece_after-piece.result c.change_of-change.result) c.in-Ok.seen
+          (plan_by c.loop-element.element c.piece-piece.result c.change_of-change.result) c.in-Ok.seen
           c.loop-element.invariant.touches c.in-Ok.ensures.touch items c.in-Ok.ensures.known c.in-Ok.ensures.found);
       moves = c.in-Ok.ensures.touch.moves ∙ c.loop-element.invariant.moves;
       known = λ cell seen k. c.in-Ok.ensures.known cell seen (c.loop-element.invariant.known cell seen k);
@@ -124,9 +137,8 @@ loop-element-preserved g c =
 
 pub returns-clause-told : goal.returns-clause-told
 returns-clause-told g c =
-    let count : c.args.access.now.len / c.size_of-size.result ≡ element_count c.args.call.now =
-    ap (λ (n : ℕ). c.args.access.now.len / n) c.size_of-size.ensures
-    ∙ count_is c.args.call.now c.args.access.now c.requires.access in
+    let count = count_by c.args.call.now c.args.access.now c.dtype_of-dtype.result c.size.result c.requires.access
+    c.size.ensures c.dtype_of-dtype.ensures in
     let end : c.loop-element.element - c.args.from ≡ element_count c.args.call.now - c.args.from = omega
     (arith, count, c.requires.from) in
     told_is c.args.layout.now c.args.access.now c.args.call.now c.args.issue c.args.from _ _ _ _ _ c.requires.access

@@ -1,18 +1,25 @@
 -- The access that the item issues is the one of its name.
-use Rattle.std.proofs.Common.{◌≡◌, ap, map, subst, sym, ◌∙◌}
+use Rattle.std.proofs.Common.{◌≡◌, ◌≤◌, ap, map, subst, sym, ◌∙◌}
 use Rattle.std.specs.Prelude.{IfOk}
 use Rattle.rma_types.specs.declared.schedules.Delay.TheVariants.{Seeded}
-use Rattle.call_rules.specs.Pieces.{pieces}
+use Rattle.rma_types.specs.declared.scripts.Layout.{Layout}
+use Rattle.call_rules.specs.Pieces.{first_cell, pieces}
 use Rattle.vector_clocks.specs.Marks.{before_in}
 use Rattle.cell_replay.specs.Kept.{DoFit, element_left, touchings_of}
 use Rattle.cell_replay.proofs.Fitting.{touches_fit}
 use Rattle.cell_replay.proofs.Reading.{read_found, read_named}
+use Rattle.cell_replay.proofs.SmallCells.{small_first}
 use Rattle.cell_replay.proofs.reads.ordered_read.Goals as goal
 
-pub read_elements-requires : goal.read_elements-requires
-read_elements-requires c =
+pub read_elements-requires-clause-fit : goal.read_elements-requires-clause-fit
+read_elements-requires-clause-fit c =
     subst DoFit (sym (ap touchings_of c.as_slice.ensures.value ∙ c.in_ok-touches-in-Some.ensures))
     (touches_fit c.args.script.now Seeded c.args.run.now c.requires.formed c.requires.lawful)
+
+pub read_elements-requires-clause-cells : goal.read_elements-requires-clause-cells
+read_elements-requires-clause-cells c =
+    subst (λ (found : Layout). first_cell found c.in-Some.access.target ≤ 65536) (sym c.in_ok-layout-in-Some.ensures)
+    (small_first c.args.script.now c.in-Some.access.target c.requires.formed.limits)
 
 pub returns-in_ok-touches-in-Some : goal.returns-in_ok-touches-in-Some
 returns-in_ok-touches-in-Some c =

@@ -1,5 +1,5 @@
 -- One window more is counted.
-use Rattle.std.proofs.Common.{◌≡◌, ℕ, List, [], ◌∷◌, ◌++◌, sym, ◌∙◌, ap, subst}
+use Rattle.std.proofs.Common.{ℕ, List, [], ◌∷◌, ◌++◌, sym, ◌∙◌, ap, subst}
 use Rattle.window_regions.proofs.RoundsMade.{one_made}
 use Rattle.window_regions.proofs.table.WindowTable.made.Goals as goal
 use Rattle.window_regions.specs.RoundsMade.{AreRounds, AreFewRounds, with_round}

@@ -1,5 +1,0 @@
-use Rattle.rma_runner.proofs.StepMode.{steps_alone}
-use Rattle.rma_runner.proofs.tops.rma_main.Goals as goal
-
-pub step_main-requires-clause-step : goal.step_main-requires-clause-step
-step_main-requires-clause-step g c = steps_alone _ c.in-Ok.options c.in-Ok.ensures.ok
