@@ -89,18 +89,18 @@ fn read_elements(
     touches: &[CellTouch],
     clocks: &Clocks,
     id: Id,
-    access: &Access,
+    access: Access,
     dtype: Dtype,
 ) -> Result<Bits, NoMemory>
     requires fit { DoFit (touchings_of touches.now) }
-    requires cells { first_cell layout.now access.now.target ≤ 65536 }
+    requires cells { first_cell layout.now access.target ≤ 65536 }
     ensures { IfOk result (λ values. values ≡
         map (element_left (touchings_of touches.now) (before_in clocks.now) id dtype)
-        (pieces layout.now access.now dtype)) }
+        (pieces layout.now access dtype)) }
 {
     let mut values: Bits = Items::new(alloc);
     for element in 0..access.len / dtype.size() {
-        let value = read_element(alloc, layout, touches, clocks, id, access, dtype, element)?;
+        let value = read_element(alloc, layout, touches, clocks, id, &access, dtype, element)?;
         let Ok(()) = values.push(value) else {
             return Err(NoMemory);
         };
@@ -162,7 +162,7 @@ pub fn ordered_read(
                 touches.as_slice(),
                 clocks,
                 id,
-                &access,
+                access,
                 dtype,
             )
         }

@@ -2,12 +2,12 @@
 use Rattle.std.proofs.Common.{◌≡◌, ℕ, ◌+◌, ◌-◌, ◌<◌, ◌≤◌, Bool, true, false, not, ◌&&◌, ◌||◌, eqb, ltb, leb, List, []}
 use Rattle.std.proofs.Common.{◌∷◌, ◌++◌, map, refl, ap, sym, ◌∙◌, arith, pos, Some, None, ⊎_elim}
 use Rattle.std.specs.List.{filter, list_any}
-use Rattle.std.proofs.lemmas.Bool.{and_parts, cases_order, eq-eqb, eqb-true, le-ltb, leb-false, lt-ltb, ne_eqb}
-use Rattle.std.proofs.lemmas.Bool.{not-false, or_cases, or_left, or_parts, or_right}
+use Rattle.std.proofs.lemmas.Bool.{and_parts, and_right, cases_order, eq-eqb, eqb-true, le-ltb, leb-false, lt-ltb}
+use Rattle.std.proofs.lemmas.Bool.{ne_eqb, not-false, or_cases, or_from, or_left, or_parts, or_right}
 use Rattle.rma_types.specs.declared.calls.Lock.{Lock}
 use Rattle.rma_types.specs.declared.calls.Lock.TheVariants.{Shared, Exclusive}
 use Rattle.call_rules.specs.Pieces.{numbers_from}
-use Rattle.board_rules.specs.Locks.{Held, do_clash, excludes, is_given_back, locks_at}
+use Rattle.board_rules.specs.Locks.{Held, do_clash, excludes, is_exclusive, is_given_back, locks_at}
 use Rattle.lock_table.specs.HeldLocks.{HasSameLocks, is_held_by, kept, lock}
 use Rattle.sync_board.specs.KeptLocks.{AllOn, AtRanks, asked_from, clashes, left_by}
 use Rattle.sync_board.proofs.AnyOf.{any_alike, any_filter, any_map, any_more, numbers_up_to}
@@ -62,6 +62,70 @@ free_at held rank window kind first count target low high free =
         let found : clashes held (asked_from rank window kind first count) ≡ true =
         one_asked (λ one. list_any (do_clash one) held) rank window kind first count target low high e in
         absurd (let wrong : true ≡ false = sym found ∙ free in cc)
+
+-- ---- a shared lock at all ranks is asked for
+
+abbrev is_exclusive_one : Held → Bool
+is_exclusive_one one = is_exclusive one.kind
+
+-- a lock that is not exclusive excludes no shared one
+no_clash : (window target rank : ℕ) (held : List Held) → list_any is_exclusive_one held ≡ false →
+    list_any (do_clash (lock window target Shared rank)) held ≡ false
+no_clash window target rank [] none = refl
+no_clash window target rank (one ∷ held) none =
+    let parts = or_parts (is_exclusive one.kind) (list_any is_exclusive_one held) none in
+    or_from (do_clash (lock window target Shared rank) one) (list_any (do_clash (lock window target Shared rank)) held)
+    (and_right (eqb window one.window && eqb target one.target) (is_exclusive one.kind) parts.0)
+    (no_clash window target rank held parts.1)
+
+-- a rank at which a shared lock is excluded
+record HasExcluder (ranks window rank : ℕ) (held : List Held) : Type 0 where
+  target : ℕ
+  below : target < ranks
+  clash : list_any (do_clash (lock window target Shared rank)) held ≡ true
+
+exclusive_clashes : (window rank : ℕ) (one : Held) → eqb one.window window ≡ true → is_exclusive one.kind ≡ true →
+    do_clash (lock window one.target Shared rank) one ≡ true
+exclusive_clashes window rank one on some =
+    rw (eq-eqb window one.window (sym (eqb-true one.window window on)), eq-eqb one.target one.target refl) some
+
+excluder : (ranks window rank : ℕ) (held : List Held) → AllOn window held → AtRanks ranks held →
+    list_any is_exclusive_one held ≡ true → HasExcluder ranks window rank held
+excluder ranks window rank [] on at some = absurd (let wrong : false ≡ true = some in cc)
+excluder ranks window rank (one ∷ held) on at some =
+    let here = or_parts (not (eqb one.window window)) (list_any (λ (one : Held). not (eqb one.window window)) held) on
+    in
+    let low = or_parts (leb ranks one.target) (list_any (λ (one : Held). leb ranks one.target) held) at in
+    ⊎_elim
+    (λ first. record {
+      target = one.target;
+      below = leb-false ranks one.target low.0;
+      clash = or_left (do_clash (lock window one.target Shared rank) one)
+          (list_any (do_clash (lock window one.target Shared rank)) held)
+          (exclusive_clashes window rank one (not-false (eqb one.window window) here.0) first);
+    })
+    (λ later. let found = excluder ranks window rank held here.1 low.1 later in
+    record {
+      target = found.target;
+      below = found.below;
+      clash = or_right (do_clash (lock window found.target Shared rank) one)
+          (list_any (do_clash (lock window found.target Shared rank)) held) found.clash;
+    })
+    (or_cases (is_exclusive one.kind) (list_any is_exclusive_one held) some)
+
+-- a shared lock at each rank is excluded exactly where an exclusive lock is held
+pub clash_of_all : (ranks window rank : ℕ) (held : List Held) → AllOn window held → AtRanks ranks held →
+    list_any (λ (one : Held). is_exclusive one.kind) held ≡ clashes held (asked_from rank window Shared 0 ranks)
+clash_of_all ranks window rank held on at = by_truth (list_any is_exclusive_one held) refl
+  where
+    by_truth : (b : Bool) → list_any is_exclusive_one held ≡ b →
+        list_any is_exclusive_one held ≡ clashes held (asked_from rank window Shared 0 ranks)
+    by_truth true e =
+        let found = excluder ranks window rank held on at e in
+        e ∙ sym (one_asked (λ one. list_any (do_clash one) held) rank window Shared 0 ranks found.target (omega arith)
+        (omega (arith, found.below)) found.clash)
+    by_truth false e = e ∙ sym (none_asked (λ one. list_any (do_clash one) held) rank window Shared 0 ranks
+        (λ target low high. no_clash window target rank held e))
 
 -- ---- a lock comes
 
@@ -185,7 +249,7 @@ left_more rank window target held before after below more test =
     both true false e m z is = rw is refl
     both false l e m z is = refl
 
-pub left_all : (rank window : ℕ) (held : List Held) → AtRanks held →
+pub left_all : (rank window : ℕ) (held : List Held) → AtRanks 16 held →
     left_below rank window 16 held ≡ left_by rank window None held
 left_all rank window [] ranks = refl
 left_all rank window (one ∷ held) ranks =

@@ -5,17 +5,18 @@ use Rattle.std.specs.List.{list_any}
 use Rattle.std.proofs.lemmas.Bool.{and_right, eq-eqb, lt-leb, ne_eqb, not-true, or_from, or_parts}
 use Rattle.std.proofs.lemmas.List.Folds.{list_any-append}
 use Rattle.rma_types.specs.declared.calls.Lock.{Lock}
+use Rattle.rma_types.specs.declared.calls.Lock.TheVariants.{Shared}
 use Rattle.call_rules.specs.Pieces.{numbers_from}
 use Rattle.board_rules.specs.Entries.{Act}
-use Rattle.board_rules.specs.Locks.{Held, are_free, do_clash, held_here, held_locks, is_given_back, locks_asked}
-use Rattle.board_rules.specs.Locks.{locks_at, targets_of}
+use Rattle.board_rules.specs.Locks.{Held, are_free, do_clash, held_here, held_locks, is_exclusive, is_given_back}
+use Rattle.board_rules.specs.Locks.{locks_asked, locks_at, targets_of}
 use Rattle.board_rules.specs.Questions.{Question}
 use Rattle.lock_table.specs.HeldLocks.{HasSameLocks, WindowLocks, lock}
 use Rattle.sync_board.specs.KeptLocks.{AllOn, KeepsLocks, asked_from, clashes, held_on, left_by, lock_in, on_window}
 use Rattle.sync_board.specs.KeptLocks.{unlock_in}
 use Rattle.sync_board.proofs.AnyOf.{any_alike, any_filter}
 use Rattle.sync_board.proofs.LockSteps.{held_elsewhere, held_with_lock, held_with_other, held_with_unlock}
-use Rattle.sync_board.proofs.LockTests.{free_at, none_asked, same_more, asked_more}
+use Rattle.sync_board.proofs.LockTests.{free_at, none_asked, same_more, asked_more, clash_of_all}
 
 -- one lock more of those that are asked for
 pub taken_more : (window rank : ℕ) (kind : Lock) (first target end : ℕ) (held before after : List Held) →
@@ -84,9 +85,23 @@ on_its_window window held =
     none [] = refl
     none (x ∷ xs) = none xs
 
+all_on : (ranks window : ℕ) (entries : List Act) (table : WindowLocks) → KeepsLocks ranks window entries table →
+    AllOn table.window table.held
+all_on ranks window entries table keeps =
+    let OnWindow : ℕ → Type 0 = λ w. AllOn w table.held in
+    subst OnWindow (sym keeps.number) (keeps.held (λ (one : Held). not (eqb one.window window))
+    ∙ on_its_window window (held_locks ranks entries))
+
+-- a shared lock at all ranks is excluded exactly where an exclusive lock is held
+pub all_asked : (q : Question) (table : WindowLocks) → KeepsLocks q.ranks q.window q.entries table →
+    list_any (λ (one : Held). is_exclusive one.kind) table.held ≡ clashes (held_here q) (locks_asked q Shared None)
+all_asked q table keeps =
+    clash_of_all q.ranks table.window q.rank table.held (all_on q.ranks q.window q.entries table keeps)
+    keeps.ranks_alone ∙ asks_free q Shared None 0 q.ranks table refl keeps
+
 pub keeps_with_lock : (q : Question) (act : Act) (rank : ℕ) (kind : Lock) (target : Option ℤ) (first end : ℕ)
     (before after : WindowLocks) →
-    numbers_from first (end - first) ≡ targets_of q.ranks target → first ≤ end → end ≤ 16 →
+    numbers_from first (end - first) ≡ targets_of q.ranks target → first ≤ end → end ≤ 16 → end ≤ q.ranks →
     act.window ≡ q.window → act.row.rank ≡ rank → q.rank ≡ rank → lock_in act.row.call ≡ Some (kind, target) →
     are_free q (locks_asked q kind target) ≡ true →
     after.window ≡ before.window →
@@ -94,15 +109,12 @@ pub keeps_with_lock : (q : Question) (act : Act) (rank : ℕ) (kind : Lock) (tar
     false →
     HasSameLocks after.held (before.held ++ asked_from rank before.window kind first (end - first))) →
     KeepsLocks q.ranks q.window q.entries before → KeepsLocks q.ranks q.window (q.entries ++ act ∷ []) after
-keeps_with_lock q act rank kind target first end before after targets order last here by asker is free same taken keeps
+keeps_with_lock q act rank kind target first end before after targets order last run here by asker is free same taken keeps
     =
     let asked = asked_from rank before.window kind first (end - first) in
     let brought = locks_at act.row.rank act.window kind (targets_of q.ranks target) in
     let held = held_on q.ranks q.window q.entries in
-    let OnWindow : ℕ → Type 0 = λ w. AllOn w before.held in
-    let on : AllOn before.window before.held =
-    subst OnWindow (sym keeps.number) (keeps.held (λ (one : Held). not (eqb one.window q.window))
-    ∙ on_its_window q.window (held_locks q.ranks q.entries)) in
+    let on = all_on q.ranks q.window q.entries before keeps in
     let Frees : ℕ → Type 0 = λ r. clashes before.held (asked_from r before.window kind first (end - first)) ≡ false in
     let none : clashes before.held asked ≡ false =
     subst Frees asker (asks_free q kind target first (end - first) before targets keeps
@@ -126,6 +138,11 @@ keeps_with_lock q act rank kind target first end before after targets order last
           ∙ (list_any-append (λ (one : Held). leb 16 one.target) before.held asked
           ∙ or_from _ _ keeps.targets (none_asked (λ (one : Held). leb 16 one.target) rank before.window kind first
           (end - first) (λ k from below. lt-leb 16 k (omega arith))));
+      ranks_alone =
+          grown (λ (one : Held). leb q.ranks one.target)
+          ∙ (list_any-append (λ (one : Held). leb q.ranks one.target) before.held asked
+          ∙ or_from _ _ keeps.ranks_alone (none_asked (λ (one : Held). leb q.ranks one.target) rank before.window kind
+          first (end - first) (λ k from below. lt-leb q.ranks k (omega arith))));
     }
 
 any_less : (p r : Held → Bool) (held : List Held) → list_any r held ≡ false →
@@ -160,6 +177,10 @@ keeps_with_unlock ranks window entries act rank target before after here by is s
       targets =
           fewer (λ (one : Held). leb 16 one.target) ∙ (any_filter stays (λ (one : Held). leb 16 one.target) before.held
           ∙ any_less stays (λ (one : Held). leb 16 one.target) before.held keeps.targets);
+      ranks_alone =
+          fewer (λ (one : Held). leb ranks one.target)
+          ∙ (any_filter stays (λ (one : Held). leb ranks one.target) before.held
+          ∙ any_less stays (λ (one : Held). leb ranks one.target) before.held keeps.ranks_alone);
     }
 
 pub keeps_with_other : (ranks window : ℕ) (entries : List Act) (act : Act) (table : WindowLocks) →
@@ -169,6 +190,7 @@ keeps_with_other ranks window entries act table e f keeps = record {
   number = keeps.number;
   held = λ test. keeps.held test ∙ ap (list_any test) (sym (held_with_other ranks window entries act e f));
   targets = keeps.targets;
+  ranks_alone = keeps.ranks_alone;
 }
 
 pub keeps_elsewhere : (ranks window : ℕ) (entries : List Act) (act : Act) (table : WindowLocks) → act.window ≢ window →
@@ -177,6 +199,7 @@ keeps_elsewhere ranks window entries act table ne keeps = record {
   number = keeps.number;
   held = λ test. keeps.held test ∙ ap (list_any test) (sym (held_elsewhere ranks window entries act ne));
   targets = keeps.targets;
+  ranks_alone = keeps.ranks_alone;
 }
 
 -- a table with no lock, before any entry
@@ -186,4 +209,5 @@ keeps_nothing ranks window table number none = record {
   number = number;
   held = λ test. ap (list_any test) none;
   targets = ap (list_any (λ (one : Held). leb 16 one.target)) none;
+  ranks_alone = ap (list_any (λ (one : Held). leb ranks one.target)) none;
 }

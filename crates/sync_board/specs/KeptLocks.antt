@@ -34,9 +34,9 @@ left_by rank window target held = filter (λ (one : Held). not (is_given_back ra
 abbrev pub AllOn : ℕ → List Held → Type 0
 AllOn window held = list_any (λ (one : Held). not (one.window == window)) held ≡ false
 
--- no lock of the list is at a target past the last of 16 ranks
-abbrev pub AtRanks : List Held → Type 0
-AtRanks held = list_any (λ (one : Held). nat_le 16 one.target) held ≡ false
+-- no lock of the list is at a target past the last of so many ranks
+abbrev pub AtRanks : ℕ → List Held → Type 0
+AtRanks ranks held = list_any (λ (one : Held). nat_le ranks one.target) held ≡ false
 
 -- no lock of one list excludes one of the others
 abbrev pub clashes : List Held → List Held → Bool
@@ -46,8 +46,10 @@ clashes held asked = list_any (λ one. list_any (do_clash one) held) asked
 abbrev pub asked_from : ℕ → ℕ → Lock → ℕ → ℕ → List Held
 asked_from rank window kind first count = locks_at rank window kind (numbers_from first count)
 
--- the table is the window's, and has the locks that are held there after the entries
+-- the table is the window's, and has the locks that are held there after the entries, at ranks of the run, of which there
+-- are at most 16
 pub record KeepsLocks (ranks window : ℕ) (entries : List Act) (table : WindowLocks) : Type 0 where
   pub number : table.window ≡ window
   pub held : HasSameLocks table.held (held_on ranks window entries)
-  pub targets : AtRanks table.held
+  pub targets : AtRanks 16 table.held
+  pub ranks_alone : AtRanks ranks table.held

@@ -35,6 +35,7 @@ pub(crate) fn rank_of(target: i32, ranks: u8) -> u8
     requires few { ranks ≤ 16 }
     ensures value { natural_of target ≡ result }
     ensures below { result < 16 }
+    ensures run { result < ranks }
 {
     natural(target) as u8
 }

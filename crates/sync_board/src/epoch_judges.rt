@@ -111,7 +111,7 @@ impl WindowRecord {
         if self.is_any_posted(asked.ranks) {
             return Judged::Refused(Class::Sync);
         }
-        if self.lock_state.may_lock_all(asked.ranks) {
+        if self.lock_state.may_lock_all() {
             Judged::Allowed
         } else {
             Judged::NotYet

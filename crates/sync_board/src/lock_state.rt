@@ -51,15 +51,14 @@ impl LockState {
         }
     }
 
-    /// Whether a shared lock at each of so many ranks is free.
-    pub(crate) fn may_lock_all(&self, ranks: u8) -> bool
-        requires { ranks ≤ 16 }
-        ensures { (q : Question) → q.ranks ≡ ranks →
+    /// Whether a shared lock at each rank is free.
+    pub(crate) fn may_lock_all(&self) -> bool
+        ensures { (q : Question) →
             KeepsHeld q.ranks q.window q.entries self.now.table →
             result ≡ are_free q (locks_asked q SharedLock None) }
     {
         match &self.table {
-            Some(table) => locks::may_lock_all(table, ranks),
+            Some(table) => locks::may_lock_all(table),
             None => true,
         }
     }
@@ -79,8 +78,8 @@ impl LockState {
     pub(crate) fn lock_one(&mut self, window: u32, rank: u8, kind: Lock, target: u8)
         requires rank { rank < 16 }
         requires target { target < 16 }
-        ensures { (q : Question) (act : Act) (asked : ℤ) → natural asked ≡ target → q.window ≡ window →
-            act.window ≡ q.window → act.row.rank ≡ rank → q.rank ≡ rank →
+        ensures { (q : Question) (act : Act) (asked : ℤ) → natural asked ≡ target → target < q.ranks →
+            q.window ≡ window → act.window ≡ q.window → act.row.rank ≡ rank → q.rank ≡ rank →
             lock_in act.row.call ≡ Some (kind, Some asked) →
             are_free q (locks_asked q kind (Some asked)) ≡ true →
             KeepsHeld q.ranks q.window q.entries self.old.table →

@@ -14,20 +14,6 @@ ghost use Rattle.sync_board.specs.KeptLocks.{unlock_in};
 use lock_table::LockTable;
 use rma_types::Lock;
 
-/// No held lock excludes one of this kind at any of the targets.
-fn are_targets_free(table: &LockTable, kind: Lock, first: u8, end: u8) -> bool
-    requires { end ≤ 16 }
-    ensures { (rank : ℕ) → first ≤ end →
-        result ≡ not (clashes table.now.held (asked_from rank table.now.window kind first (end - first))) }
-{
-    for target in first..end {
-        if !table.may_grant(target, kind) {
-            return false;
-        }
-    }
-    true
-}
-
 /// A lock comes, where no held lock excludes it.
 fn take_lock(table: &mut LockTable, rank: u8, kind: Lock, target: u8)
     requires rank { rank < 16 }
@@ -73,7 +59,7 @@ fn give_back(table: &mut LockTable, rank: u8, target: u8)
 fn give_all_back(table: &mut LockTable, rank: u8)
     requires { rank < 16 }
     ensures window { table.new.window ≡ table.old.window }
-    ensures held { AtRanks table.old.held →
+    ensures held { AtRanks 16 table.old.held →
         HasSameLocks table.new.held (left_by rank table.old.window None table.old.held) }
 {
     for target in 0..16 {
@@ -88,17 +74,15 @@ pub(crate) fn may_lock(table: &LockTable, kind: Lock, target: u8) -> bool
         KeepsLocks q.ranks q.window q.entries table.now →
         result ≡ are_free q (locks_asked q kind (Some asked)) }
 {
-    are_targets_free(table, kind, target, target + 1)
+    table.may_grant(target, kind)
 }
 
-/// Whether a shared lock at each of so many ranks is free.
-pub(crate) fn may_lock_all(table: &LockTable, ranks: u8) -> bool
-    requires { ranks ≤ 16 }
-    ensures { (q : Question) → q.ranks ≡ ranks →
-        KeepsLocks q.ranks q.window q.entries table.now →
+/// Whether a shared lock at each rank is free.
+pub(crate) fn may_lock_all(table: &LockTable) -> bool
+    ensures { (q : Question) → KeepsLocks q.ranks q.window q.entries table.now →
         result ≡ are_free q (locks_asked q SharedLock None) }
 {
-    are_targets_free(table, Lock::Shared, 0, ranks)
+    table.may_grant_all()
 }
 
 /// Whether a lock is held at the rank.
@@ -113,7 +97,7 @@ pub(crate) fn is_locked(table: &LockTable, rank: u8) -> bool
 pub(crate) fn lock_one(table: &mut LockTable, rank: u8, kind: Lock, target: u8)
     requires rank { rank < 16 }
     requires target { target < 16 }
-    ensures { (q : Question) (act : Act) (asked : ℤ) → natural asked ≡ target →
+    ensures { (q : Question) (act : Act) (asked : ℤ) → natural asked ≡ target → target < q.ranks →
         act.window ≡ q.window → act.row.rank ≡ rank → q.rank ≡ rank →
         lock_in act.row.call ≡ Some (kind, Some asked) →
         are_free q (locks_asked q kind (Some asked)) ≡ true →

@@ -1,11 +1,6 @@
 //! The ranges that one rank has attached to one window (MPI 3.1, section 11.2.4).
 ghost use Rattle.std.specs.Prelude.{◌≡◌, ℕ, ◌+◌, ◌^◌, ◌<◌, ◌==◌, not, List, [], ◌∷◌, ◌++◌, OnOk, OnErr};
 ghost use Rattle.std.specs.List.{filter, list_any};
-ghost use Rattle.call_rules.specs.Actions.{Transfer};
-ghost use Rattle.call_rules.specs.Ranks.{natural};
-ghost use Rattle.call_rules.specs.Transfers.{bytes_of, rank_reached};
-ghost use Rattle.board_rules.specs.AttachedRanges.{ranges_attached, reaches_unattached as does_reach_unattached};
-ghost use Rattle.board_rules.specs.Questions.{Question};
 ghost use Rattle.rank_rules.specs.Ranges.{Range, covers as do_they_cover, has_byte as has_range_byte};
 ghost use Rattle.sync_board.specs.KeptRanges.{KeepsRanges, range_in, without};
 
@@ -121,15 +116,5 @@ impl Regions {
             }
         }
         true
-    }
-
-    /// Whether a byte of the range, so many bytes from an address on, is not attached.
-    pub(crate) fn reaches_unattached(&self, lo: u32, len: u32) -> bool
-        requires { lo + len < 2 ^ 32 }
-        ensures { (q : Question) (t : Transfer) → natural t.disp ≡ lo → bytes_of t ≡ len →
-            KeepsRanges (ranges_attached q.entries (rank_reached q.rank t.target) q.window) self.now →
-            result ≡ does_reach_unattached q t }
-    {
-        !self.covers(lo, len)
     }
 }

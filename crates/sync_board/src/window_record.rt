@@ -163,7 +163,7 @@ impl WindowRecord {
         ensures { (layout : Layout) (q : Question) (number : ℕ) (step : Step) (win : ℕ) (asked : ℤ)
             (asserts : Asserts) → q.rank ≡ rank → q.window ≡ window →
             action_of q.call ≡ Synchronises win (Locks kind (Some asked) asserts) →
-            natural asked ≡ target → are_free q (locks_asked q kind (Some asked)) ≡ true →
+            natural asked ≡ target → target < q.ranks → are_free q (locks_asked q kind (Some asked)) ≡ true →
             KeepsBefore layout q self.old → KeepsAfter layout q number step self.new }
     {
         self.lock_state.lock_one(window, rank, kind, target);

@@ -11,7 +11,7 @@ use Rattle.cell_replay.proofs.reads.read_elements.Goals as goal
 
 pub read_element-requires-clause-cell : goal.read_element-requires-clause-cell
 read_element-requires-clause-cell c =
-    let access = c.args.access.now in
+    let access = c.args.access in
     let below : c.loop-element.element < access.len / size_of c.args.dtype =
     subst (λ size. c.loop-element.element < access.len / size) c.size.ensures c.loop-element-test.true in
     let within = begins_within c.args.dtype access.len c.loop-element.element below in
@@ -22,7 +22,7 @@ read_element-requires-clause-cell c =
 pub loop-element-preserved : goal.loop-element-preserved
 loop-element-preserved c =
     let element = c.loop-element.element in
-    let access = c.args.access.now in
+    let access = c.args.access in
     let count = access.len / size_of c.args.dtype in
     let below : element < count = subst (λ size. element < access.len / size) c.size.ensures c.loop-element-test.true in
     let left : Piece → ℕ = element_left (touchings_of c.args.touches.now) (before_in c.args.clocks.now) c.args.id

@@ -6,5 +6,5 @@ use Rattle.sync_board.proofs.locks.lock_all.Goals as goal
 pub returns : goal.returns
 returns c = λ q act e here by asker is free keeps.
     keeps_with_lock q act c.args.rank Shared None 0 c.args.ranks c.args.table.now c.take_locks.new.table
-    (all_numbers c.args.ranks q.ranks e) (omega arith) (omega arith) here by asker is free
+    (all_numbers c.args.ranks q.ranks e) (omega arith) (omega arith) (omega (arith, e)) here by asker is free
     c.take_locks.ensures.window (c.take_locks.ensures.held (omega arith)) keeps

@@ -10,7 +10,7 @@ none_clash [] = refl
 none_clash (one ∷ asked) = none_clash asked
 
 pub returns-in-None : goal.returns-in-None
-returns-in-None c = λ q ranks kept.
+returns-in-None c = λ q kept.
     let none : held_here q ≡ [] = rw c.in-None.is at kept in
     sym (ap (λ held. not (list_any (λ one. list_any (do_clash one) held) (locks_asked q Shared None))) none
     ∙ none_clash (locks_asked q Shared None))

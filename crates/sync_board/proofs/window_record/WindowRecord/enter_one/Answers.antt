@@ -71,6 +71,7 @@ returns-in-LockOne-clause-ok c = λ q is allowed kept.
     let call = ap action_of (is.call ∙ c.in-LockOne.is) in
     c.lock_one.ensures c.args.layout.now q c.args.asked.now.number One _ _ _ is.rank is.window call
     (as_read c.in-LockOne.target c.rank_of-target.result (search rules) (sym c.rank_of-target.ensures.value))
+    (rw is.ranks c.rank_of-target.ensures.run)
     (sym (ap (may_enter_now q) call) ∙ allowed) kept
 
 pub returns-in-Unlock-clause-ok : goal.returns-in-Unlock-clause-ok

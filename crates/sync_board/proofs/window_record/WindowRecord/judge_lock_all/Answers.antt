@@ -15,10 +15,10 @@ pub returns-then-may_lock_all : goal.returns-then-may_lock_all
 returns-then-may_lock_all c = λ layout q win asserts asked is kept.
     allowed q (Synchronises win (Locks Shared None asserts)) is
     (ap (λ b. refuse_if b Sync) (sym (c.is_any_posted.ensures layout q asked.ranks kept) ∙ c.if-is_any_posted.false))
-    (sym (c.may_lock_all.ensures q asked.ranks kept.held) ∙ c.if-may_lock_all.true)
+    (sym (c.may_lock_all.ensures q kept.held) ∙ c.if-may_lock_all.true)
 
 pub returns-else-may_lock_all : goal.returns-else-may_lock_all
 returns-else-may_lock_all c = λ layout q win asserts asked is kept.
     waits q (Synchronises win (Locks Shared None asserts)) is
     (ap (λ b. refuse_if b Sync) (sym (c.is_any_posted.ensures layout q asked.ranks kept) ∙ c.if-is_any_posted.false))
-    (sym (c.may_lock_all.ensures q asked.ranks kept.held) ∙ c.if-may_lock_all.false)
+    (sym (c.may_lock_all.ensures q kept.held) ∙ c.if-may_lock_all.false)

@@ -12,7 +12,7 @@ use Rattle.sync_board.proofs.window_record.WindowRecord.lock_one.Goals as goal
 
 pub returns : goal.returns
 returns c =
-    (λ layout q number step win asked asserts asker here is target free kept.
+    (λ layout q number step win asked asserts asker here is target run free kept.
     let before = done_on q.entries q.window in
     let after = done_on (entries_after q number step) q.window in
     let new = with_entry (done_on q.entries q.window c.args.rank) step (kept_call q.call)
@@ -31,7 +31,7 @@ returns c =
           (rounds_unless (done_on q.entries q.window c.args.rank) step (kept_call q.call)
           (Synchronises win (Locks c.args.kind (Some asked) asserts)) (and_right (is_arrive step) false refl))
           kept.rounds;
-      held = c.lock_one.ensures q (entered q number step) asked target here refl asker asker
+      held = c.lock_one.ensures q (entered q number step) asked target run here refl asker asker
           (lock_is q.call (Synchronises win (Locks c.args.kind (Some asked) asserts)) is) free kept.held;
       regions = regions_each before after c.args.self.now.region_table.regions.items
           (ranges_by c.args.rank before after new same at refl) kept.regions;
