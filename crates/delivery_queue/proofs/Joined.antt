@@ -1,6 +1,6 @@
 -- The accesses of parts, one part after another; `blocks` are the lists of their accesses.
 use Rattle.std.proofs.Common.{◌≡◌, ◌+◌, ◌-◌, ◌<◌, ◌≤◌, ℕ, zero, suc, List, [], ◌∷◌, ◌++◌, take, drop, length, map}
-use Rattle.std.proofs.Common.{refl, ap, arith, slice_get, Some, get_or, set, append_assoc, ◌∙◌, sym}
+use Rattle.std.proofs.Common.{refl, ap, arith, slice_get, Some, get_or, set, append_assoc, ◌∙◌, sym, length-append, ◌^◌}
 use Rattle.std.specs.List.{remove, All}
 use Rattle.std.specs.Option.{option_map}
 use Rattle.std.proofs.lemmas.Option.{slice_get-map}
@@ -242,3 +242,21 @@ removed_kept marks total ones at l kept =
       counted = omega arith;
       few = omega arith;
     }
+
+-- one access more, with its marks
+pub pushed_kept : (marks more : Marks) (total : ℕ) (ones : List Begun) (one : Begun) → total + 1 < 2 ^ 64 →
+    ((other : PendingAccess) → IsMarked marks other → IsMarked more other) → IsMarked more one.access →
+    IsKept marks total ones → IsKept more (total + 1) (ones ++ one ∷ [])
+pushed_kept marks more total ones one small kept_marks added kept =
+    let counted = kept.counted in
+    let long : length (ones ++ one ∷ []) ≡ length ones + 1 = length-append ones (one ∷ []) in
+    record {
+      marked = All-append (λ (begun : Begun). IsMarked more begun.access) ones (one ∷ [])
+          (λ k d l. kept_marks _ (kept.marked k d l)) (only (λ (begun : Begun). IsMarked more begun.access) one added);
+      counted = omega arith;
+      few = small;
+    }
+  where
+    only : {X : Type 0} (P : X → Type 0) (x : X) → P x → All P (x ∷ [])
+    only P x holds zero d l = holds
+    only P x holds (suc k) d l = absurd (omega arith)

@@ -2,5 +2,6 @@
 pub mod FirstFound
 pub mod GivenWays
 pub mod Joined
+pub mod LinksKept
 pub mod NumberBits
 pub mod TouchCounts

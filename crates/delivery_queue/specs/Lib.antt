@@ -3,3 +3,5 @@ pub mod Blocks
 pub mod Marked
 pub mod Queues
 pub mod Soughts
+pub mod Spanned
+pub mod Walked

@@ -12,7 +12,9 @@ mod parts;
 mod queue;
 mod searches;
 mod sought;
+mod spans;
 mod waits;
+mod walks;
 mod ways;
 
 pub use queue::{Delivery, Pending};

@@ -6,15 +6,17 @@ ghost use Rattle.delivery_queue.specs.Soughts.{is_sought};
 
 use crate::number_sets::NumberSet;
 use crate::sought::{Sought, is_ordered_kind};
+use crate::spans::Span;
 use rank_rules::PendingAccess;
 
-/// The names of the windows, and the targets, of some accesses; the targets of those whose order is kept on a cell; and
-/// whether one of them fetches.
+/// The names of the windows, and the targets, of some accesses; the targets and the cells of those whose order is kept on
+/// a cell; and whether one of them fetches.
 #[derive(Clone, Copy, Debug, PartialEq, Eq)]
 pub(crate) struct Marks {
     windows: NumberSet,
     targets: NumberSet,
     ordered: NumberSet,
+    span: Span,
     fetches: bool,
 }
 
@@ -25,6 +27,7 @@ impl Marks {
             windows: NumberSet::none(),
             targets: NumberSet::none(),
             ordered: NumberSet::none(),
+            span: Span::none(),
             fetches: false,
         }
     }
@@ -40,10 +43,16 @@ impl Marks {
         } else {
             self.ordered
         };
+        let span = if is_ordered_kind(&one.access.kind) {
+            self.span.with(&one.access)
+        } else {
+            self.span
+        };
         Marks {
             windows: self.windows.with(one.access.window),
             targets: self.targets.with(target),
             ordered,
+            span,
             fetches: self.fetches || one.fetches,
         }
     }
@@ -57,6 +66,7 @@ impl Marks {
             windows: self.windows.both(other.windows),
             targets: self.targets.both(other.targets),
             ordered: self.ordered.both(other.ordered),
+            span: self.span.both(other.span),
             fetches: self.fetches || other.fetches,
         }
     }
@@ -80,7 +90,9 @@ impl Marks {
                     && self.targets.contains(*target)
             }
             Sought::FetchOfCall { .. } => self.fetches,
-            Sought::OnCellsOf { access } => self.ordered.contains(u32::from(access.target)),
+            Sought::OnCellsOf { access } => {
+                self.ordered.contains(u32::from(access.target)) && self.span.may_share(access)
+            }
         }
     }
 }

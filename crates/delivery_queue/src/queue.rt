@@ -14,6 +14,7 @@ use crate::deliveries::touch_pending;
 use crate::groups::Group;
 use crate::parts::Part;
 use crate::waits::awaited_by;
+use crate::walks::Walk;
 use crate::ways::way;
 use cell_face::Memory;
 use rank_rules::PendingAccess;
@@ -37,6 +38,8 @@ pub struct Delivery {
 pub struct Pending {
     /// The accesses, in groups of groups of blocks.
     ones: Group<Group<Block>>,
+    /// The way to the access that was delivered last, as far as it is known.
+    walk: Walk,
     /// The number of the call that made the live request of each name.
     requests: [Option<u32>; 64],
 }
@@ -44,6 +47,7 @@ pub struct Pending {
 impl Model for Pending {
     ghost use Rattle.delivery_queue.specs.Blocks.{accesses_of, touched_of};
     ghost use Rattle.delivery_queue.specs.Queues.{Queue};
+    ghost use Rattle.delivery_queue.specs.Walked.{IsWalked};
 
     ghost Value = { Queue };
 
@@ -52,6 +56,8 @@ impl Model for Pending {
       touched = touched_of it.ones;
       requests = it.requests;
     } };
+
+    ghost invariant = { λ it. IsWalked (accesses_of it.ones) it.walk };
 }
 
 impl Pending {
@@ -61,6 +67,7 @@ impl Pending {
     {
         Ok(Pending {
             ones: Group::new(alloc),
+            walk: Walk::none(alloc),
             requests: [None; 64],
         })
     }
@@ -87,7 +94,7 @@ impl Pending {
         ensures end { result ≡ way_of self.now.pending at }
         ensures not_after { result ≤ at }
     {
-        way(&self.ones, at)
+        way(&self.ones, self.walk.beyond(at))
     }
 
     /// Ends the live request of this name.
@@ -108,7 +115,8 @@ impl Pending {
         }) }
         ensures unchanged { OnErr result (self.new ≡ self.old) }
     {
-        self.ones.push(one)
+        self.ones.push(one)?;
+        Ok(())
     }
 
     /// An access is issued: it stands at the end, unless it has no bytes; `index` is that of its Issue item. Where a
@@ -149,7 +157,10 @@ impl Pending {
         ensures within { IfSome result (λ at. at < length self.now.pending) }
     {
         match self.ones.first(&awaited_by(&self.requests, call)) {
-            Some(at) => Some(self.way(at)),
+            Some(at) => {
+                self.walk.await_from(at);
+                Some(self.way(at))
+            }
             None => None,
         }
     }
@@ -159,7 +170,7 @@ impl Pending {
         requires { at < length self.old.pending }
         ensures { self.new ≡ without_access self.old at }
     {
-        self.ones.remove(at);
+        self.walk.remove(&mut self.ones, at);
     }
 
     /// So many elements of the access at a place are touched.

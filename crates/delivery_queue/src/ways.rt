@@ -34,7 +34,7 @@ fn found_before(found: Option<usize>, at: usize) -> Option<usize>
 }
 
 /// The place of the first earlier access to which the one at a place gives way.
-fn first_in_way<P: Part>(ones: &P, at: usize) -> Option<usize>
+pub(crate) fn first_in_way<P: Part>(ones: &P, at: usize) -> Option<usize>
     requires { at < length (P.ones ones.now) }
     ensures place { result ≡ first_in_way_of (accesses_of (P.ones ones.now)) at }
     ensures earlier { IfSome result (λ other. other < at) }

@@ -14,3 +14,12 @@ returns c =
     (subst (λ (queue : Queue). c.args.at < length queue.pending) (sym c.self.view_is) c.requires) in
     let touched = touched_in ones after c.args.at c.args.count at c.touch.ensures in
     rw (← c.self.view_is, touched.0, touched.1) refl
+
+pub invariant_of-self : goal.invariant_of-self
+invariant_of-self c =
+    let ones : List Begun = c.self.inside.ones in
+    let after : List Begun = c.touch.new.self in
+    let at : c.args.at < length ones =
+    subst (λ n. c.args.at < n) (length-map ones (λ (one : Begun). one.access))
+    (subst (λ (queue : Queue). c.args.at < length queue.pending) (sym c.self.view_is) c.requires) in
+    rw (touched_in ones after c.args.at c.args.count at c.touch.ensures).0 c.self.invariant

@@ -8,7 +8,7 @@ returns c =
     let ones = c.self.inside.ones in
     rw (
       ← c.self.view_is,
-      c.remove.ensures,
+      c.remove.ensures.removed,
       map_remove (λ (one : Begun). one.access) ones c.args.at,
       map_remove (λ (one : Begun). one.touched) ones c.args.at,
     ) refl
