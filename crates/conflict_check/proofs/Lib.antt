@@ -1,6 +1,9 @@
--- Pairs of accesses, and those that no rule forbids.
+-- Findings by sweeps.
 pub mod Alikes
-pub mod Groups
-pub mod Least
-pub mod MayStand
+pub mod Classes
+pub mod Common
+pub mod Growth
+pub mod Ordinals
 pub mod Parts
+pub mod Readings
+pub mod Leasts

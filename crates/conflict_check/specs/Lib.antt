@@ -1,4 +1,4 @@
 -- Findings of accesses with their points.
+pub mod Conflicts
 pub mod Enough
-pub mod Reached
-pub mod Standing
+pub mod Listings

@@ -4,12 +4,12 @@
 
 ghost use Rattle.conflict_check.specs.Enough.{AlikePointsAreEnough};
 
-mod pairs;
-mod reaches;
+mod conflicts;
+mod judged;
+mod listings;
+mod partners;
 mod run_findings;
-mod standing;
 
-pub use pairs::findings_among;
 pub use run_findings::findings;
 
 /// Where some points of each access stand for all, the findings are the same: it is enough that both are before the
