@@ -1,10 +1,16 @@
 -- The touches that an access asks for: one for each element, on its cell, with its change. MPI 3.1, sections 11.3 and
 -- 11.7.1.
-use Rattle.std.specs.Prelude.{◌≡◌, ◌<◌, ℕ, ◌+◌, ◌*◌, ◌%◌, ◌^◌, Bool, false, not, List, map, Option, IsSomeAnd}
+use Rattle.std.specs.Prelude.{◌≡◌, ◌<◌, ℕ, ◌+◌, ◌*◌, ◌%◌, ◌^◌, Bool, true, false, not, ◌&&◌, List, map, Option}
+use Rattle.std.specs.Prelude.{IsSomeAnd, is_some}
 use Rattle.std.specs.Option.{option_map_or, option_and_then}
 use Rattle.rma_types.specs.declared.accesses.Access.{Access}
 use Rattle.rma_types.specs.declared.calls.Call.{Call}
 use Rattle.rma_types.specs.declared.scripts.Layout.{Layout}
+use Rattle.rma_types.specs.declared.dtypes.Dtype.{Dtype}
+use Rattle.rma_types.specs.declared.dtypes.Dtype.TheVariants.{Int8, Int16, Int32, Uint8, Uint16, Uint32, Byte}
+use Rattle.rma_types.specs.declared.ops.Op.{Op}
+use Rattle.rma_types.specs.declared.ops.Op.TheVariants.{Replace, NoOp, Max, Min, Sum, Prod, Land, Band, Lor, Bor, Lxor}
+use Rattle.rma_types.specs.declared.ops.Op.TheVariants.{Bxor}
 use Rattle.rma_types.specs.Datatypes.{size_of}
 use Rattle.call_rules.specs.declared.elements.Change.{Change}
 use Rattle.call_rules.specs.declared.elements.Piece.{Piece}
@@ -55,6 +61,38 @@ planned_touch layout access call element = touch_at call element (piece_of layou
 -- the touches of so many elements, from one on
 abbrev pub planned_touches : Layout → Access → Call → ℕ → ℕ → List PlannedTouch
 planned_touches layout access call first count = map (planned_touch layout access call) (numbers_from first count)
+
+abbrev pub is_sum : Op → Bool
+is_sum Replace = false
+is_sum NoOp = false
+is_sum Max = false
+is_sum Min = false
+is_sum Sum = true
+is_sum Prod = false
+is_sum Land = false
+is_sum Band = false
+is_sum Lor = false
+is_sum Bor = false
+is_sum Lxor = false
+is_sum Bxor = false
+
+-- elements of the datatype are whole cells
+abbrev pub is_whole_cell : Dtype → Bool
+is_whole_cell Int8 = false
+is_whole_cell Int16 = false
+is_whole_cell Int32 = true
+is_whole_cell Uint8 = false
+is_whole_cell Uint16 = false
+is_whole_cell Uint32 = true
+is_whole_cell Byte = false
+
+-- the change is the sum of a whole cell, with which nothing is compared: one add, which can't come too late
+abbrev pub is_add : Change → Bool
+is_add change = is_whole_cell change.dtype && is_sum change.op && not (is_some change.compare)
+
+-- the touch is by an attempt, which can come too late: it is an update, and no add
+abbrev pub IsTried : PlannedTouch → Type 0
+IsTried touch = IsSomeAnd touch.change (λ change. is_add change ≡ false)
 
 -- the access is the one that the call makes: its kind, its bytes, and an address that is a multiple of the element's
 -- size

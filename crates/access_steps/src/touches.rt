@@ -1,6 +1,6 @@
 //! The touches of an access.
 ghost use Rattle.std.specs.Prelude.{◌≡◌, ◌+◌, ◌-◌, ◌*◌, ◌/◌, ◌%◌, ◌^◌, ◌<◌, ◌≤◌, ℕ, drop, false, Some, IsTrue, IsSome};
-ghost use Rattle.std.specs.Prelude.{IfOk, IfSome, MatchResult, MatchBool};
+ghost use Rattle.std.specs.Prelude.{IfOk, IfSome, IsSomeAnd, MatchResult, MatchBool, OnErr};
 ghost use Rattle.std.specs.Option.{ForSome};
 ghost use Rattle.call_rules.specs.Actions.{transfer_of};
 ghost use Rattle.call_rules.specs.Elements.{Fits, next};
@@ -8,7 +8,8 @@ ghost use Rattle.call_rules.specs.Pieces.{pieces};
 ghost use Rattle.call_rules.specs.Touches.{touch_each};
 ghost use Rattle.call_rules.specs.WellFormed.{IsWrittenCall};
 ghost use Rattle.cell_face.specs.Faces.{cell_count, Rose, Keeps};
-ghost use Rattle.access_steps.specs.Plans.{element_count, is_update, planned_touches, IsAccessOf, LiesWithin};
+ghost use Rattle.access_steps.specs.Plans.{element_count, is_update, planned_touch, planned_touches};
+ghost use Rattle.access_steps.specs.Plans.{is_add, IsAccessOf, IsTried, LiesWithin};
 ghost use Rattle.access_steps.specs.TouchesMade.{TouchesKept, IsTouchEach, TouchesOne, TouchesNone};
 
 use crate::changes::{change_of, dtype_of};
@@ -30,7 +31,9 @@ pub struct Progress {
 /// Whether the change is the sum of a whole cell.
 fn is_whole_sum(change: &Change) -> bool
     requires { Fits change.now }
-    ensures { IsTrue result → (bits : ℕ) → bits < 2 ^ 32 → next bits change.now ≡ (bits + change.now.operand) % 2 ^ 32 }
+    ensures add { result ≡ is_add change.now }
+    ensures sum { IsTrue result → (bits : ℕ) → bits < 2 ^ 32 →
+        next bits change.now ≡ (bits + change.now.operand) % 2 ^ 32 }
 {
     let is_whole = match change.dtype {
         Dtype::Int32 | Dtype::Uint32 => true,
@@ -48,6 +51,7 @@ fn update_cell<M: Memory>(mem: &mut M, cell: u32, change: &Change) -> Result<See
     ensures touch { MatchResult result
         (λ seen. TouchesOne (M.face mem.old) (M.face mem.new) cell (Some change.now) seen)
         (λ _. TouchesNone (M.face mem.old) (M.face mem.new)) }
+    ensures tried { OnErr result (is_add change.now ≡ false) }
     ensures found { IfOk result (λ seen. M.knows mem.new cell seen) }
     ensures known { Keeps (M.knows mem.old) (M.knows mem.new) }
 {
@@ -69,6 +73,7 @@ fn touch_cell<M: Memory>(mem: &mut M, cell: u32, change: Option<Change>) -> Resu
     ensures touch { MatchResult result
         (λ seen. TouchesOne (M.face mem.old) (M.face mem.new) cell change seen)
         (λ _. TouchesNone (M.face mem.old) (M.face mem.new)) }
+    ensures tried { OnErr result (IsSomeAnd change (λ change. is_add change ≡ false)) }
     ensures found { IfOk result (λ seen. M.knows mem.new cell seen) }
     ensures known { Keeps (M.knows mem.old) (M.knows mem.new) }
 {
@@ -106,6 +111,8 @@ pub fn touch_on<M: Memory, L: Keep>(
         (Rose (M.face mem.old).moves (M.face mem.new).moves) ((M.face mem.new).moves ≡ (M.face mem.old).moves) }
     ensures left { MatchBool result.moved
         (result.next < element_count call.now) (result.next ≡ element_count call.now) }
+    ensures tried { IsTrue result.moved →
+        IsTried (planned_touch layout.now access.now call.now result.next) }
     ensures known { Keeps (M.knows mem.old) (M.knows mem.new) }
 
     // Where the memory tells its cells, no attempt comes too late.

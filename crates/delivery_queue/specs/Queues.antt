@@ -5,7 +5,8 @@ use Rattle.std.specs.Option.{option_map_or}
 use Rattle.rma_types.specs.declared.accesses.Access.{Access}
 use Rattle.rma_types.specs.declared.calls.Call.{Call}
 use Rattle.rma_types.specs.declared.scripts.Layout.{Layout}
-use Rattle.access_steps.specs.Plans.{element_count, is_update, planned_touches, IsAccessOf, LiesWithin}
+use Rattle.access_steps.specs.Plans.{element_count, is_update, planned_touch, planned_touches}
+use Rattle.access_steps.specs.Plans.{IsAccessOf, IsTried, LiesWithin}
 use Rattle.access_steps.specs.TouchesMade.{TouchesKept, IsTouchEach}
 use Rattle.call_rules.specs.declared.cells.Cell.{Cell}
 use Rattle.call_rules.specs.Actions.{transfer_of}
@@ -71,7 +72,8 @@ pub record IsDeliverable (queue : Queue) (at : ℕ) (layout : Layout) (calls : L
   pub room : element_count call ≤ slice_index queue.touched at + free
   pub share : IsTrue (is_update call) → element_count call ≤ slice_index queue.touched at + face.share
 
--- What a delivery did: the touches of the access from the first untouched element to the next one.
+-- What a delivery did: the touches of the access, which is that of its call, from the first untouched element to the
+-- next one. Where it is left, an attempt on that element came too late.
 pub record Delivers (queue after : Queue) (at : ℕ) (done : Bool) (layout : Layout) (calls : List Call)
     (before_face after_face : Face) (knows : ℕ → Cell → Type 0) (kept_before kept_after : List Item)
     : Type 0 where
@@ -79,12 +81,14 @@ pub record Delivers (queue after : Queue) (at : ℕ) (done : Bool) (layout : Lay
   pub call : Call
   pub here : slice_get queue.pending at ≡ Some one
   pub named : slice_get calls one.number ≡ Some call
+  pub is_its : IsOfCall layout (cell_count before_face) one call
   pub next : ℕ
   pub begun : slice_index queue.touched at ≤ next
   pub within : next ≤ element_count call
   pub queue_after : after ≡ after_delivery done queue at next
   pub whole : done ≡ true → next ≡ element_count call
   pub left : done ≡ false → next < element_count call
+  pub tried : done ≡ false → IsTried (planned_touch layout one.access call next)
   pub touches : TouchesKept before_face after_face knows kept_before kept_after one.index
       (planned_touches layout one.access call (slice_index queue.touched at) (next - slice_index queue.touched at))
 

@@ -1,7 +1,7 @@
 //! The touches of one pending access.
 ghost use Rattle.std.specs.Prelude.{◌≡◌, ◌+◌, ◌-◌, ◌≤◌, ◌<◌, length, false, drop, IsTrue, IfOk, IfSome, OnErr};
 ghost use Rattle.std.specs.Prelude.{MatchBool};
-ghost use Rattle.access_steps.specs.Plans.{element_count, is_update, planned_touches};
+ghost use Rattle.access_steps.specs.Plans.{element_count, is_update, planned_touch, planned_touches, IsTried};
 ghost use Rattle.access_steps.specs.TouchesMade.{TouchesKept, IsTouchEach};
 ghost use Rattle.call_rules.specs.Actions.{transfer_of};
 ghost use Rattle.call_rules.specs.Pieces.{pieces};
@@ -39,6 +39,8 @@ pub fn touch_pending<M: Memory, L: Keep>(
         (Rose (M.face mem.old).moves (M.face mem.new).moves) ((M.face mem.new).moves ≡ (M.face mem.old).moves)) }
     ensures left { IfOk result (λ progress. MatchBool progress.moved
         (progress.next < element_count call.now) (progress.next ≡ element_count call.now)) }
+    ensures tried { IfOk result (λ progress. IsTrue progress.moved →
+        IsTried (planned_touch layout.now one.now.access call.now progress.next)) }
     ensures told_whole { IfOk result (λ progress. IfSome (M.face mem.old).told (λ _. progress.moved ≡ false)) }
     ensures told { IfOk result (λ _. IfSome (M.face mem.old).told (λ cells. IfSome (transfer_of call.now) (λ t.
         let left = drop from (pieces layout.now one.now.access t.dtype) in

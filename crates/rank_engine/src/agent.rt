@@ -15,6 +15,7 @@ ghost use Rattle.rank_engine.specs.DataAnswers.{is_again, is_full};
 ghost use Rattle.rank_engine.specs.KeptItems.{KeepsEntries, KeepsItems};
 ghost use Rattle.rank_engine.specs.RankStates.{new_state, is_at_hand, needs_entry};
 ghost use Rattle.rank_engine.specs.Refusals.{RefusesAlone};
+ghost use Rattle.rank_engine.specs.Sound.{IsSound};
 
 use crate::answers::Turned;
 use crate::courses::{course_of, is_at_once, is_transfer};
@@ -306,6 +307,15 @@ impl<'s, L: Keep + Drop> Agent<'s, L> {
             return Ok(Turned::Did);
         }
         Ok(Turned::Again)
+    }
+
+    /// What each rank keeps, whatever its steps.
+    ///
+    /// It is a theorem, and does nothing when it is called.
+    pub fn is_sound(&self)
+        ensures { IsSound self.now }
+    {
+        let _ = &self.log;
     }
 
     /// The log, with all its items.

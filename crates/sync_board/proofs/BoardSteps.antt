@@ -1,7 +1,8 @@
 -- A board with one entry more keeps what its entries have done and given.
 use Rattle.std.proofs.Common.{◌≡◌, ℕ, suc, ◌+◌, false, List, [], ◌∷◌, ◌++◌, length, map, refl, ap, sym, ◌∙◌, subst}
 use Rattle.std.proofs.Common.{arith, Option, Some, None, IfSome}
-use Rattle.std.specs.Option.{option_map_or}
+use Rattle.std.specs.List.{AllByRecursion}
+use Rattle.std.specs.Option.{option_map, option_map_or}
 use Rattle.std.proofs.lemmas.List.{map-append, length-append}
 use Rattle.rma_types.specs.declared.scripts.Layout.{Layout}
 use Rattle.call_rules.specs.Actions.{Action, Synchronises, Transfer, synchronisation_in}
@@ -10,7 +11,7 @@ use Rattle.kept_rows.specs.Gifts.{Front, Given, rows_given}
 use Rattle.entry_gains.specs.Gains.{IsSound, IsWhole, Keeps}
 use Rattle.entry_gains.specs.Slots.{AreFrom}
 use Rattle.entry_gains.specs.declared.gains.Gains.{Gains}
-use Rattle.sync_board.specs.Boards.{NamesRanks, entry_row}
+use Rattle.sync_board.specs.Boards.{IsFrontOfToken, IsGiftOfToken, NamesRanks, entry_row}
 use Rattle.sync_board.specs.Counted.{KeepsState}
 use Rattle.sync_board.specs.Kept.{IsKept}
 use Rattle.sync_board.specs.Lists.{IsList, entries_in, given_of, givens}
@@ -39,6 +40,17 @@ pub givens_rows : {N : Type 0} (front : N → Front) (rows : List EntryRow) (kep
 givens_rows front [] kept same = refl
 givens_rows front (y ∷ rows) [] same = absurd (omega arith)
 givens_rows front (y ∷ rows) (x ∷ kept) same = ap (λ ys. y ∷ ys) (givens_rows front rows kept (omega arith))
+
+gift_is : {N : Type 0} (front : N → Front) (gift : Option N) →
+    IfSome (option_map front gift) (IsFrontOfToken front)
+gift_is front None = tt
+gift_is front (Some token) = record { token = token; same = refl }
+
+pub gifts_are : {N : Type 0} (front : N → Front) (rows : List EntryRow) (kept : List (Kept N)) →
+    AllByRecursion (IsGiftOfToken front) (givens front rows kept)
+gifts_are front [] kept = tt
+gifts_are front (row ∷ rows) [] = tt
+gifts_are front (row ∷ rows) (one ∷ kept) = (gift_is front one.gift, gifts_are front rows kept)
 
 pub same_entries : {N : Type 0} (front : N → Front) (list after : EntryList N) → after.rows.items ≡ list.rows.items →
     after.kept.items ≡ list.kept.items → entries_in front after ≡ entries_in front list

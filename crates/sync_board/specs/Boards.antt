@@ -42,6 +42,15 @@ rows_on board = rows_given board.entries
 abbrev pub entry_row : Given → EntryRow
 entry_row one = record { rank = one.row.rank; call = one.row.number; step = one.row.step }
 
+-- the front is that of some token
+pub record IsFrontOfToken {N : Type 0} (front_of : N → Front) (front : Front) : Type 0 where
+  pub token : N
+  pub same : front ≡ front_of token
+
+-- the gift of the entry, if it has one, is the front of some token
+abbrev pub IsGiftOfToken : {N : Type 0} → (N → Front) → Given → Type 0
+IsGiftOfToken front_of one = IfSome one.gift (IsFrontOfToken front_of)
+
 -- ---- what may be asked
 
 -- the bytes of a rank's memory, and none where there is no such rank

@@ -1,5 +1,6 @@
 //! The board of a run.
 ghost use Rattle.std.specs.Prelude.{◌≡◌, ◌<◌, ◌≤◌, ℕ, List, [], map, IfSome, IfOk, OnErr};
+ghost use Rattle.std.specs.List.{AllByRecursion};
 ghost use Rattle.std.specs.Option.{option_map};
 
 use crate::answers::{Decided, EntryRow};
@@ -64,7 +65,8 @@ fn forked<N: Token>(gift: &mut Option<N>) -> Option<N>
 impl<N: Token> Board<N> {
     ghost use Rattle.board_rules.specs.Board.{Allow, decide as answer_to};
     ghost use Rattle.sync_board.specs.Asked.{IsAfter, row_asked};
-    ghost use Rattle.sync_board.specs.Boards.{IsAnswer, IsLayoutOf, MayAsk, MayJudge, entry_row, is_allow, rows_on};
+    ghost use Rattle.sync_board.specs.Boards.{IsAnswer, IsGiftOfToken, IsLayoutOf, MayAsk, MayJudge};
+    ghost use Rattle.sync_board.specs.Boards.{entry_row, is_allow, rows_on};
 
     /// A board without entries, for 1 to 16 ranks with this layout of memory. The root is a token of the memory from
     /// which gifts come; it is kept, and is no gift.
@@ -193,5 +195,14 @@ impl<N: Token> Board<N> {
         ensures { result.now ≡ map entry_row self.now.entries }
     {
         self.list.rows.as_slice()
+    }
+
+    /// Each gift in the list is the front of a token, so where all tokens tell their fronts each gift tells one.
+    ///
+    /// It is a theorem, and does nothing when it is called.
+    pub fn gifts_of_tokens(&self)
+        ensures { AllByRecursion (IsGiftOfToken N.front) self.now.entries }
+    {
+        let _ = &self.list;
     }
 }

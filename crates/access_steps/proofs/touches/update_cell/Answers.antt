@@ -6,7 +6,7 @@ pub returns-then-is_whole_sum-clause-touch : goal.returns-then-is_whole_sum-clau
 returns-then-is_whole_sum-clause-touch g c =
     let small : c.add.result.bits < 2 ^ 32 = search rules in
     updates_once _ _ c.args.cell c.add.result c.args.change.now _
-    (sym (c.is_whole_sum.ensures c.if-is_whole_sum.true c.add.result.bits small)) c.add.ensures.told_state
+    (sym (c.is_whole_sum.ensures.sum c.if-is_whole_sum.true c.add.result.bits small)) c.add.ensures.told_state
     c.add.ensures.updates
 
 pub returns-in-Err-clause-touch : goal.returns-in-Err-clause-touch
