@@ -1,0 +1,6 @@
+mod Totals
+mod Elements
+mod Growth
+mod WordParts
+mod Keeping
+mod Updating
