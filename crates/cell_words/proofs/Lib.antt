@@ -4,3 +4,6 @@ mod Growth
 mod WordParts
 mod Keeping
 mod Updating
+mod Opening
+mod Ending
+mod StepsKept
