@@ -7,3 +7,4 @@ mod Updating
 mod Opening
 mod Ending
 mod StepsKept
+mod SeatFaces

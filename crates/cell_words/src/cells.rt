@@ -25,7 +25,7 @@ impl Model for Cells {
         table = shared.table_id; init = shared.key.init.items; shares = shared.key.shares.items } };
 
     ghost invariant = { λ cells. let shared = cells.table.shared in
-        shared.table_id.words ≡ length shared.key.init.items + 1 };
+        (shared.table_id.words ≡ length shared.key.init.items + 1) × (shared.table_id.slots ≡ 0) };
 }
 
 /// What becomes a seat: it borrows nothing.

@@ -6,6 +6,7 @@
 mod cells;
 mod notes;
 mod seats;
+mod shared_steps;
 mod steps;
 mod views;
 mod words;

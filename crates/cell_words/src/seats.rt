@@ -68,15 +68,26 @@ impl<'c> Memory for CellSeat<'c> {
     ghost knows = { known_by };
 
     fn load(&mut self, cell: u32) -> Seen {
-        unreachable!()
+        self.cells.look(&mut self.seat, cell)
     }
 
     fn add(&mut self, cell: u32, x: u32) -> Seen {
-        unreachable!()
+        let seen = self.cells.raise(&mut self.seat, cell, x);
+        self.share -= 1;
+        seen
     }
 
     fn attempt(&mut self, cell: u32, expected: Seen, new: u32) -> Result<u32, Moved> {
-        unreachable!()
+        match self.cells.exchange(&mut self.seat, cell, expected, new) {
+            Ok(()) => {
+                self.share -= 1;
+                Ok(expected.place)
+            }
+            Err(seen) => {
+                self.moves = self.moves.saturating_add(1);
+                Err(Moved { seen })
+            }
+        }
     }
 
     fn share(&self) -> u32 {
@@ -84,10 +95,11 @@ impl<'c> Memory for CellSeat<'c> {
     }
 
     fn note(&mut self) -> CellNote<'c> {
-        unreachable!()
+        let seat = self.cells.copy_lows(&mut self.seat);
+        CellNote::new(self.cells, seat)
     }
 
     fn meet(&mut self, note: CellNote<'c>) {
-        unreachable!()
+        self.cells.take_in(&mut self.seat, note.into_seat());
     }
 }
