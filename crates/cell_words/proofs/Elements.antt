@@ -1,8 +1,15 @@
 -- Elements of lists.
 use Rattle.std.proofs.Common.{◌≡◌, ◌⊎◌, inl, inr, ℕ, zero, suc, ◌+◌, ◌<◌, ◌≤◌, List, [], ◌∷◌, ◌++◌, length, max}
-use Rattle.std.proofs.Common.{get_or, set, refl, sym, ◌∙◌, arith, Contains}
+use Rattle.std.proofs.Common.{get_or, set, drop, ◌/◌, refl, sym, ap, ◌∙◌, arith, Contains}
 use Rattle.std.proofs.lemmas.List.Elements.{Contains-append_cases, Contains-append_right}
+use Rattle.std.proofs.Math.ListN.{get_or-append}
+use Rattle.std.proofs.Math.Seq.{get_or-append_seam}
+use Rattle.std.proofs.lemmas.List.{length-append}
+use Rattle.std.proofs.lemmas.Bool.{cases_lt}
+use mathlib.Core.Option.{some, some-injective, some-ne-none}
+use lib.ListN.{get_elem?}
 use Rattle.cell_face.specs.Fronts.{greater}
+use Rattle.cell_words.specs.Views.{head, zeros}
 
 module _ {A : Type 0} where
   -- a list of one has that one
@@ -42,3 +49,34 @@ length_greater [] [] e = refl
 length_greater [] (other ∷ others) e = absurd (omega arith)
 length_greater (low ∷ lows) [] e = refl
 length_greater (low ∷ lows) (other ∷ others) e = omega (arith, length_greater lows others (omega arith))
+
+module _ {A : Type 0} where
+  pub read_at : (xs : List A) (k : ℕ) (x d : A) → get_elem? xs k ≡ some x → get_or xs k d ≡ x
+  read_at [] k x d at = absurd (some-ne-none x (sym at))
+  read_at (y ∷ ys) zero x d at = some-injective y x at
+  read_at (y ∷ ys) (suc k) x d at = read_at ys k x d at
+
+pub head_drop : (shares : List ℕ) (k : ℕ) → head (drop k shares) ≡ get_or shares k 0
+head_drop [] zero = refl
+head_drop [] (suc k) = refl
+head_drop (share ∷ shares) zero = refl
+head_drop (share ∷ shares) (suc k) = head_drop shares k
+
+-- the bits of one cell more
+pub more_bits : (finals words : List ℕ) (at word bits : ℕ) → length finals + 1 ≡ at → get_or words at 0 ≡ word →
+    bits ≡ word / 4294967296 → ((cell : ℕ) → cell < length finals →
+    get_or finals cell 0 ≡ get_or words (cell + 1) 0 / 4294967296) → (cell : ℕ) →
+    cell < length (finals ++ bits ∷ []) →
+    get_or (finals ++ bits ∷ []) cell 0 ≡ get_or words (cell + 1) 0 / 4294967296
+more_bits finals words at word bits count found is old cell lt = elim (cases_lt cell (length finals)) [
+  | inl before ↦ get_or-append finals (bits ∷ []) 0 cell before ∙ old cell before
+  | inr after ↦
+      let last : cell ≡ length finals = omega (arith, lt, length-append finals (bits ∷ [])) in
+      let next : cell + 1 ≡ at = omega (arith, last, count) in
+      ap (λ (k : ℕ). get_or (finals ++ bits ∷ []) k 0) last ∙ (get_or-append_seam finals bits [] 0
+      ∙ (is ∙ ap (λ (n : ℕ). n / 4294967296) (sym found ∙ ap (λ (k : ℕ). get_or words k 0) (sym next))))
+]
+
+pub length_zeros : (init : List ℕ) → length (zeros init) ≡ length init
+length_zeros [] = refl
+length_zeros (bits ∷ init) = ap suc (length_zeros init)

@@ -12,6 +12,12 @@ use Rattle.cell_words.specs.Words.{word_of, seen_in}
 use Rattle.cell_words.specs.Histories.{cell_bits, IsUpdate, IsState, is_of, is_at, once_below}
 use Rattle.cell_words.specs.Views.{held, grant_of, joined}
 use Rattle.cell_words.specs.Rule.{Fits, IsKept}
+use Rattle.std.proofs.Common.{All, append_assoc}
+use Rattle.std.proofs.lemmas.List.{map-append}
+use Rattle.std.proofs.Math.ListN.{get_or-append}
+use Rattle.std.proofs.Math.Seq.{get_or-append_seam}
+use Rattle.atomic_table.specs.Seated.{TableId}
+use Rattle.cell_words.specs.Holders.{Passed, views_of}
 use Rattle.cell_words.specs.Closings.{IsHistory, AreBitsOf, Gathers}
 use Rattle.std.proofs.lemmas.List.Elements.{Contains-append_cases, Contains-append_left, Contains-append_right}
 use Rattle.std.proofs.lemmas.List.{length-append}
@@ -111,3 +117,24 @@ gathers_more views all v g deal = record {
     | inr rest ↦ Contains-append_left all.known v.known look (g.known u rest look is)
   ];
 }
+
+-- of passes to one table, those before the last, and the last
+module _ (table : TableId) (rest : List Passed) (pass : Passed) (all : List Passed) (is : all ≡ rest ++ pass ∷ [])
+    (own : All (λ (p : Passed). p.table ≡ table) all) where
+  pub own_rest : All (λ (p : Passed). p.table ≡ table) rest
+  own_rest k d lt =
+      let same = ap (λ (xs : List Passed). get_or xs k d) is ∙ get_or-append rest (pass ∷ []) d k lt in
+      sym (ap (λ (p : Passed). p.table) same)
+      ∙ own k d (omega (arith, lt, ap length is, length-append rest (pass ∷ [])))
+
+  pub own_last : pass.table ≡ table
+  own_last =
+      let same = ap (λ (xs : List Passed). get_or xs (length rest) pass) is
+          ∙ get_or-append_seam rest pass [] pass in
+      sym (ap (λ (p : Passed). p.table) same)
+      ∙ own (length rest) pass (omega (arith, ap length is, length-append rest (pass ∷ [])))
+
+  pub views_last : (done : List View) → views_of rest ++ pass.view ∷ done ≡ views_of all ++ done
+  views_last done = sym (ap (λ (vs : List View). vs ++ done)
+      (ap views_of is ∙ map-append (λ (p : Passed). p.view) rest (pass ∷ []))
+      ∙ append_assoc (views_of rest) (pass.view ∷ []) done)

@@ -5,16 +5,12 @@ use Rattle.std.proofs.lemmas.List.{length-map, get_or-map}
 use mathlib.Core.Option.{some, some-injective, some-ne-none}
 use lib.ListN.{get_elem?}
 use Rattle.cell_words.specs.declared.views.View.{View}
-use Rattle.cell_words.specs.Words.{word_of}
+use Rattle.cell_words.specs.Words.{word_of, words_of}
 use Rattle.cell_words.specs.Histories.{once_below}
 use Rattle.cell_words.specs.Views.{zeros, first_view}
 use Rattle.cell_words.specs.Rule.{Fits, IsKept}
 use Rattle.cell_words.proofs.Keeping.{fresh_fits}
 use Rattle.std.proofs.lemmas.Bool.{le-ltb}
-
--- the words at the start: one that is spare, and then that of each cell without an update
-abbrev pub first_words : List ℕ → List ℕ
-first_words init = 0 ∷ map (λ bits. word_of bits 0) init
 
 low_zero : (init : List ℕ) (cell : ℕ) → get_or (zeros init) cell 0 ≡ 0
 low_zero [] cell = refl
@@ -29,14 +25,14 @@ one_view P v p zero u at = subst P (some-injective v u at) p
 one_view P v p (suc id) u at = absurd (some-ne-none u (sym at))
 
 pub opened : (init shares : List ℕ) → sum shares < 4294967296 →
-    IsKept init shares (first_words init) (first_view init shares ∷ [])
+    IsKept init shares (words_of init) (first_view init shares ∷ [])
 opened init shares small = record {
   left = λ _. [];
   count = omega (arith, length-map init (λ (bits : ℕ). word_of bits 0));
   spare = refl;
   stored = λ cell inside.
       let next : cell + 1 ≡ suc cell = omega arith in
-      ap (λ (k : ℕ). get_or (first_words init) k 0) next
+      ap (λ (k : ℕ). get_or (words_of init) k 0) next
       ∙ get_or-map (λ (bits : ℕ). word_of bits 0) init cell 0 0 inside;
   counts = λ cell. refl;
   places = λ cell place. nothing_below place;

@@ -1,10 +1,10 @@
 -- The cells, and who holds a view of them.
-use Rattle.std.specs.Prelude.{◌≡◌, ◌<◌, ℕ, ◌+◌, List, [], ◌∷◌, length, Contains, Some, None}
+use Rattle.std.specs.Prelude.{◌≡◌, ℕ, ◌+◌, List, ◌∷◌, [], map, length, Contains, Some, None}
 use Rattle.atomic_table.specs.Seated.{TableId}
 use Rattle.call_rules.specs.declared.cells.Cell.{Cell}
 use Rattle.cell_face.specs.Faces.{Face}
 use Rattle.cell_words.specs.declared.views.View.{View}
-use Rattle.cell_words.specs.Views.{held, look}
+use Rattle.cell_words.specs.Views.{held, look, fresh, zeros}
 
 -- the cells: their table, the first bits of each, and the shares that were given out
 pub record SharedCells : Type 0 where
@@ -16,6 +16,14 @@ pub record SharedCells : Type 0 where
 pub record Passed : Type 0 where
   pub table : TableId
   pub view : View
+
+-- a pass that has a share and knows nothing yet
+abbrev pub new_pass : TableId → List ℕ → ℕ → Passed
+new_pass table init share = record { table = table; view = fresh (zeros init) share [] }
+
+-- what the passes know
+abbrev pub views_of : List Passed → List View
+views_of passes = map (λ (pass : Passed). pass.view) passes
 
 -- a seat, and how often an attempt of it came too late
 pub record Seated : Type 0 where

@@ -10,7 +10,6 @@ mod shared_steps;
 mod steps;
 mod views;
 mod words;
-mod trial;
 
 pub use cells::{CellPass, Cells};
 pub use notes::CellNote;

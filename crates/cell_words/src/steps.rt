@@ -7,6 +7,7 @@ use crate::views::View;
 use atomic_table::{Join, Play, Split, TableRule};
 
 /// What the table is told when it is made.
+#[derive(Drop)]
 pub struct Start {
     /// The first bits of each cell.
     pub init: Vec<u32>,
