@@ -1,7 +1,6 @@
 -- Elements of lists.
-use Rattle.std.proofs.Common.{◌≡◌, ◌⊎◌, inl, inr, ℕ, zero, suc, ◌+◌, ◌<◌, ◌≤◌, List, [], ◌∷◌, ◌++◌, length, max}
+use Rattle.std.proofs.Common.{◌≡◌, inl, inr, ℕ, zero, suc, ◌+◌, ◌<◌, ◌≤◌, List, [], ◌∷◌, ◌++◌, length, max}
 use Rattle.std.proofs.Common.{get_or, set, drop, ◌/◌, refl, sym, ap, ◌∙◌, arith, Contains}
-use Rattle.std.proofs.lemmas.List.Elements.{Contains-append_cases, Contains-append_right}
 use Rattle.std.proofs.Math.ListN.{get_or-append}
 use Rattle.std.proofs.Math.Seq.{get_or-append_seam}
 use Rattle.std.proofs.lemmas.List.{length-append}
@@ -18,9 +17,6 @@ module _ {A : Type 0} where
     only_at : (x y : A) (k : ℕ) → k < 1 → get_or (x ∷ []) k y ≡ y → x ≡ y
     only_at x y zero lt is = is
     only_at x y (suc k) lt is = absurd (omega arith)
-
-  pub last_of : (xs : List A) (x : A) → Contains (xs ++ x ∷ []) x
-  last_of xs x = Contains-append_right xs (x ∷ []) x (0, omega arith, refl)
 
   pub of_nothing : (x : A) → Contains [] x → ⊥
   of_nothing x has = omega (arith, has.1)

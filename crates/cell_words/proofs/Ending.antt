@@ -1,6 +1,6 @@
 -- What the rule says once one view has all that was given out, or nothing was.
-use Rattle.std.proofs.Common.{◌≡◌, ◌⊎◌, inl, inr, ℕ, zero, suc, ◌+◌, ◌<◌, ◌≤◌, List, [], ◌∷◌, ◌++◌, length, map, get_or}
-use Rattle.std.proofs.Common.{flat_map, sum, sum_by, count_by, Contains, refl, sym, ap, ◌∙◌, subst, arith, Bool, true, false, ◌&&◌, cond}
+use Rattle.std.proofs.Common.{◌≡◌, inl, inr, ℕ, ◌<◌, ◌≤◌, List, [], ◌∷◌, ◌++◌, length, get_or}
+use Rattle.std.proofs.Common.{sum, sum_by, Contains, sym, ap, ◌∙◌, subst, arith, cond}
 use Rattle.std.proofs.lemmas.List.Sums.{sum_by-cons, sum_by-append, count_by-le-length}
 use mathlib.Core.Option.{some}
 use lib.ListN.{get_elem?}
@@ -8,10 +8,10 @@ use Rattle.call_rules.specs.declared.cells.Cell.{Cell}
 use Rattle.cell_face.specs.Faces.{Update}
 use Rattle.cell_words.specs.declared.views.Look.{Look}
 use Rattle.cell_words.specs.declared.views.View.{View}
-use Rattle.cell_words.specs.Words.{word_of, seen_in}
-use Rattle.cell_words.specs.Histories.{cell_bits, IsUpdate, IsState, is_of, is_at, once_below}
+use Rattle.cell_words.specs.Words.{seen_in}
+use Rattle.cell_words.specs.Histories.{cell_bits, IsUpdate, IsState, is_of, is_at}
 use Rattle.cell_words.specs.Views.{held, grant_of, joined}
-use Rattle.cell_words.specs.Rule.{Fits, IsKept}
+use Rattle.cell_words.specs.Rule.{IsKept}
 use Rattle.std.proofs.Common.{All, append_assoc}
 use Rattle.std.proofs.lemmas.List.{map-append}
 use Rattle.std.proofs.Math.ListN.{get_or-append}
@@ -23,7 +23,7 @@ use Rattle.std.proofs.lemmas.List.Elements.{Contains-append_cases, Contains-appe
 use Rattle.std.proofs.lemmas.List.{length-append}
 use Rattle.cell_words.proofs.Elements.{only, of_nothing}
 use Rattle.cell_words.proofs.WordParts.{seen_again}
-use Rattle.cell_words.proofs.Totals.{total_below, total_alone, total_part}
+use Rattle.cell_words.proofs.Totals.{total_below, total_alone}
 use Rattle.cell_words.proofs.Keeping.{of_cell, at_place}
 
 -- a cell has at most as many updates as were given out
@@ -31,7 +31,7 @@ pub few : (init shares words : List ℕ) (views : List View) (k : IsKept init sh
     length (k.left cell) ≤ sum shares
 few init shares words views k cell =
     let below = total_below (of_cell cell) grant_of
-        (λ u. omega (arith, count_by-le-length (is_of cell) u.made)) views in
+    (λ u. omega (arith, count_by-le-length (is_of cell) u.made)) views in
     omega (arith, below, k.counts cell, k.grants)
 
 module _ (init shares words : List ℕ) (views : List View) (k : IsKept init shares words views) (passes : List View)
@@ -44,7 +44,7 @@ module _ (init shares words : List ℕ) (views : List View) (k : IsKept init sha
   final cell inside =
       let n = length (k.left cell) in
       let small : length (k.left cell) < 4294967296 =
-          omega (arith, few init shares words views k cell, k.small) in
+      omega (arith, few init shares words views k cell, k.small) in
       are.bits cell (omega (arith, are.cells, k.count))
       ∙ (ap (λ (word : ℕ). (seen_in word).bits) (k.stored cell inside)
       ∙ ap (λ (seen : Cell). seen.bits) (seen_again (cell_bits init k.left cell n) n small))
@@ -70,10 +70,10 @@ ended init shares words views k id all at passes g whole finals are =
     let fits = k.fits id all at in
     history init shares words views k passes
     (λ cell. total_alone (of_cell cell) grant_of (λ u. omega (arith, count_by-le-length (is_of cell) u.made)) views id
-        all at most ∙ sym (g.weights (λ u. cond (is_of cell u) 1 0)))
+    all at most ∙ sym (g.weights (λ u. cond (is_of cell u) 1 0)))
     (λ cell place. total_alone (at_place cell place) grant_of
-        (λ u. omega (arith, count_by-le-length (is_at cell place) u.made)) views id all at most
-        ∙ sym (g.weights (λ u. cond (is_at cell place u) 1 0)))
+    (λ u. omega (arith, count_by-le-length (is_at cell place) u.made)) views id all at most
+    ∙ sym (g.weights (λ u. cond (is_at cell place u) 1 0)))
     (λ v has update is. fits.made update (g.made v has update is))
     (λ v has look is. fits.known look (g.known v has look is)) finals are
 
@@ -83,10 +83,10 @@ pub ended_empty : (init shares words : List ℕ) (views : List View) (k : IsKept
 ended_empty init shares words views k none finals are =
     history init shares words views k []
     (λ cell. let below = total_below (of_cell cell) grant_of
-        (λ u. omega (arith, count_by-le-length (is_of cell) u.made)) views in omega (arith, below, k.grants, none))
+    (λ u. omega (arith, count_by-le-length (is_of cell) u.made)) views in omega (arith, below, k.grants, none))
     (λ cell place. let below = total_below (at_place cell place) grant_of
-        (λ u. omega (arith, count_by-le-length (is_at cell place) u.made)) views in
-        omega (arith, below, k.grants, none))
+    (λ u. omega (arith, count_by-le-length (is_at cell place) u.made)) views in
+    omega (arith, below, k.grants, none))
     (λ v has. absurd (of_nothing v has)) (λ v has. absurd (of_nothing v has)) finals are
 
 -- one view, and one more
@@ -102,8 +102,12 @@ gathers_one v deal = record {
 pub gathers_more : (views : List View) (all v : View) → Gathers views all → v.deal ≡ [] →
     Gathers (v ∷ views) (joined all v)
 gathers_more views all v g deal = record {
-  weights = λ weight. omega (arith, sum_by-cons (λ (u : View). sum_by weight u.made) v views, g.weights weight,
-      sum_by-append weight all.made v.made);
+  weights = λ weight. omega (
+    arith,
+    sum_by-cons (λ (u : View). sum_by weight u.made) v views,
+    g.weights weight,
+    sum_by-append weight all.made v.made,
+  );
   held = omega (arith, sum_by-cons held v views, g.held, length-append all.made v.made);
   deal = rw g.deal deal;
   made = λ u has update is. elim (Contains-append_cases (v ∷ []) views u has) [
@@ -130,7 +134,7 @@ module _ (table : TableId) (rest : List Passed) (pass : Passed) (all : List Pass
   pub own_last : pass.table ≡ table
   own_last =
       let same = ap (λ (xs : List Passed). get_or xs (length rest) pass) is
-          ∙ get_or-append_seam rest pass [] pass in
+      ∙ get_or-append_seam rest pass [] pass in
       sym (ap (λ (p : Passed). p.table) same)
       ∙ own (length rest) pass (omega (arith, ap length is, length-append rest (pass ∷ [])))
 

@@ -1,25 +1,21 @@
 -- The rule is kept where views change and no update is made.
-use Rattle.std.proofs.Common.{◌≡◌, ◌⊎◌, inl, inr, ℕ, zero, suc, ◌+◌, ◌<◌, ◌≤◌, List, [], ◌∷◌, ◌++◌, length, max}
-use Rattle.std.proofs.Common.{get_or, set, refl, sym, ap, ◌∙◌, subst, arith, sum, sum_by, count_by, Contains}
+use Rattle.std.proofs.Common.{◌≡◌, inl, inr, ℕ, ◌+◌, ◌<◌, ◌≤◌, List, [], ◌∷◌, ◌++◌, length}
+use Rattle.std.proofs.Common.{get_or, set, refl, sym, ap, ◌∙◌, subst, arith, sum, sum_by, count_by}
 use Rattle.std.proofs.lemmas.List.Sums.{sum_by_push, sum_by-append, sum_by-cons}
 use Rattle.std.proofs.lemmas.List.Elements.{Contains-append_cases}
-use Rattle.std.proofs.lemmas.List.{set-get_or, length-append}
+use Rattle.std.proofs.lemmas.List.{length-append}
 use mathlib.Core.Option.{some}
 use lib.ListN.{get_elem?}
-use Rattle.atomic_table.proofs.Lists.{at_set, at_snoc, set_again, set_here, set_else}
+use Rattle.atomic_table.proofs.Lists.{at_set, at_snoc}
 use Rattle.call_rules.specs.declared.cells.Cell.{Cell}
-use Rattle.cell_face.specs.Faces.{Update}
-use Rattle.cell_face.specs.Fronts.{greater}
 use Rattle.cell_words.specs.declared.views.Look.{Look}
 use Rattle.cell_words.specs.declared.views.View.{View}
-use Rattle.cell_words.specs.Words.{seen_in}
-use Rattle.cell_words.specs.Histories.{cell_bits, IsUpdate, IsState, is_of, is_at}
-use Rattle.cell_words.specs.Views.{look, held, grant_of, fresh, bare, spent, head, tail, without_next, next_dealt, joined}
+use Rattle.cell_words.specs.Histories.{IsState, is_of, is_at}
+use Rattle.cell_words.specs.Views.{look, grant_of, fresh, bare, spent, head, tail, without_next, next_dealt, joined}
 use Rattle.cell_words.specs.Views.{with_look}
 use Rattle.cell_words.specs.Rule.{Fits, IsKept}
 use Rattle.cell_words.proofs.Totals.{total_set, total_same}
 use Rattle.cell_words.proofs.Elements.{only, of_nothing, low_set, low_greater}
-use Rattle.cell_words.proofs.WordParts.{seen_again}
 
 -- the numbers by which the rule weighs views
 abbrev pub of_cell : ℕ → View → ℕ
@@ -127,15 +123,21 @@ module _ (init shares words : List ℕ) (views : List View) (k : IsKept init sha
   pub cut : (w new : View) → w.made ≡ v.made → new.made ≡ [] → grant_of w + grant_of new ≡ grant_of v →
       Fits init k.left w → Fits init k.left new → IsKept init shares words (set views id w ++ new ∷ [])
   cut w new made none grant fits fits_new = rearranged init shares words views (set views id w ++ new ∷ []) k
-      (λ cell. omega (arith, sum_by_push (of_cell cell) (set views id w) new,
-          total_same (of_cell cell) views id v w at (ap (count_by (is_of cell)) made),
-          ap (count_by (is_of cell)) none))
-      (λ cell place. omega (arith, sum_by_push (at_place cell place) (set views id w) new,
-          total_same (at_place cell place) views id v w at (ap (count_by (is_at cell place)) made),
-          ap (count_by (is_at cell place)) none))
+      (λ cell. omega (
+        arith,
+        sum_by_push (of_cell cell) (set views id w) new,
+        total_same (of_cell cell) views id v w at (ap (count_by (is_of cell)) made),
+        ap (count_by (is_of cell)) none,
+      ))
+      (λ cell place. omega (
+        arith,
+        sum_by_push (at_place cell place) (set views id w) new,
+        total_same (at_place cell place) views id v w at (ap (count_by (is_at cell place)) made),
+        ap (count_by (is_at cell place)) none,
+      ))
       (omega (arith, sum_by_push grant_of (set views id w) new, total_set grant_of views id v w at, grant))
       (fits_push init shares words k.left (set views id w) new
-          (fits_set init shares words k.left views id w k.fits fits) fits_new)
+      (fits_set init shares words k.left views id w k.fits fits) fits_new)
 
   -- a note is taken
   pub noted : IsKept init shares words (set views id v ++ bare v.lows ∷ [])
@@ -159,8 +161,13 @@ module _ (init shares words : List ℕ) (views : List View) (k : IsKept init sha
       (there : get_elem? (set views id (joined v w)) other ≡ some w) where
     weighs : (f : View → ℕ) → f (joined v w) ≡ f v + f w → f spent ≡ 0 →
         sum_by f (set (set views id (joined v w)) other spent) ≡ sum_by f views
-    weighs f both none = omega (arith, both, none, total_set f views id v (joined v w) at,
-        total_set f (set views id (joined v w)) other w spent there)
+    weighs f both none = omega (
+      arith,
+      both,
+      none,
+      total_set f views id v (joined v w) at,
+      total_set f (set views id (joined v w)) other w spent there,
+    )
 
     their_fit : Fits init k.left w
     their_fit = elim (at_set views id other (joined v w) w there) [
@@ -174,6 +181,6 @@ module _ (init shares words : List ℕ) (views : List View) (k : IsKept init sha
         (λ cell place. weighs (at_place cell place) (sum_by-append _ v.made w.made) refl)
         (weighs grant_of (omega (arith, length-append v.made w.made, sum_by-append (λ x. x) v.deal w.deal)) refl)
         (fits_set init shares words k.left (set views id (joined v w)) other spent
-            (fits_set init shares words k.left views id (joined v w) k.fits
-                (join_fits init k.left v w (k.fits id v at) their_fit))
-            (fresh_fits init k.left [] 0 [] (λ cell inside. omega arith)))
+        (fits_set init shares words k.left views id (joined v w) k.fits
+        (join_fits init k.left v w (k.fits id v at) their_fit))
+        (fresh_fits init k.left [] 0 [] (λ cell inside. omega arith)))

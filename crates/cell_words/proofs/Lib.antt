@@ -1,3 +1,4 @@
+-- That each step keeps the rule of the cells, and what the rule says at the end.
 mod Totals
 mod Elements
 mod Growth
@@ -8,3 +9,4 @@ mod Opening
 mod Ending
 mod StepsKept
 mod SeatFaces
+pub mod Names

@@ -1,24 +1,21 @@
 -- Each step on a cell's word keeps the rule, and tells what it tells.
-use Rattle.std.proofs.Common.{◌≡◌, ◌≢◌, ◌⊎◌, inl, inr, ℕ, zero, suc, ◌+◌, ◌-◌, ◌*◌, ◌/◌, ◌%◌, ◌^◌, ◌<◌, ◌≤◌, List, [], ◌∷◌, ◌++◌}
-use Rattle.std.proofs.Common.{length, get_or, set, refl, sym, ap, ◌∙◌, subst, arith, sum, sum_by, count_by, Contains, eqb}
-use Rattle.std.proofs.lemmas.Bool.{cases_eq}
+use Rattle.std.proofs.Common.{◌≡◌, ℕ, ◌+◌, ◌-◌, ◌/◌, ◌%◌, ◌^◌, ◌<◌, ◌≤◌, List}
+use Rattle.std.proofs.Common.{length, get_or, set, refl, sym, ap, ◌∙◌, subst, arith, Contains, eqb}
 use Rattle.std.proofs.lemmas.List.{set-get_or}
 use mathlib.Core.Option.{some, none}
 use lib.ListN.{get_elem?}
 use prog.Atomic.{either}
-use Rattle.atomic_table.specs.Table.{State, Me, Step, Act, step, keeps, Valid, stepped, carried_after}
+use Rattle.atomic_table.specs.Table.{State, Me, Act, step, keeps, Valid, stepped, carried_after}
 use Rattle.atomic_table.specs.Table.{Allows, Splits, Joins}
 use Rattle.atomic_table.proofs.Lists.{exchanged}
 use Rattle.call_rules.specs.declared.cells.Cell.{Cell}
-use Rattle.cell_face.specs.Faces.{Update}
-use Rattle.cell_words.specs.declared.views.Look.{Look}
 use Rattle.cell_words.specs.declared.views.View.{View}
 use Rattle.cell_words.specs.Words.{word_of, seen_in}
-use Rattle.cell_words.specs.Histories.{cell_bits, IsUpdate, IsState}
+use Rattle.cell_words.specs.Histories.{cell_bits, IsState}
 use Rattle.cell_words.specs.Views.{look, bare, spent, without_next, next_dealt, joined, with_look, with_update}
-use Rattle.cell_words.specs.Rule.{Fits, IsKept}
+use Rattle.cell_words.specs.Rule.{IsKept}
 use Rattle.cell_words.specs.Steps.{Looked, Added, Attempted}
-use Rattle.cell_words.proofs.WordParts.{seen_again, word_again, word_added}
+use Rattle.cell_words.proofs.WordParts.{seen_again, word_added}
 use Rattle.cell_words.proofs.Keeping.{noted, dealt, looked, taken_in}
 use Rattle.cell_words.proofs.Updating.{room, updated}
 use Rattle.cell_words.proofs.Ending.{few}
@@ -72,7 +69,7 @@ module _ (init shares words : List ℕ) (views : List View) (k : IsKept init sha
       let done = updated init shares words views k id v at (word - 1) share inside bits in
       subst (λ (seen : Cell). IsKept init shares (set words word new) (set views id (with_update v (word - 1) seen bits)))
       (sym seen_here) (rw is (subst (λ (i : ℕ). IsKept init shares (set words i (word_of bits (here + 1)))
-          (set views id (with_update v (word - 1) (record { bits = bits_here; place = here }) bits))) back done))
+      (set views id (with_update v (word - 1) (record { bits = bits_here; place = here }) bits))) back done))
 
 pub looks : (init shares : List ℕ) (slots id word : ℕ) (me : Knower) → 1 ≤ word → word - 1 < length init →
     Allows (Kept init shares) slots id me word (λ n. n) (Looked (step slots word 0 0 none) me)
@@ -98,12 +95,12 @@ adds init shares slots id word x me first inside share fits s k _ at full =
     let sum = ((seen_in found).bits + word_of x 1 / 4294967296) % 4294967296 in
     let bits = cell_bits init k.left (word - 1) here in
     let sum_is : ((seen_in found).bits + word_of x 1 / 4294967296) % 4294967296 ≡ (bits + x) % 4294967296 =
-        ap (λ (c : Cell). (c.bits + word_of x 1 / 4294967296) % 4294967296) seen
-        ∙ ap (λ (y : ℕ). (bits + y) % 4294967296) operand in
+    ap (λ (c : Cell). (c.bits + word_of x 1 / 4294967296) % 4294967296) seen
+    ∙ ap (λ (y : ℕ). (bits + y) % 4294967296) operand in
     let made : (found + word_of x 1) % 18446744073709551616 ≡ word_of sum (here + 1) =
-        ap (λ (n : ℕ). (n + word_of x 1) % 18446744073709551616) is
-        ∙ (word_added bits here x (subst (λ (n : ℕ). n < 18446744073709551616) is full) more fits
-        ∙ sym (ap (λ (b : ℕ). word_of b (here + 1)) sum_is)) in (
+    ap (λ (n : ℕ). (n + word_of x 1) % 18446744073709551616) is
+    ∙ (word_added bits here x (subst (λ (n : ℕ). n < 18446744073709551616) is full) more fits
+    ∙ sym (ap (λ (b : ℕ). word_of b (here + 1)) sum_is)) in (
       with_update v (word - 1) (seen_in found) sum,
       keeps,
       tt,
@@ -131,37 +128,37 @@ attempts init shares slots id word bits new me expected first inside share knows
     let asked : seen_in old ≡ expected = seen_again expected.bits expected.place fits in
     exchanged found old new
     (λ n. (w : View) × (a : Act (Unit {0})) × Valid s.homes me.1 a × Kept init shares (stepped s word n id me.1 w a)
-        × Attempted (step slots word old new none) me found (w, carried_after me.1 a))
+    × Attempted (step slots word old new none) me found (w, carried_after me.1 a))
     (λ hit.
-        let place : expected.place ≡ here = ap (λ (c : Cell). c.place) (sym asked ∙ (ap seen_in (sym hit) ∙ seen)) in
-        let write = writes (omega (arith, place, more)) in (
-          with_update v (word - 1) (seen_in found) (new / 4294967296),
-          keeps,
-          tt,
-          kept_update init shares s.words s.views k word first inside id v at share (new / 4294967296) new
-              (write.0 ∙ (ap (λ (b : ℕ). word_of b (expected.place + 1)) (sym write.1)
-              ∙ ap (λ (p : ℕ). word_of (new / 4294967296) (p + 1)) place)),
-          (
-            (λ _. (refl, omega (arith, ap (λ (c : Cell). c.place) seen, more))),
-            (λ miss. absurd (miss hit)),
-            low,
-          ),
-        ))
+    let place : expected.place ≡ here = ap (λ (c : Cell). c.place) (sym asked ∙ (ap seen_in (sym hit) ∙ seen)) in
+    let write = writes (omega (arith, place, more)) in (
+      with_update v (word - 1) (seen_in found) (new / 4294967296),
+      keeps,
+      tt,
+      kept_update init shares s.words s.views k word first inside id v at share (new / 4294967296) new
+          (write.0 ∙ (ap (λ (b : ℕ). word_of b (expected.place + 1)) (sym write.1)
+          ∙ ap (λ (p : ℕ). word_of (new / 4294967296) (p + 1)) place)),
+      (
+        (λ _. (refl, omega (arith, ap (λ (c : Cell). c.place) seen, more))),
+        (λ miss. absurd (miss hit)),
+        low,
+      ),
+    ))
     (λ miss.
-        let differ : expected.place ≡ here → ⊥ = λ same. miss (is ∙ (ap (λ (b : ℕ). word_of b here)
-            (ap (λ (p : ℕ). cell_bits init k.left (word - 1) p) (sym same) ∙ sym state.bits)
-            ∙ ap (λ (p : ℕ). word_of expected.bits p) (sym same))) in
-        let later : (seen_in old).place < (seen_in found).place =
-            omega (arith, ap (λ (c : Cell). c.place) asked, ap (λ (c : Cell). c.place) seen, state.place, differ) in (
-          with_look v (word - 1) (seen_in found),
-          keeps,
-          tt,
-          subst (λ (ws : List ℕ). IsKept init shares ws (set s.views id (with_look v (word - 1) (seen_in found))))
-              (sym (set-get_or s.words word 0))
-              (looked init shares s.words s.views k id v at (word - 1) (seen_in found)
-                  (is_state init shares s.words s.views k word first inside)),
-          ((λ hit. absurd (miss hit)), (λ _. (refl, later)), low),
-        ))
+    let differ : expected.place ≡ here → ⊥ = λ same. miss (is ∙ (ap (λ (b : ℕ). word_of b here)
+    (ap (λ (p : ℕ). cell_bits init k.left (word - 1) p) (sym same) ∙ sym state.bits)
+    ∙ ap (λ (p : ℕ). word_of expected.bits p) (sym same))) in
+    let later : (seen_in old).place < (seen_in found).place =
+    omega (arith, ap (λ (c : Cell). c.place) asked, ap (λ (c : Cell). c.place) seen, state.place, differ) in (
+      with_look v (word - 1) (seen_in found),
+      keeps,
+      tt,
+      subst (λ (ws : List ℕ). IsKept init shares ws (set s.views id (with_look v (word - 1) (seen_in found))))
+          (sym (set-get_or s.words word 0))
+          (looked init shares s.words s.views k id v at (word - 1) (seen_in found)
+          (is_state init shares s.words s.views k word first inside)),
+      ((λ hit. absurd (miss hit)), (λ _. (refl, later)), low),
+    ))
 
 module _ (init shares : List ℕ) (id : ℕ) (v : View) where
   pub notes : Splits (Kept init shares) id v v (bare v.lows)

@@ -51,5 +51,10 @@ module _ {V : Type 0} where
   -- two totals are the total of both
   pub total_both : (f g : V → ℕ) (views : List V) → sum_by (λ v. f v + g v) views ≡ sum_by f views + sum_by g views
   total_both f g [] = refl
-  total_both f g (x ∷ xs) = omega (arith, total_both f g xs, sum_by-cons f x xs, sum_by-cons g x xs,
-      sum_by-cons (λ v. f v + g v) x xs)
+  total_both f g (x ∷ xs) = omega (
+    arith,
+    total_both f g xs,
+    sum_by-cons f x xs,
+    sum_by-cons g x xs,
+    sum_by-cons (λ v. f v + g v) x xs,
+  )

@@ -1,9 +1,9 @@
 -- The rule is kept where an update of a cell is made.
-use Rattle.std.proofs.Common.{◌≡◌, ◌⊎◌, inl, inr, ℕ, zero, suc, ◌+◌, ◌-◌, ◌<◌, ◌≤◌, Bool, true, false, ◌&&◌, cond}
-use Rattle.std.proofs.Common.{List, [], ◌∷◌, ◌++◌, length, get_or, set, refl, sym, ap, ◌∙◌, subst, arith}
-use Rattle.std.proofs.Common.{sum, sum_by, count_by, Contains}
-use Rattle.std.proofs.Math.Dec.{eqb, ltb}
-use Rattle.std.proofs.lemmas.Bool.{cases_eq, cases_lt, eq-eqb, ne_eqb, lt-ltb, le-ltb, and_left, and_right, and_from}
+use Rattle.std.proofs.Common.{◌≡◌, inl, inr, ℕ, ◌+◌, ◌<◌, ◌≤◌, Bool, ◌&&◌, cond}
+use Rattle.std.proofs.Common.{List, [], ◌∷◌, length, get_or, set, refl, sym, ap, ◌∙◌, subst, arith}
+use Rattle.std.proofs.Common.{sum_by}
+use Rattle.std.proofs.Math.Dec.{eqb}
+use Rattle.std.proofs.lemmas.Bool.{cases_eq, cases_lt, eq-eqb, ne_eqb, lt-ltb, le-ltb}
 use Rattle.std.proofs.lemmas.List.Sums.{sum_by_push, count_by-le-length}
 use Rattle.std.proofs.lemmas.List.Elements.{Contains-append_cases}
 use Rattle.std.proofs.lemmas.List.{length-append, length-set, get_or-set_same, get_or-set_other}
@@ -63,7 +63,7 @@ module _ (init shares words : List ℕ) (views : List View) (k : IsKept init sha
   pub room : length (k.left cell) + 1 < 4294967296
   room =
       let below = total_below (λ (u : View). of_cell cell u + u.share) grant_of
-          (λ u. omega (arith, count_by-le-length (is_of cell) u.made)) views in
+      (λ u. omega (arith, count_by-le-length (is_of cell) u.made)) views in
       let both = total_both (of_cell cell) (λ (u : View). u.share) views in
       let part = total_part (λ (u : View). u.share) views id v at in
       omega (arith, below, both, part, k.counts cell, k.grants, k.small, share)
@@ -136,14 +136,14 @@ module _ (init shares words : List ℕ) (views : List View) (k : IsKept init sha
         elim (cases_eq other cell) [
           | inl same ↦
               let len : length (more other) ≡ length (k.left other) + 1 =
-                  rw same (longer_here k.left more cell bits g) in
+              rw same (longer_here k.left more cell bits g) in
               let mine : one_if (eqb cell other && eqb count place) ≡ one_if (eqb (length (k.left other)) place) =
-                  rw same (rw (eq-eqb cell cell refl) refl) in
+              rw same (rw (eq-eqb cell cell refl) refl) in
               rw len (omega (arith, total, one, old, mine, next_place (length (k.left other)) place))
           | inr differ ↦
               let len : length (more other) ≡ length (k.left other) = ap length (g.others other differ) in
               let none : one_if (eqb cell other && eqb count place) ≡ 0 =
-                  rw (ne_eqb cell other (λ e. differ (sym e))) refl in
+              rw (ne_eqb cell other (λ e. differ (sym e))) refl in
               rw len (omega (arith, total, one, old, none))
         ]
 
@@ -158,7 +158,7 @@ module _ (init shares words : List ℕ) (views : List View) (k : IsKept init sha
       | inr differ ↦ get_or-set_other words (cell + 1) (other + 1) word 0 (λ e. differ (omega arith))
           ∙ (k.stored other within
           ∙ sym (ap (λ (xs : List ℕ). word_of (get_or (get_or init other 0 ∷ xs) (length xs) 0) (length xs))
-              (g.others other differ)))
+          (g.others other differ)))
     ]
 
     -- the histories with one update more

@@ -1,6 +1,5 @@
 -- The two halves of a word, and what a step adds to them.
-use Rattle.std.proofs.Common.{◌≡◌, ℕ, ◌+◌, ◌*◌, ◌/◌, ◌%◌, ◌<◌, arith, sym}
-use Rattle.call_rules.specs.declared.cells.Cell.{Cell}
+use Rattle.std.proofs.Common.{◌≡◌, ℕ, ◌+◌, ◌*◌, ◌/◌, ◌%◌, ◌<◌, arith}
 use Rattle.cell_words.specs.Words.{word_of, seen_in}
 
 -- what was put into a word is found there
@@ -10,10 +9,6 @@ seen_again bits place fits =
     let high : (bits * 4294967296 + place) / 4294967296 ≡ bits = omega arith in
     let low : (bits * 4294967296 + place) % 4294967296 ≡ place = omega arith in
     λ i. record { bits = high i; place = low i }
-
--- a word is made of its halves
-pub word_again : (word : ℕ) → word_of (seen_in word).bits (seen_in word).place ≡ word
-word_again word = omega arith
 
 -- adding a number in the high half and 1 in the low half adds it to the bits, and 1 to the place
 pub word_added : (bits place x : ℕ) → word_of bits place < 18446744073709551616 → place + 1 < 4294967296 →

@@ -30,8 +30,8 @@ Added step before found after =
 abbrev pub Attempted : Step (Unit {0}) → Me (Unit {0}) View → ℕ → Me (Unit {0}) View → Type 0
 Attempted step before found after =
     (found ≡ step.first →
-        (after ≡ (with_update before.0 (cell_of step) (seen_in found) (step.second / 2 ^ 32), before.1))
-        × ((seen_in found).place + 1 < 2 ^ 32))
+    (after ≡ (with_update before.0 (cell_of step) (seen_in found) (step.second / 2 ^ 32), before.1))
+    × ((seen_in found).place + 1 < 2 ^ 32))
     × (found ≢ step.first → (after ≡ (with_look before.0 (cell_of step) (seen_in found), before.1))
-        × ((seen_in step.first).place < (seen_in found).place))
+    × ((seen_in step.first).place < (seen_in found).place))
     × NotBelow (cell_of step) before.0 found

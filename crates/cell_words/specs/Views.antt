@@ -1,7 +1,6 @@
 -- What seats know, and what each step makes of that.
 use Rattle.std.specs.Prelude.{ℕ, ◌+◌, ◌-◌, List, [], ◌∷◌, ◌++◌, length, map, sum, slice_set}
 use Rattle.call_rules.specs.declared.cells.Cell.{Cell}
-use Rattle.cell_face.specs.Faces.{Update}
 use Rattle.cell_face.specs.Fronts.{greater}
 use Rattle.cell_words.specs.declared.views.Look.{Look}
 use Rattle.cell_words.specs.declared.views.View.{View}
@@ -48,7 +47,12 @@ head (share ∷ shares) = share
 -- the seat after the next share was dealt
 abbrev pub without_next : View → View
 without_next view = record {
-  lows = view.lows; made = view.made; known = view.known; share = view.share; deal = tail view.deal }
+  lows = view.lows;
+  made = view.made;
+  known = view.known;
+  share = view.share;
+  deal = tail view.deal;
+}
 
 -- the new seat, with that share
 abbrev pub next_dealt : View → View

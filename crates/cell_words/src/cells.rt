@@ -30,7 +30,10 @@ impl Model for Cells {
     ghost Value = { SharedCells };
 
     ghost view = { λ cells. let shared = cells.table.shared in record {
-        table = shared.table_id; init = shared.key.init.items; shares = shared.key.shares.items } };
+      table = shared.table_id;
+      init = shared.key.init.items;
+      shares = shared.key.shares.items;
+    } };
 
     ghost invariant = { λ cells. let shared = cells.table.shared in
         (shared.table_id.words ≡ length shared.key.init.items + 1) × (shared.table_id.slots ≡ 0) };
@@ -111,8 +114,7 @@ impl Cells {
             init: Vec::from_slice(alloc, init).map_err(|_| NoMemory)?,
             shares: Vec::from_slice(alloc, shares).map_err(|_| NoMemory)?,
         };
-        let (table, root) = Table::of_words(alloc, words.as_slice(), &start)
-            .map_err(|_| NoMemory)?;
+        let (table, root) = Table::of_words(alloc, words.as_slice(), &start).map_err(|_| NoMemory)?;
         let cells = Cells { table };
         let passes = cells.deal_all(alloc, root, shares)?;
         Ok((cells, passes))

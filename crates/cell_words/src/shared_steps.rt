@@ -35,8 +35,7 @@ impl Cells {
         ensures not_below { slice_index seat.old.me.0.lows cell ≤ result.place }
     {
         seen(
-            self
-                .table
+            self.table
                 .shared
                 .fetch_add::<Adds>(seat, cell as usize + 1, word(x, 1)),
         )

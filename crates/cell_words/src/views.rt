@@ -5,10 +5,10 @@ use std::marker::Model;
 
 /// One update of a cell: its place, and the bits before and after it.
 pub struct Made {
-    cell: u32,
-    place: u32,
-    before: u32,
-    after: u32,
+    pub cell: u32,
+    pub place: u32,
+    pub before: u32,
+    pub after: u32,
 }
 
 impl Model for Made {

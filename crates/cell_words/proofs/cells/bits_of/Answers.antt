@@ -1,4 +1,4 @@
-use Rattle.std.proofs.Common.{rules, ◌≡◌, ap, ◌∙◌, arith, [], ◌∷◌, ◌++◌, length-append}
+use Rattle.std.proofs.Common.{rules, ◌≡◌, ap, arith, [], ◌∷◌, ◌++◌, length-append}
 use Rattle.call_rules.specs.declared.cells.Cell.{Cell}
 use Rattle.std.specs.Mem.Slots.{slots_items}
 use Rattle.cell_words.proofs.Elements.{read_at, more_bits}

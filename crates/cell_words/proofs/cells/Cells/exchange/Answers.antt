@@ -15,6 +15,8 @@ compare_exchange-found-requires c =
       rw c.word-old.ensures (attempts _ _ _ seat.id (c.args.cell + 1) c.args.new _ seat.me c.args.expected (omega arith)
           (omega (arith, c.requires.cell, words, c.self.invariant.0)) c.requires.share
           (subst (λ (n : ℕ). Contains seat.me.0.known (look n c.args.expected)) cell c.requires.expected)
-          (λ small. (omega (arith, c.word-next.ensures, c.ranges.new, small),
-              omega (arith, c.word-next.ensures, c.ranges.new, small)))),
+          (λ small. (
+            omega (arith, c.word-next.ensures, c.ranges.new, small),
+            omega (arith, c.word-next.ensures, c.ranges.new, small),
+          ))),
     )

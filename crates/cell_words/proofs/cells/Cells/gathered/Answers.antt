@@ -39,7 +39,7 @@ loop-pass-preserved c =
     let all = c.loop-pass.all.me.0 in
     let seat = c.into_seat.ensures in
     let now : c.take_in.new.seat.me.0 ≡ joined all pass.view =
-        ap (λ (m : Me (Unit {0}) View). m.0) c.take_in.ensures.view ∙ (λ i. joined all (seat.view i).0) in record {
+    ap (λ (m : Me (Unit {0}) View). m.0) c.take_in.ensures.view ∙ (λ i. joined all (seat.view i).0) in record {
       table = c.take_in.ensures.table ∙ before.table;
       free = ap (λ (m : Me (Unit {0}) View). m.1) c.take_in.ensures.view ∙ before.free;
       own = own_rest table rest pass left is before.own;

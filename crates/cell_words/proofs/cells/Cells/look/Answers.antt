@@ -1,4 +1,4 @@
-use Rattle.std.proofs.Common.{ap, sym, ◌∙◌, ◌+◌, arith, ℕ}
+use Rattle.std.proofs.Common.{ap, sym, ◌∙◌, ◌+◌, arith}
 use Rattle.cell_words.specs.Holders.{SharedCells}
 use Rattle.cell_words.proofs.StepsKept.{looks}
 use Rattle.cell_words.proofs.cells.Cells.look.Goals as goal

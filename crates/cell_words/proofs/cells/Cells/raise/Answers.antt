@@ -1,7 +1,5 @@
-use Rattle.std.proofs.Common.{ap, sym, ◌∙◌, ◌+◌, arith, ℕ, subst}
-use Rattle.atomic_table.specs.Table.{Allows, step}
+use Rattle.std.proofs.Common.{ap, sym, ◌∙◌, ◌+◌, arith}
 use Rattle.cell_words.specs.Holders.{SharedCells}
-use Rattle.cell_words.specs.Steps.{Added}
 use Rattle.cell_words.proofs.StepsKept.{adds}
 use Rattle.cell_words.proofs.cells.Cells.raise.Goals as goal
 
