@@ -1,6 +1,7 @@
 //! Sums that four threads make in one cell.
-ghost use Rattle.std.specs.Prelude.{◌≡◌, ◌<◌, length};
-ghost use Rattle.cell_words.specs.Views.{held};
+ghost use Rattle.std.specs.Prelude.{◌≡◌, ◌++◌, [], ◌∷◌, IfOk};
+ghost use Rattle.std.specs.Thread.{IsSync};
+ghost use Rattle.thread_tests.specs.Ready.{IsReady};
 
 use cell_face::Memory;
 use cell_words::{CellPass, Cells};
@@ -9,39 +10,73 @@ use std::alloc::Global;
 use std::test::Fail;
 use std::thread::{Threads, join};
 
-/// Adds `x` to a cell as often as the share allows, at most 100 times.
-fn add_all(cells: &Cells, pass: CellPass, cell: u32, x: u32) -> CellPass
-    requires table { pass.table ≡ cells.now.table }
-    requires cell { cell < length pass.view.lows }
-    ensures table { result.table ≡ pass.table }
-    ensures held { held result.view ≡ held pass.view }
+/// Adds `x` to the first cell as often as the share allows, at most 100 times.
+fn add_all(cells: &Cells, pass: CellPass, x: u32) -> CellPass
+    requires { IsReady cells.now.table 100 0 pass }
+    ensures { IsReady cells.now.table 100 0 result }
 {
     let mut seat = cells.seat(pass);
     for _ in 0..100 {
         if seat.share() > 0 {
-            seat.add(cell, x);
+            seat.add(0, x);
         }
     }
     seat.into_pass()
 }
 
-/// Four threads add 1, 2, 3 and 4 to one cell, each 100 times.
+/// Two threads add to the first cell.
+fn both<R: Threads + Sync>(
+    rt: &R,
+    cells: &Cells,
+    a: (CellPass, u32),
+    b: (CellPass, u32),
+) -> (CellPass, CellPass)
+    requires a { IsReady cells.now.table 100 0 a.0 }
+    requires b { IsReady cells.now.table 100 0 b.0 }
+    ensures a { IsReady cells.now.table 100 0 result.0 }
+    ensures b { IsReady cells.now.table 100 0 result.1 }
+{
+    let (a, x) = a;
+    let (b, y) = b;
+    join(
+        rt,
+        || -> CellPass
+            requires { IsReady cells.now.table 100 0 a }
+            ensures { IsReady cells.entry.now.table 100 0 result }
+        { add_all(cells, a, x) },
+        || -> CellPass
+            requires { IsReady cells.now.table 100 0 b }
+            ensures { IsReady cells.entry.now.table 100 0 result }
+        { add_all(cells, b, y) },
+    )
+}
+
+fn last(passes: &mut Vec<CellPass>) -> Result<CellPass, NoMemory>
+    ensures { IfOk result (λ pass. passes.old.items ≡ passes.new.items ++ pass ∷ []) }
+{
+    passes.pop().ok_or(NoMemory)
+}
+
+/// Four threads add 1, 2, 3 and 4 to the first cell, each 100 times.
 fn sums<R: Threads + Sync>(rt: &R, alloc: Global) -> Result<Vec<u32>, NoMemory> {
     let (cells, mut passes) = Cells::new(alloc, &[5, 7], &[100, 100, 100, 100])?;
-    let d = passes.pop().ok_or(NoMemory)?;
-    let c = passes.pop().ok_or(NoMemory)?;
-    let b = passes.pop().ok_or(NoMemory)?;
-    let a = passes.pop().ok_or(NoMemory)?;
+    let d = last(&mut passes)?;
+    let c = last(&mut passes)?;
+    let b = last(&mut passes)?;
+    let a = last(&mut passes)?;
     let ((a, b), (c, d)) = join(
         rt,
-        || join(rt, || add_all(&cells, a, 0, 1), || add_all(&cells, b, 0, 2)),
-        || join(rt, || add_all(&cells, c, 0, 3), || add_all(&cells, d, 0, 4)),
+        || -> (CellPass, CellPass)
+            requires { IsSync R.row × IsReady cells.table 100 0 a × IsReady cells.table 100 0 b }
+            ensures { IsReady cells.table 100 0 result.0 × IsReady cells.table 100 0 result.1 }
+        { both(rt, &cells, (a, 1), (b, 2)) },
+        || -> (CellPass, CellPass)
+            requires { IsSync R.row × IsReady cells.table 100 0 c × IsReady cells.table 100 0 d }
+            ensures { IsReady cells.table 100 0 result.0 × IsReady cells.table 100 0 result.1 }
+        { both(rt, &cells, (c, 3), (d, 4)) },
     );
-    let mut done = Vec::new(alloc);
-    for pass in [a, b, c, d] {
-        done.push(pass).map_err(|_| NoMemory)?;
-    }
-    cells.close(alloc, done)
+    let passes = Vec::from_array(alloc, [a, b, c, d]).map_err(|_| NoMemory)?;
+    cells.close(alloc, passes)
 }
 
 #[test]
