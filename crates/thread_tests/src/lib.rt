@@ -3,3 +3,5 @@
 
 #[cfg(test)]
 mod sums;
+#[cfg(test)]
+mod touches;

@@ -12,8 +12,8 @@ use std::thread::{Threads, join};
 
 /// Adds `x` to the first cell as often as the share allows, at most 100 times.
 fn add_all(cells: &Cells, pass: CellPass, x: u32) -> CellPass
-    requires { IsReady cells.now.table 100 0 pass }
-    ensures { IsReady cells.now.table 100 0 result }
+    requires { IsReady cells.now 100 0 pass }
+    ensures { IsReady cells.now 100 0 result }
 {
     let mut seat = cells.seat(pass);
     for _ in 0..100 {
@@ -31,27 +31,27 @@ fn both<R: Threads + Sync>(
     a: (CellPass, u32),
     b: (CellPass, u32),
 ) -> (CellPass, CellPass)
-    requires a { IsReady cells.now.table 100 0 a.0 }
-    requires b { IsReady cells.now.table 100 0 b.0 }
-    ensures a { IsReady cells.now.table 100 0 result.0 }
-    ensures b { IsReady cells.now.table 100 0 result.1 }
+    requires a { IsReady cells.now 100 0 a.0 }
+    requires b { IsReady cells.now 100 0 b.0 }
+    ensures a { IsReady cells.now 100 0 result.0 }
+    ensures b { IsReady cells.now 100 0 result.1 }
 {
     let (a, x) = a;
     let (b, y) = b;
     join(
         rt,
         || -> CellPass
-            requires { IsReady cells.now.table 100 0 a }
-            ensures { IsReady cells.entry.now.table 100 0 result }
+            requires { IsReady cells.now 100 0 a }
+            ensures { IsReady cells.entry.now 100 0 result }
         { add_all(cells, a, x) },
         || -> CellPass
-            requires { IsReady cells.now.table 100 0 b }
-            ensures { IsReady cells.entry.now.table 100 0 result }
+            requires { IsReady cells.now 100 0 b }
+            ensures { IsReady cells.entry.now 100 0 result }
         { add_all(cells, b, y) },
     )
 }
 
-fn last(passes: &mut Vec<CellPass>) -> Result<CellPass, NoMemory>
+pub fn last(passes: &mut Vec<CellPass>) -> Result<CellPass, NoMemory>
     ensures { IfOk result (λ pass. passes.old.items ≡ passes.new.items ++ pass ∷ []) }
 {
     passes.pop().ok_or(NoMemory)
@@ -67,12 +67,12 @@ fn sums<R: Threads + Sync>(rt: &R, alloc: Global) -> Result<Vec<u32>, NoMemory> 
     let ((a, b), (c, d)) = join(
         rt,
         || -> (CellPass, CellPass)
-            requires { IsSync R.row × IsReady cells.table 100 0 a × IsReady cells.table 100 0 b }
-            ensures { IsReady cells.table 100 0 result.0 × IsReady cells.table 100 0 result.1 }
+            requires { IsSync R.row × IsReady cells 100 0 a × IsReady cells 100 0 b }
+            ensures { IsReady cells 100 0 result.0 × IsReady cells 100 0 result.1 }
         { both(rt, &cells, (a, 1), (b, 2)) },
         || -> (CellPass, CellPass)
-            requires { IsSync R.row × IsReady cells.table 100 0 c × IsReady cells.table 100 0 d }
-            ensures { IsReady cells.table 100 0 result.0 × IsReady cells.table 100 0 result.1 }
+            requires { IsSync R.row × IsReady cells 100 0 c × IsReady cells 100 0 d }
+            ensures { IsReady cells 100 0 result.0 × IsReady cells 100 0 result.1 }
         { both(rt, &cells, (c, 3), (d, 4)) },
     );
     let passes = Vec::from_array(alloc, [a, b, c, d]).map_err(|_| NoMemory)?;
