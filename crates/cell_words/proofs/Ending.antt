@@ -38,7 +38,8 @@ module _ (init shares words : List ℕ) (views : List View) (k : IsKept init sha
     (of : (cell : ℕ) → sum_by (of_cell cell) views ≡ sum_by (of_cell cell) passes)
     (at : (cell place : ℕ) → sum_by (at_place cell place) views ≡ sum_by (at_place cell place) passes)
     (made : (v : View) → Contains passes v → (update : Update) → Contains v.made update → IsUpdate init k.left update)
-    (known : (v : View) → Contains passes v → (look : Look) → Contains v.known look → IsState init k.left look.cell look.seen)
+    (known : (v : View) → Contains passes v → (look : Look) → Contains v.known look →
+    IsState init k.left look.cell look.seen)
     (finals : List ℕ) (are : AreBitsOf words finals) where
   final : (cell : ℕ) → cell < length init → get_or finals cell 0 ≡ cell_bits init k.left cell (length (k.left cell))
   final cell inside =

@@ -67,7 +67,8 @@ module _ (init shares words : List ℕ) (views : List View) (k : IsKept init sha
   kept_update id v at share bits new is =
       let back : word - 1 + 1 ≡ word = omega arith in
       let done = updated init shares words views k id v at (word - 1) share inside bits in
-      subst (λ (seen : Cell). IsKept init shares (set words word new) (set views id (with_update v (word - 1) seen bits)))
+      subst (λ (seen : Cell). IsKept init shares (set words word new)
+      (set views id (with_update v (word - 1) seen bits)))
       (sym seen_here) (rw is (subst (λ (i : ℕ). IsKept init shares (set words i (word_of bits (here + 1)))
       (set views id (with_update v (word - 1) (record { bits = bits_here; place = here }) bits))) back done))
 

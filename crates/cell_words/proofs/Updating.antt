@@ -19,7 +19,8 @@ use Rattle.cell_words.specs.Views.{look, grant_of, with_update}
 use Rattle.cell_words.specs.Rule.{Fits, IsKept}
 use Rattle.cell_words.proofs.Totals.{total_set, total_same, total_part, total_below, total_both}
 use Rattle.cell_words.proofs.Elements.{only, low_set}
-use Rattle.cell_words.proofs.Growth.{Grows, grown, grows, longer, longer_here, new_bits, same_bits, update_stays, state_stays}
+use Rattle.cell_words.proofs.Growth.{Grows, grown, grows, longer, longer_here, new_bits, same_bits}
+use Rattle.cell_words.proofs.Growth.{update_stays, state_stays}
 use Rattle.cell_words.proofs.Keeping.{of_cell, at_place, fits_set}
 
 -- what fits, fits the longer histories

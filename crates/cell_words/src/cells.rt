@@ -55,7 +55,8 @@ impl Model for CellPass {
     ghost view = { λ pass. record { table = pass.seat.table_id; view = pass.seat.me.0 } };
 
     ghost invariant = { λ pass. let view = pass.seat.me.0 in
-        IsWhole pass.seat.table_id view.lows × (pass.share ≡ view.share) × (view.deal ≡ []) × (pass.seat.me.1 ≡ []) };
+        IsWhole pass.seat.table_id view.lows × (pass.share ≡ view.share) × (view.deal ≡ [])
+        × (pass.seat.me.1 ≡ []) };
 }
 
 impl CellPass {
@@ -155,8 +156,8 @@ impl Cells {
         CellSeat::new(self, seat, share)
     }
 
-    /// The final bits of all cells, from all that was given out. The updates of all passes are one history of each cell,
-    /// and what was seen through them is so in it.
+    /// The final bits of all cells, once all that was given out is back. The updates of all passes are one history of
+    /// each cell, and what was seen through them is so in it.
     pub fn close(self, alloc: Global, passes: Vec<CellPass>) -> Result<Vec<u32>, NoMemory>
         requires table { All (λ pass. pass.table ≡ self.table) passes.items }
         requires whole { sum_by held (views_of passes.items) ≡ sum self.shares }

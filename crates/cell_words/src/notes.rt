@@ -24,8 +24,8 @@ impl<'c> Model for CellNote<'c> {
 
     ghost view = { λ note. record { table = note.seat.table_id; lows = note.seat.me.0.lows } };
 
-    ghost invariant = { λ note.
-        IsWhole note.seat.table_id note.seat.me.0.lows × (note.seat.me ≡ (bare note.seat.me.0.lows, []))
+    ghost invariant = { λ note. let lows = note.seat.me.0.lows in
+        IsWhole note.seat.table_id lows × (note.seat.me ≡ (bare lows, []))
         × (note.seat.table_id ≡ note.cells.now.table) };
 }
 

@@ -4,8 +4,7 @@ ghost use Rattle.cell_words.specs.Holders.{face_of, knows as known_by, IsWhole};
 
 use crate::cells::{CellPass, Cells};
 use crate::notes::CellNote;
-use crate::views::View;
-use atomic_table::Seat;
+use crate::shared_steps::Holder;
 use cell_face::{Memory, Moved, Seen};
 use std::marker::Model;
 
@@ -13,7 +12,7 @@ use std::marker::Model;
 #[derive(Drop)]
 pub struct CellSeat<'c> {
     cells: &'c Cells,
-    seat: Seat<(), View>,
+    seat: Holder,
     share: u32,
     moves: u64,
 }
@@ -24,15 +23,19 @@ impl<'c> Model for CellSeat<'c> {
 
     ghost Value = { Seated };
 
-    ghost view = { λ it. record { table = it.seat.table_id; view = it.seat.me.0; moves = it.moves } };
+    ghost view = { λ it. record {
+      table = it.seat.table_id;
+      view = it.seat.me.0;
+      moves = it.moves;
+    } };
 
     ghost invariant = { λ it. let view = it.seat.me.0 in
-        IsWhole it.seat.table_id view.lows × (it.share ≡ view.share) × (view.deal ≡ []) × (it.seat.me.1 ≡ [])
-        × (it.seat.table_id ≡ it.cells.now.table) };
+        IsWhole it.seat.table_id view.lows × (it.share ≡ view.share) × (view.deal ≡ [])
+        × (it.seat.me.1 ≡ []) × (it.seat.table_id ≡ it.cells.now.table) };
 }
 
 impl<'c> CellSeat<'c> {
-    pub(crate) fn new(cells: &'c Cells, seat: Seat<(), View>, share: u32) -> CellSeat<'c>
+    pub(crate) fn new(cells: &'c Cells, seat: Holder, share: u32) -> CellSeat<'c>
         requires tied { seat.table_id ≡ cells.now.table }
         requires whole { IsWhole seat.table_id seat.me.0.lows }
         requires rights { (share ≡ seat.me.0.share) × (seat.me.0.deal ≡ []) × (seat.me.1 ≡ []) }

@@ -1,6 +1,8 @@
 //! The steps on the cells' table, each of which is one atomic step on one word.
-ghost use Rattle.std.specs.Prelude.{◌≡◌, ◌+◌, ◌%◌, ◌^◌, ◌<◌, ◌≤◌, ◌≢◌, [], Contains, MatchResult, slice_index};
-ghost use Rattle.cell_words.specs.Views.{look, bare, joined, with_look, with_update, without_next, next_dealt};
+ghost use Rattle.std.specs.Prelude.{◌≡◌, ◌+◌, ◌%◌, ◌^◌, ◌<◌};
+ghost use Rattle.std.specs.Prelude.{◌≤◌, ◌≢◌, [], Contains, MatchResult, slice_index};
+ghost use Rattle.cell_words.specs.Views.{look, bare, joined};
+ghost use Rattle.cell_words.specs.Views.{with_look, with_update, without_next, next_dealt};
 
 use crate::cells::Cells;
 use crate::steps::{Adds, Attempts, Deals, Joins, Looks, Notes};

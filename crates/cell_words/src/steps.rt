@@ -19,7 +19,8 @@ pub struct Start {
 pub struct Histories;
 
 impl TableRule<(), View, Start> for Histories {
-    ghost holds = { λ start state. IsKept start.init.items start.shares.items state.words state.views };
+    ghost holds = { λ start state.
+        IsKept start.init.items start.shares.items state.words state.views };
 
     ghost first = { λ start. first_view start.init.items start.shares.items };
 }

@@ -16,7 +16,12 @@ impl Model for Made {
 
     ghost Value = { Update };
 
-    ghost view = { λ made. record { cell = made.cell; place = made.place; before = made.before; after = made.after } };
+    ghost view = { λ made. record {
+      cell = made.cell;
+      place = made.place;
+      before = made.before;
+      after = made.after;
+    } };
 }
 
 /// A state of a cell that was seen.

@@ -58,7 +58,8 @@ returns-clause-takes c =
       ap (λ n. n.table.words) c.self.view_is,
     ) in
     let moves = c.self.inside.moves in
-    subst (λ (s : Seated). Takes (face_of s) (face_of (seated c.take_in.new.seat.table_id c.take_in.new.seat.me.0 moves))
+    let new = c.take_in.new.seat in
+    subst (λ (s : Seated). Takes (face_of s) (face_of (seated new.table_id new.me.0 moves))
     (Some lows)) c.self.view_is
     (subst (λ (z : TableId × View). Takes (face_of (seated was.table_id was.me.0 moves))
     (face_of (seated z.0 z.1 moves)) (Some lows)) (λ i. (sym c.take_in.ensures.table i, sym now i))
