@@ -1,0 +1,7 @@
+//! Tests of what several threads do over one table of cells: what holds whatever the schedule.
+#![tactic(auto)]
+
+#[cfg(test)]
+mod sums;
+#[cfg(test)]
+mod touches;
