@@ -163,7 +163,8 @@ impl AccessIndex {
         ensures sound { OnOk result ((rows : ℕ → List AccessValue) → IsSound self.old rows →
             access_at rows rank ordinal ≡ access.now → length (rows rank) ≡ ordinal + 1 → IsSound self.new rows) }
         ensures keeps { OnOk result (KeepsListed self.old self.new) }
-        ensures listed { OnOk result ((rows : ℕ → List AccessValue) → access_at rows rank ordinal ≡ access.now →
+        ensures listed { OnOk result ((rows : ℕ → List AccessValue) →
+            access_at rows rank ordinal ≡ access.now →
             (group : GroupValue) → group.class.rank ≡ rank → BelongsTo rows group ordinal →
             Contains (ordinals_in self.new.ordinals group) ordinal) }
         ensures counts { self.new.counts ≡ self.old.counts }

@@ -241,7 +241,8 @@ pub fn visible_points(
 ) -> Result<Items<Id>, NoMemory>
     requires formed { IsWellFormed script.now }
     requires lawful { IsLawful script.now Seeded run.now }
-    ensures { IfOk result (λ points. (before : IdValue → IdValue → Bool) → IsOrder script.now run.now before →
+    ensures { IfOk result (λ points. (before : IdValue → IdValue → Bool) →
+        IsOrder script.now run.now before →
         points ≡ visible_points_of script.now run.now model before id) }
 {
     let records = recorded(alloc, script, run)?;

@@ -96,7 +96,8 @@ pub(crate) fn is_taken_in(
     access: &KeptAccess,
     step: &KeptStep,
 ) -> bool
-    ensures { result ≡ is_taken_in_of script.now (before_in clocks.now) done.now access.now step.now }
+    ensures { result ≡ is_taken_in_of script.now
+        (before_in clocks.now) done.now access.now step.now }
 {
     step.id.rank == access.access.target
         && is_sought(script, Sought::TakingIn, access, step)

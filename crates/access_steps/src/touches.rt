@@ -101,11 +101,13 @@ pub fn touch_on<M: Memory, L: Keep>(
     requires cells { LiesWithin layout.now access.now call.now (cell_count (M.face mem.old)) }
     requires from { from ≤ element_count call.now }
     requires room { element_count call.now ≤ from + L.spare log.old }
-    requires share { IsTrue (is_update call.now) → element_count call.now ≤ from + (M.face mem.old).share }
+    requires share { IsTrue (is_update call.now) →
+        element_count call.now ≤ from + (M.face mem.old).share }
 
     ensures begin { from ≤ result.next }
     ensures end { result.next ≤ element_count call.now }
-    ensures touches { TouchesKept (M.face mem.old) (M.face mem.new) (M.knows mem.new) (L.kept log.old) (L.kept log.new)
+    ensures touches { TouchesKept (M.face mem.old) (M.face mem.new) (M.knows mem.new)
+        (L.kept log.old) (L.kept log.new)
         issue (planned_touches layout.now access.now call.now from (result.next - from)) }
     ensures moved { MatchBool result.moved
         (Rose (M.face mem.old).moves (M.face mem.new).moves) ((M.face mem.new).moves ≡ (M.face mem.old).moves) }

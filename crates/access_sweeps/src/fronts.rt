@@ -73,7 +73,8 @@ impl Passed<'_> {
     fn is_skipped(&self, at: usize, b: &JudgedPoints, label: Option<Label>) -> bool
         requires within { IsWithin (length self.now.accesses.now) self.now.places.now }
         requires there { at < length self.now.places.now }
-        ensures { result ≡ (do_labels_stand (label_by self.now.by_operation (first_at self.now at).access) label
+        ensures { result ≡ (do_labels_stand (label_by self.now.by_operation
+            (first_at self.now at).access) label
             || is_ordered_by (before_in self.now.clocks.now) (first_at self.now at) (judged_by b.now)) }
     {
         let a = self.access(at);

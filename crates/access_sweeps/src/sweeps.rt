@@ -27,7 +27,8 @@ impl Sweep<'_> {
         requires partner { a < length self.now.accesses.now }
         requires there { b < length self.now.accesses.now }
         requires best { length best.old ≡ length self.now.accesses.now }
-        ensures { best.new ≡ improved (before_in self.now.clocks.now) (accesses_of self.now) best.old a b }
+        ensures { best.new ≡ improved (before_in self.now.clocks.now)
+            (accesses_of self.now) best.old a b }
     {
         if a < b && a < best[b] {
             if !is_ordered(self.clocks, &self.accesses[b], &self.accesses[a]) {
@@ -73,12 +74,15 @@ impl Sweep<'_> {
         ensures first { result.first ≤ result.other }
         ensures other { result.other ≤ length self.now.first.now }
         ensures falls { NoneRises best.old best.new }
-        ensures front { (model : ModelValue) → IsSwept model self.now → IsFrontFrom self.now front at →
+        ensures front { (model : ModelValue) → IsSwept model self.now →
+            IsFrontFrom self.now front at →
             IsFrontFrom self.now result at }
-        ensures partners { (model : ModelValue) → IsSwept model self.now → IsFrontFrom self.now front at →
+        ensures partners { (model : ModelValue) → IsSwept model self.now →
+            IsFrontFrom self.now front at →
             ArePartners model (before_in self.now.clocks.now) (accesses_of self.now) best.old →
             ArePartners model (before_in self.now.clocks.now) (accesses_of self.now) best.new }
-        ensures least { (model : ModelValue) → IsSwept model self.now → IsFrontFrom self.now front at →
+        ensures least { (model : ModelValue) → IsSwept model self.now →
+            IsFrontFrom self.now front at →
             IsLeastOf model (before_in self.now.clocks.now) (accesses_of self.now) self.now.first.now
             (slice_index self.now.second.now at) best.new }
     {

@@ -66,7 +66,8 @@ pub trait Memory {
 
     /// A token that carries the lowest places as they are now.
     fn note(&mut self) -> Self::Note
-        ensures gives { Gives (face self.old) (face self.new) (Self.Note.front result) (Self.Note.origin result) }
+        ensures gives { Gives (face self.old) (face self.new) (Self.Note.front result)
+            (Self.Note.origin result) }
         ensures known { Keeps (knows self.old) (knows self.new) };
 
     /// Raises the lowest places to those of the token.

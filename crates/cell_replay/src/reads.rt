@@ -72,7 +72,8 @@ fn read_element(
     element: u32,
 ) -> Result<u64, NoMemory>
     requires fit { DoFit (touchings_of touches.now) }
-    requires cell { (piece_at layout.now access.now.target (element_address access.now dtype element)).cell < 2 ^ 32 }
+    requires cell { (piece_at layout.now access.now.target
+        (element_address access.now dtype element)).cell < 2 ^ 32 }
     ensures { IfOk result (λ value. value ≡
         element_left (touchings_of touches.now) (before_in clocks.now) id dtype
         (piece_at layout.now access.now.target (element_address access.now dtype element))) }

@@ -25,7 +25,8 @@ fn with_option<'a>(
     command: Command<'a>,
     name: &'a str,
 ) -> Result<Command<'a>, AllocError>
-    ensures { IfOk result (λ made. app_of made ≡ with_rule (app_of command.entry) (rules.option_rule name.entry.now)) }
+    ensures { IfOk result (λ made. app_of made ≡
+        with_rule (app_of command.entry) (rules.option_rule name.entry.now)) }
 {
     let option = Arg::new(alloc, name).long(name).action(ArgAction::Set);
     command.arg(option)
@@ -55,7 +56,8 @@ fn whole_command<'a>(alloc: Global) -> Result<Command<'a>, AllocError>
 /// The text that the words give an option.
 #[tactic(auto, using(crate::proofs::Matches::text_in_rows))]
 fn text_of<'a>(matches: &ArgMatches<'a>, name: &str) -> Option<&'a str>
-    ensures { option_map (λ text. text.now) result ≡ first_of name.now (rows_of (found_of matches.now)) }
+    ensures { option_map (λ text. text.now) result ≡
+        first_of name.now (rows_of (found_of matches.now)) }
 {
     matches.get_str(name)
 }
@@ -136,7 +138,8 @@ fn why_none(error: &Error) -> WordsFault
 /// The matches of the words, where the command takes them.
 #[tactic(auto, using(crate::proofs::Matches::command_is_free, crate::proofs::Matches::command_is_simple, crate::proofs::Matches::some_kind))]
 fn matches_in<'a>(alloc: Global, words: &'a [String]) -> Result<ArgMatches<'a>, WordsFault>
-    ensures taken { IfOk result (λ _. fault_of rules.command (map string_bytes words.entry.now) ≡ []) }
+    ensures taken { IfOk result (λ _. fault_of rules.command (map string_bytes words.entry.now) ≡
+        []) }
     ensures rows { IfOk result (λ found.
         rows_of (found_of found) ≡ matches_of rules.command (map string_bytes words.entry.now)) }
     ensures refused { IfErr result (λ why. why ≡ WordsFault.Usage →
@@ -153,7 +156,8 @@ fn matches_in<'a>(alloc: Global, words: &'a [String]) -> Result<ArgMatches<'a>, 
 
 /// The options that the words of the command line stand for, by the definition of all lists of words (`options_of`).
 pub fn read_words(alloc: Global, words: &[String]) -> Result<Options, WordsFault>
-    ensures ok { IfOk result (λ options. rules.options_of (map string_bytes words.now) ≡ Some options) }
+    ensures ok { IfOk result (λ options. rules.options_of (map string_bytes words.now) ≡
+        Some options) }
     ensures refused { IfErr result (λ why. why ≡ WordsFault.Usage →
         rules.options_of (map string_bytes words.now) ≡ None) }
 {

@@ -62,7 +62,8 @@ fn listing_of(
     requires ascending { IsAscending (map judged_by accesses.now) }
     requires index { HasAccesses index.now (rows_of (map judged_by accesses.now)) }
     ensures class { IfOk result (λ listing. listing.class ≡ class) }
-    ensures places { IfOk result (λ listing. IsListing (map judged_by accesses.now) region class listing.places) }
+    ensures places { IfOk result (λ listing. IsListing
+        (map judged_by accesses.now) region class listing.places) }
 {
     let from = accesses_below(accesses, class.rank);
     let places = moved_by(alloc, index.ordinals(Group { region, class }), from)?;

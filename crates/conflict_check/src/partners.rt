@@ -23,7 +23,8 @@ fn sweep_pair(s: &Judged<'_>, region: Region, a: &Listing, b: &Listing, best: &m
     requires best { length best.old ≡ length s.now.accesses.now }
     ensures long { length best.new ≡ length best.old }
     ensures falls { NoneRises best.old best.new }
-    ensures partners { ArePartners s.now.model (before_in s.now.clocks.now) (judged_of s.now) best.old →
+    ensures partners { ArePartners s.now.model (before_in s.now.clocks.now)
+        (judged_of s.now) best.old →
         ArePartners s.now.model (before_in s.now.clocks.now) (judged_of s.now) best.new }
     ensures done { AreDone s.now region best.new a.now b.now }
 {
@@ -43,11 +44,13 @@ fn sweep_pair(s: &Judged<'_>, region: Region, a: &Listing, b: &Listing, best: &m
 fn sweep_from(s: &Judged<'_>, region: Region, a: &Listing, listings: &[Listing], best: &mut [usize])
     requires ascending { IsAscending (judged_of s.now) }
     requires first { IsListing (judged_of s.now) region a.now.class a.now.places }
-    requires listings { All (λ (l : ListingValue). IsListing (judged_of s.now) region l.class l.places) listings.now }
+    requires listings { All (λ (l : ListingValue). IsListing
+        (judged_of s.now) region l.class l.places) listings.now }
     requires best { length best.old ≡ length s.now.accesses.now }
     ensures long { length best.new ≡ length best.old }
     ensures falls { NoneRises best.old best.new }
-    ensures partners { ArePartners s.now.model (before_in s.now.clocks.now) (judged_of s.now) best.old →
+    ensures partners { ArePartners s.now.model (before_in s.now.clocks.now)
+        (judged_of s.now) best.old →
         ArePartners s.now.model (before_in s.now.clocks.now) (judged_of s.now) best.new }
     ensures done { All (λ (b : ListingValue). AreDone s.now region best.new a.now b) listings.now }
 {
@@ -59,13 +62,16 @@ fn sweep_from(s: &Judged<'_>, region: Region, a: &Listing, listings: &[Listing],
 /// The accesses of all listings get their least partners.
 fn sweep_all(s: &Judged<'_>, region: Region, listings: &[Listing], best: &mut [usize])
     requires ascending { IsAscending (judged_of s.now) }
-    requires listings { All (λ (l : ListingValue). IsListing (judged_of s.now) region l.class l.places) listings.now }
+    requires listings { All (λ (l : ListingValue). IsListing
+        (judged_of s.now) region l.class l.places) listings.now }
     requires best { length best.old ≡ length s.now.accesses.now }
     ensures long { length best.new ≡ length best.old }
     ensures falls { NoneRises best.old best.new }
-    ensures partners { ArePartners s.now.model (before_in s.now.clocks.now) (judged_of s.now) best.old →
+    ensures partners { ArePartners s.now.model (before_in s.now.clocks.now)
+        (judged_of s.now) best.old →
         ArePartners s.now.model (before_in s.now.clocks.now) (judged_of s.now) best.new }
-    ensures done { All (λ (a : ListingValue). All (λ (b : ListingValue). AreDone s.now region best.new a b)
+    ensures done { All (λ (a : ListingValue). All
+        (λ (b : ListingValue). AreDone s.now region best.new a b)
         listings.now) listings.now }
 {
     for a in listings {
@@ -86,7 +92,8 @@ fn sweep_region(
     requires best { length best.old ≡ length s.now.accesses.now }
     ensures long { length best.new ≡ length best.old }
     ensures falls { NoneRises best.old best.new }
-    ensures partners { ArePartners s.now.model (before_in s.now.clocks.now) (judged_of s.now) best.old →
+    ensures partners { ArePartners s.now.model (before_in s.now.clocks.now)
+        (judged_of s.now) best.old →
         ArePartners s.now.model (before_in s.now.clocks.now) (judged_of s.now) best.new }
     ensures done { OnOk result (IsDone s.now best.new region) }
 {
@@ -106,7 +113,8 @@ fn sweep_regions(
     requires index { HasAccesses index.now (rows_of (judged_of s.now)) }
     requires best { length best.old ≡ length s.now.accesses.now }
     ensures long { length best.new ≡ length best.old }
-    ensures partners { ArePartners s.now.model (before_in s.now.clocks.now) (judged_of s.now) best.old →
+    ensures partners { ArePartners s.now.model (before_in s.now.clocks.now)
+        (judged_of s.now) best.old →
         ArePartners s.now.model (before_in s.now.clocks.now) (judged_of s.now) best.new }
     ensures least { OnOk result (AreLeast s.now best.new) }
 {

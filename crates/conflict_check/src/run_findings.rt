@@ -39,9 +39,11 @@ fn index_of(alloc: Global, accesses: &[JudgedPoints]) -> Result<AccessIndex, NoM
 fn finding_at(s: &Judged<'_>, best: &[usize], at: usize) -> Option<Finding>
     requires there { at < length s.now.accesses.now }
     requires long { length best.now ≡ length s.now.accesses.now }
-    requires partners { ArePartners s.now.model (before_in s.now.clocks.now) (judged_of s.now) best.now }
+    requires partners { ArePartners s.now.model (before_in s.now.clocks.now)
+        (judged_of s.now) best.now }
     requires least { AreLeast s.now best.now }
-    ensures { result ≡ first_finding s.now.model (before_in s.now.clocks.now) (take at (judged_of s.now))
+    ensures { result ≡ first_finding s.now.model (before_in s.now.clocks.now)
+        (take at (judged_of s.now))
         (judged_at (judged_of s.now) at) }
 {
     let partner = best[at];
@@ -60,7 +62,8 @@ fn finding_at(s: &Judged<'_>, best: &[usize], at: usize) -> Option<Finding>
 }
 
 fn push_finding(found: &mut Items<Finding>, finding: Option<Finding>) -> Result<(), NoMemory>
-    ensures { OnOk result (found.new ≡ found.old ++ option_map_or (λ (f : FindingValue). f ∷ []) finding []) }
+    ensures { OnOk result (found.new ≡ found.old ++
+        option_map_or (λ (f : FindingValue). f ∷ []) finding []) }
 {
     match finding {
         Some(finding) => match found.push(finding) {
@@ -106,7 +109,8 @@ pub fn findings(
     requires formed { IsWellFormed script.now }
     requires lawful { IsLawful script.now Seeded run.now }
     requires order { IsOrder script.now run.now (before_in clocks.now) }
-    ensures { IfOk result (λ found. found ≡ findings_of script.now run.now model (before_in clocks.now)) }
+    ensures { IfOk result (λ found. found ≡ findings_of script.now run.now model
+        (before_in clocks.now)) }
 {
     findings_of_a_run();
     let points = judged_points(alloc, script, run, clocks, model)?;

@@ -50,7 +50,8 @@ fn marks_of(ones: &[Begun]) -> Marks
 
 /// The place of the first access that is sought.
 fn first_of(ones: &[Begun], sought: &Sought) -> Option<usize>
-    ensures place { result ≡ position (λ (one : BegunOne). is_one_sought sought.now one.access) ones.now }
+    ensures place { result ≡ position (λ (one : BegunOne). is_one_sought sought.now one.access)
+        ones.now }
     ensures within { IfSome result (λ at. at < length ones.now) }
 {
     ones.iter().position(|one| is_sought(sought, &one.access))

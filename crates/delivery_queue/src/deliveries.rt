@@ -26,13 +26,15 @@ pub fn touch_pending<M: Memory, L: Keep>(
     requires call { IsOfCall layout.now (cell_count (M.face mem.old)) one.now call.now }
     requires from { from ≤ element_count call.now }
     requires room { element_count call.now ≤ from + L.free log.old }
-    requires share { IsTrue (is_update call.now) → element_count call.now ≤ from + (M.face mem.old).share }
+    requires share { IsTrue (is_update call.now) →
+        element_count call.now ≤ from + (M.face mem.old).share }
 
     ensures begin { IfOk result (λ progress. from ≤ progress.next) }
     ensures end { IfOk result (λ progress. progress.next ≤ element_count call.now) }
     ensures count { IfOk result (λ progress.
         length (L.kept log.new) ≡ length (L.kept log.old) + (progress.next - from)) }
-    ensures touches { IfOk result (λ progress. TouchesKept (M.face mem.old) (M.face mem.new) (M.knows mem.new)
+    ensures touches { IfOk result (λ progress.
+        TouchesKept (M.face mem.old) (M.face mem.new) (M.knows mem.new)
         (L.kept log.old) (L.kept log.new) one.now.index
         (planned_touches layout.now one.now.access call.now from (progress.next - from))) }
     ensures moved { IfOk result (λ progress. MatchBool progress.moved
@@ -41,12 +43,15 @@ pub fn touch_pending<M: Memory, L: Keep>(
         (progress.next < element_count call.now) (progress.next ≡ element_count call.now)) }
     ensures tried { IfOk result (λ progress. IsTrue progress.moved →
         IsTried (planned_touch layout.now one.now.access call.now progress.next)) }
-    ensures told_whole { IfOk result (λ progress. IfSome (M.face mem.old).told (λ _. progress.moved ≡ false)) }
-    ensures told { IfOk result (λ _. IfSome (M.face mem.old).told (λ cells. IfSome (transfer_of call.now) (λ t.
+    ensures told_whole { IfOk result (λ progress.
+        IfSome (M.face mem.old).told (λ _. progress.moved ≡ false)) }
+    ensures told { IfOk result (λ _. IfSome (M.face mem.old).told
+        (λ cells. IfSome (transfer_of call.now) (λ t.
         let left = drop from (pieces layout.now one.now.access t.dtype) in
         IsTouchEach t left one.now.index from cells (M.face mem.new).told (L.kept log.old) (L.kept log.new)))) }
     ensures known { Keeps (M.knows mem.old) (M.knows mem.new) }
-    ensures free_above { IfOk result (λ progress. L.free log.old ≤ L.free log.new + (progress.next - from)) }
+    ensures free_above { IfOk result (λ progress.
+        L.free log.old ≤ L.free log.new + (progress.next - from)) }
     ensures free_below { L.free log.new ≤ L.free log.old }
     ensures home { L.home log.new ≡ L.home log.old }
     ensures kept { OnErr result (L.kept log.new ≡ L.kept log.old) }

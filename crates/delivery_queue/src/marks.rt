@@ -73,7 +73,8 @@ impl Marks {
 
     /// Whether an access with these marks may be one of those that are sought.
     pub(crate) fn may_hold(&self, sought: &Sought) -> bool
-        ensures { result ≡ false → (one : Access) → IsMarked self.now one → is_sought sought.now one ≡ false }
+        ensures { result ≡ false → (one : Access) → IsMarked self.now one →
+            is_sought sought.now one ≡ false }
     {
         match sought {
             Sought::Nothing => false,

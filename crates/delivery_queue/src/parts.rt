@@ -47,7 +47,8 @@ pub(crate) trait Part: Drop {
 
     /// One access more, of which nothing is touched. `Err` changes nothing.
     fn push(&mut self, access: PendingAccess) -> Result<(), NoMemory>
-        ensures ok { OnOk result (ones self.new ≡ ones self.old ++ record { access = access; touched = 0 } ∷ []) }
+        ensures ok { OnOk result (ones self.new ≡ ones self.old ++
+            record { access = access; touched = 0 } ∷ []) }
         ensures err { OnErr result (ones self.new ≡ ones self.old) };
 
     /// One access goes.

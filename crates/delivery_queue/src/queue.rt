@@ -131,7 +131,8 @@ impl Pending {
     ) -> Result<(), NoMemory>
         requires name { IfSome req (λ name. name < 64) }
         requires free { IfSome req (λ name. is_live_request self.old.requests name ≡ false) }
-        ensures added { OnOk result (self.new ≡ with_access self.old (issued call index access.now fetches) req) }
+        ensures added { OnOk result (self.new ≡
+            with_access self.old (issued call index access.now fetches) req) }
         ensures unchanged { OnErr result (self.new ≡ self.old) }
     {
         let one = PendingAccess {
@@ -210,8 +211,10 @@ impl Pending {
         log: &mut L,
     ) -> Result<Delivery, NoMemory>
         requires at { at < length self.old.pending }
-        requires deliverable { IsDeliverable self.old at layout.now calls.now (M.face mem.old) (L.free log.old) }
-        ensures delivered { IfOk result (λ delivery. Delivers self.old self.new at delivery.done layout.now calls.now
+        requires deliverable { IsDeliverable self.old at layout.now calls.now (M.face mem.old)
+            (L.free log.old) }
+        ensures delivered { IfOk result (λ delivery.
+            Delivers self.old self.new at delivery.done layout.now calls.now
             (M.face mem.old) (M.face mem.new) (M.knows mem.new) (L.kept log.old) (L.kept log.new)) }
         ensures count { IfOk result (λ delivery.
             length (L.kept log.new) ≡ length (L.kept log.old) + delivery.touches) }

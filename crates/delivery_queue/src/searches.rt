@@ -23,7 +23,8 @@ struct Place {
 /// The place of the first access that is sought.
 pub(crate) fn first<P: Part>(parts: &[P], sought: &Sought) -> Option<usize>
     requires { length (ones_in P.ones parts.now) < 2 ^ 64 }
-    ensures place { result ≡ position (is_sought sought.now) (accesses_of (ones_in P.ones parts.now)) }
+    ensures place { result ≡ position (is_sought sought.now)
+        (accesses_of (ones_in P.ones parts.now)) }
     ensures within { IfSome result (λ at. at < length (ones_in P.ones parts.now)) }
 {
     let mut before = 0usize;

@@ -67,7 +67,8 @@ impl Span {
 
     /// Whether an access with its cells in the span may share one with the given access.
     pub(crate) fn may_share(&self, access: &Access) -> bool
-        ensures { result ≡ false → (one : AccessOne) → IsSpanned self.now one → share_cell access.now one ≡ false }
+        ensures { result ≡ false → (one : AccessOne) → IsSpanned self.now one →
+            share_cell access.now one ≡ false }
     {
         let cells = Span::of(access);
         cells.begin < self.end && self.begin < cells.end

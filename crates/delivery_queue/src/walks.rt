@@ -45,7 +45,8 @@ impl Walk {
 
     /// A place as far along the way of the one at a place as is known.
     pub(crate) fn beyond(&self, at: usize) -> usize
-        ensures way { (pending : List Access) → IsWalked pending self.now → way pending result ≡ way pending at }
+        ensures way { (pending : List Access) → IsWalked pending self.now →
+            way pending result ≡ way pending at }
         ensures not_after { (pending : List Access) → IsWalked pending self.now → result ≤ at }
     {
         if at == self.start { self.end } else { at }

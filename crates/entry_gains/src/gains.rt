@@ -51,7 +51,8 @@ impl<N: Token> Gains<N> {
         ensures room { OnOk result (HasGainsRoom self.new) }
         ensures keeps { (ranks : ℕ) (entries : List Given) →
             Keeps N.front ranks entries self.old → Keeps N.front ranks entries self.new }
-        ensures sound { (name : List ℕ) → IsSound N.origin name self.old → IsSound N.origin name self.new }
+        ensures sound { (name : List ℕ) → IsSound N.origin name self.old →
+            IsSound N.origin name self.new }
     {
         if self.count == u32::MAX {
             return Err(NoMemory);
@@ -75,7 +76,8 @@ impl<N: Token> Gains<N> {
             IsSound N.origin name self.old → IfSome result (λ token. N.origin token ≡ name) }
         ensures keeps { (ranks : ℕ) (entries : List Given) →
             Keeps N.front ranks entries self.old → Keeps N.front ranks entries self.new }
-        ensures sound { (name : List ℕ) → IsSound N.origin name self.old → IsSound N.origin name self.new }
+        ensures sound { (name : List ℕ) → IsSound N.origin name self.old →
+            IsSound N.origin name self.new }
         ensures room { HasGainsRoom self.old → HasGainsRoom self.new }
     {
         let key = SideKey { window, rank };
@@ -93,7 +95,8 @@ impl<N: Token> Gains<N> {
             IsNext ranks entries (row_of rank number call.now step) window → Keeps N.front ranks entries self.old →
             let row = row_of rank number call.now step in
             Keeps N.front ranks (one_more entries row (option_map N.front gift)) self.new }
-        ensures sound { (name : List ℕ) → IsSound N.origin name self.old → IsSound N.origin name self.new }
+        ensures sound { (name : List ℕ) → IsSound N.origin name self.old →
+            IsSound N.origin name self.new }
     {
         let key = SideKey { window, rank };
         let deed = deed_of(self.ranks, call);

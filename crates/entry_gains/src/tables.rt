@@ -283,7 +283,8 @@ fn hold_at(held: &mut HashMap<LockKey, Lock>, side: SideKey, kind: Lock, reach: 
 /// Locks of a kind of a rank on a window, at those of the 16 targets that are reached.
 pub(crate) fn hold_all(held: &mut HashMap<LockKey, Lock>, side: SideKey, kind: Lock, reach: Reach)
     requires { 16 ≤ spare held.old }
-    ensures { (other : LockKey) → held_at held.new other ≡ cond (is_reached_below 16 side reach other)
+    ensures { (other : LockKey) → held_at held.new other ≡
+        cond (is_reached_below 16 side reach other)
         (Some (stronger (held_at held.old other) kind)) (held_at held.old other) }
 {
     for target in 0..16u8 {
@@ -318,7 +319,8 @@ pub(crate) fn release_all(held: &mut HashMap<LockKey, Lock>, side: SideKey, reac
 
 /// The kind at a target, where it is reached.
 fn kind_at(held: &HashMap<LockKey, Lock>, side: SideKey, reach: Reach, target: u8) -> Option<Lock>
-    ensures { result ≡ cond (is_within reach target) (held_at held.now (lock_key side target)) None }
+    ensures { result ≡ cond (is_within reach target)
+        (held_at held.now (lock_key side target)) None }
 {
     if reach.first <= target && target < reach.end {
         let key = LockKey {

@@ -34,8 +34,10 @@ fn copy_of<N: Token>(tokens: &mut HashMap<Slot, N>, slot: Slot) -> Option<N>
     ensures copied { option_map N.front result ≡ front_at N.front tokens.old slot }
     ensures origin { (name : List ℕ) →
         AreFrom N.origin name tokens.old → IfSome result (λ token. N.origin token ≡ name) }
-    ensures kept { (other : Slot) → front_at N.front tokens.new other ≡ front_at N.front tokens.old other }
-    ensures from { (name : List ℕ) → AreFrom N.origin name tokens.old → AreFrom N.origin name tokens.new }
+    ensures kept { (other : Slot) → front_at N.front tokens.new other ≡
+        front_at N.front tokens.old other }
+    ensures from { (name : List ℕ) → AreFrom N.origin name tokens.old →
+        AreFrom N.origin name tokens.new }
     ensures room { spare tokens.new ≡ spare tokens.old }
 {
     let kept = tokens.get_mut(&slot)?;
@@ -97,7 +99,8 @@ pub(crate) fn fill_gift<N: Token>(tokens: &mut HashMap<Slot, N>, plan: &Plan, gi
 fn merged<N: Token>(all: Option<N>, more: Option<N>, root: &N) -> Option<N>
     requires all { IfSome all (λ token. N.origin token ≡ N.origin root.now) }
     requires more { IfSome more (λ token. N.origin token ≡ N.origin root.now) }
-    ensures front { option_map N.front result ≡ joined (option_map N.front all) (option_map N.front more) }
+    ensures front { option_map N.front result ≡
+        joined (option_map N.front all) (option_map N.front more) }
     ensures origin { IfSome result (λ token. N.origin token ≡ N.origin root.now) }
 {
     let _ = root;
@@ -127,7 +130,8 @@ fn gather_at<N: Token>(
     ensures gathered { option_map N.front result ≡
         joined (option_map N.front all) (gained_at (front_at N.front tokens.old) (plan_slot plan.now at)) }
     ensures origin { IfSome result (λ token. N.origin token ≡ N.origin root.now) }
-    ensures kept { (slot : Slot) → front_at N.front tokens.new slot ≡ front_at N.front tokens.old slot }
+    ensures kept { (slot : Slot) → front_at N.front tokens.new slot ≡
+        front_at N.front tokens.old slot }
     ensures from { AreFrom N.origin (N.origin root.now) tokens.new }
     ensures room { spare tokens.new ≡ spare tokens.old }
 {
@@ -140,9 +144,11 @@ fn gather_at<N: Token>(
 /// What the slots of a plan keep, together. The root tells where the tokens are from.
 pub(crate) fn gather<N: Token>(tokens: &mut HashMap<Slot, N>, plan: &Plan, root: &N) -> Option<N>
     requires from { AreFrom N.origin (N.origin root.now) tokens.old }
-    ensures gathered { option_map N.front result ≡ gained_from (front_at N.front tokens.old) (plan_slot plan.now) }
+    ensures gathered { option_map N.front result ≡
+        gained_from (front_at N.front tokens.old) (plan_slot plan.now) }
     ensures origin { IfSome result (λ token. N.origin token ≡ N.origin root.now) }
-    ensures kept { (slot : Slot) → front_at N.front tokens.new slot ≡ front_at N.front tokens.old slot }
+    ensures kept { (slot : Slot) → front_at N.front tokens.new slot ≡
+        front_at N.front tokens.old slot }
     ensures from { AreFrom N.origin (N.origin root.now) tokens.new }
     ensures room { spare tokens.new ≡ spare tokens.old }
 {

@@ -34,7 +34,8 @@ pub fn judged_points(
     requires formed { IsWellFormed script.now }
     requires lawful { IsLawful script.now Seeded run.now }
     requires order { IsOrder script.now run.now (before_in clocks.now) }
-    ensures { IfOk result (λ list. AreAlike (before_in clocks.now) (names_of (map judged_by list.items))
+    ensures { IfOk result (λ list. AreAlike (before_in clocks.now)
+        (names_of (map judged_by list.items))
         (map judged_by list.items) (judged_accesses script.now run.now model (before_in clocks.now))) }
 {
     arrivals_stand_for_leaves();

@@ -89,10 +89,12 @@ impl LockTable {
     pub fn grant(&mut self, target: u8, rank: u8, kind: Lock)
         requires target { target < 16 }
         requires rank { rank < 16 }
-        requires free { list_any (do_clash (lock self.old.window target kind rank)) self.old.held ≡ false }
+        requires free { list_any (do_clash (lock self.old.window target kind rank)) self.old.held ≡
+            false }
         requires none { list_any (is_held_by rank target) self.old.held ≡ false }
         ensures window { self.new.window ≡ self.old.window }
-        ensures held { HasSameLocks self.new.held (self.old.held ++ lock self.old.window target kind rank ∷ []) }
+        ensures held { HasSameLocks self.new.held
+            (self.old.held ++ lock self.old.window target kind rank ∷ []) }
         ensures exclusion { NoTwoClash self.new.held }
     {
         let at = target as usize;

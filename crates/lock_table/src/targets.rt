@@ -42,7 +42,8 @@ impl Target {
     /// The rank holds a lock.
     pub(crate) fn is_held_by(&self, rank: u8) -> bool
         requires { rank < 16 }
-        ensures { (window target : ℕ) → result ≡ list_any (is_holder rank) (locks_at_target window target self.now) }
+        ensures { (window target : ℕ) → result ≡
+            list_any (is_holder rank) (locks_at_target window target self.now) }
     {
         match *self {
             Target::Shared(holders) => holders & (1u16 << rank) != 0,

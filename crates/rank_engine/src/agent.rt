@@ -146,7 +146,8 @@ impl<'s, L: Keep + Drop> Agent<'s, L> {
     pub(crate) fn next_call(&self) -> Option<&'s Call>
         ensures call { option_copied result ≡ next_call_of self.now.stage self.now.agent }
         ensures written { IfSome (next_call_of self.now.stage self.now.agent) IsWrittenCall }
-        ensures within { IfSome (next_call_of self.now.stage self.now.agent) (λ _. self.now.agent.at < 65536) }
+        ensures within { IfSome (next_call_of self.now.stage self.now.agent)
+            (λ _. self.now.agent.at < 65536) }
     {
         self.calls().get(self.at as usize)
     }
@@ -263,7 +264,8 @@ impl<'s, L: Keep + Drop> Agent<'s, L> {
         ensures refusal { IfOk result (λ _. RefusesAlone self.old self.new) }
         ensures told { IfOk result (λ turned. is_full turned ≡ false →
             IsWholeStep self.old self.new (M.face mem.old) (M.face mem.new)) }
-        ensures told_once { IfOk result (λ turned. IfSome (M.face mem.old).told (λ _. is_again turned ≡ false)) }
+        ensures told_once { IfOk result (λ turned.
+            IfSome (M.face mem.old).told (λ _. is_again turned ≡ false)) }
         ensures known { IfOk result (λ _. Keeps (M.knows mem.old) (M.knows mem.new)) }
         ensures kept { OnErr result (KeepsItems self.old.agent.log self.new.agent.log) }
         ensures unwritten { OnErr result (mem.new ≡ mem.old) }
@@ -295,7 +297,8 @@ impl<'s, L: Keep + Drop> Agent<'s, L> {
             self.old self.new (M.face mem.old) (M.face mem.new) (M.knows mem.new)) }
         ensures told { IfOk result (λ _.
             IsWholeDrain self.old self.new (M.face mem.old) (M.face mem.new)) }
-        ensures told_once { IfOk result (λ turned. IfSome (M.face mem.old).told (λ _. is_again turned ≡ false)) }
+        ensures told_once { IfOk result (λ turned.
+            IfSome (M.face mem.old).told (λ _. is_again turned ≡ false)) }
         ensures known { IfOk result (λ _. Keeps (M.knows mem.old) (M.knows mem.new)) }
         ensures kept { OnErr result (self.new.agent.log ≡ self.old.agent.log) }
         ensures unwritten { OnErr result (mem.new ≡ mem.old) }

@@ -146,7 +146,8 @@ impl<'s, L: Keep + Drop> Agent<'s, L> {
         requires ready { IsReady self.old call.now board.old (M.face notes.old) }
         requires free { 2 ≤ self.old.free }
         requires new { self.old.agent.entered ≡ false }
-        requires course { rules.course_of self.old.agent.known.windows call.now ≡ rules.EntryOrTested }
+        requires course { rules.course_of self.old.agent.known.windows call.now ≡
+            rules.EntryOrTested }
         ensures turn { IfOk result (λ turned. IsTurn turned 2
             (test_by self.old.stage self.old.agent (rows_on board.old) call.now)
             self.old self.new board.old board.new (M.face notes.old) (M.face notes.new)) }
@@ -178,7 +179,8 @@ impl<'s, L: Keep + Drop> Agent<'s, L> {
         requires ready { IsReady self.old call.now board.old (M.face notes.old) }
         requires free { 2 ≤ self.old.free }
         requires new { self.old.agent.entered ≡ false }
-        requires course { rules.course_of self.old.agent.known.windows call.now ≡ rules.ArriveAndLeave }
+        requires course { rules.course_of self.old.agent.known.windows call.now ≡
+            rules.ArriveAndLeave }
         ensures turn { IfOk result (λ turned. IsTurn turned 2
             (arrive_by self.old.stage self.old.agent (rows_on board.old) call.now)
             self.old self.new board.old board.new (M.face notes.old) (M.face notes.new)) }
@@ -205,7 +207,8 @@ impl<'s, L: Keep + Drop> Agent<'s, L> {
         requires free { 2 ≤ self.old.free }
         requires begun { self.old.agent.entered ≡ true →
             rules.course_of self.old.agent.known.windows call.now ≡ rules.ArriveAndLeave }
-        requires entry { rules.has_entry (rules.course_of self.old.agent.known.windows call.now) ≡ true }
+        requires entry { rules.has_entry (rules.course_of self.old.agent.known.windows call.now) ≡
+            true }
         ensures turn { IfOk result (λ turned. IsTurn turned 2
             (entry_of self.old.stage self.old.agent (rows_on board.old) call.now)
             self.old self.new board.old board.new (M.face notes.old) (M.face notes.new)) }

@@ -49,7 +49,8 @@ impl<'s, L: Keep + Drop> Agent<'s, L> {
         requires room { HasRoom self.old (M.face mem.old) }
         ensures delivered { IfOk result (λ done. IsDelivered (Some at)
             self.old self.new done (M.face mem.old) (M.face mem.new) (M.knows mem.new)) }
-        ensures moved { IfOk result (λ done. done ≡ false → Rose (M.face mem.old).moves (M.face mem.new).moves) }
+        ensures moved { IfOk result (λ done. done ≡ false →
+            Rose (M.face mem.old).moves (M.face mem.new).moves) }
         ensures told { IfOk result (λ done. IfSome (M.face mem.old).told (λ _. done ≡ true)) }
         ensures whole { IfOk result (λ _. IfSome (M.face mem.old).told (λ cells.
             DeliversWhole (queue_of self.old) at self.old.stage.layout

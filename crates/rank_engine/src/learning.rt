@@ -46,7 +46,8 @@ pub fn learn_windows(
     requires written { IsWrittenCall call.now }
     requires passed { window_class windows.old (action_of call.now) ≡ None }
     requires shape { HasShape (action_of call.now) made }
-    ensures ok { OnOk result ((shapes : ℕ → List Part) → HasParts shapes windows.old (action_of call.now) made →
+    ensures ok { OnOk result ((shapes : ℕ → List Part) →
+        HasParts shapes windows.old (action_of call.now) made →
         windows.new ≡ rules.windows_after shapes windows.old (action_of call.now)) }
     ensures err { OnErr result (windows.new ≡ windows.old) }
 {

@@ -88,7 +88,8 @@ impl<'s, L: Keep + Drop> Agent<'s, L> {
         requires written { IsWrittenCall call.now }
         requires new { self.old.agent.entered ≡ false }
         requires passed { class_by_rank self.old.agent.known call.now ≡ None }
-        requires course { courses.course_of self.old.agent.known.windows call.now ≡ courses.OneNull }
+        requires course { courses.course_of self.old.agent.known.windows call.now ≡
+            courses.OneNull }
         requires free { 1 ≤ self.old.free }
         ensures moved { IfOk result (λ _. IsMove self.old self.new (without_delivery
             (with_item self.old.stage self.old.agent (Null self.old.agent.at))) None) }
@@ -115,7 +116,8 @@ impl<'s, L: Keep + Drop> Agent<'s, L> {
         requires written { IsWrittenCall call.now }
         requires new { self.old.agent.entered ≡ false }
         requires passed { class_by_rank self.old.agent.known call.now ≡ None }
-        requires course { courses.course_of self.old.agent.known.windows call.now ≡ courses.OneFlush }
+        requires course { courses.course_of self.old.agent.known.windows call.now ≡
+            courses.OneFlush }
         requires free { 1 ≤ self.old.free }
         ensures moved { IfOk result (λ _. IsMove self.old self.new (without_delivery
             (with_item self.old.stage self.old.agent (Flush self.old.agent.at))) None) }
@@ -141,7 +143,8 @@ impl<'s, L: Keep + Drop> Agent<'s, L> {
         requires written { IsWrittenCall call.now }
         requires new { self.old.agent.entered ≡ false }
         requires passed { class_by_rank self.old.agent.known call.now ≡ None }
-        requires course { courses.course_of self.old.agent.known.windows call.now ≡ courses.OneRequest }
+        requires course { courses.course_of self.old.agent.known.windows call.now ≡
+            courses.OneRequest }
         requires free { 1 ≤ self.old.free }
         ensures moved { IfOk result (λ _. IsMove self.old self.new (without_delivery
             (with_item self.old.stage self.old.agent (Request self.old.agent.at))) None) }
@@ -208,7 +211,8 @@ impl<'s, L: Keep + Drop> Agent<'s, L> {
         requires within { self.old.agent.at < 65536 }
         requires written { IsWrittenCall call.now }
         requires passed { class_by_rank self.old.agent.known call.now ≡ None }
-        requires course { (courses.course_of self.old.agent.known.windows call.now ≡ courses.OneIssue)
+        requires course { (courses.course_of self.old.agent.known.windows call.now ≡
+            courses.OneIssue)
             ⊎ (courses.course_of self.old.agent.known.windows call.now ≡ courses.LookUpAndIssue) }
         requires lies { IfSome (transfer_of call.now)
             (IsLookedUp self.old.stage.layout self.old.agent.known.windows) }

@@ -62,7 +62,8 @@ fn gives(call: &Call, step: Step) -> bool
 /// The token that is given with this step of the call, if one is.
 #[tactic(auto, using(crate::proofs::Unwritten::nothing_written))]
 pub fn gift_of<M: Memory>(notes: &mut M, call: &Call, step: Step) -> Option<M::Note>
-    ensures gift { IsGift (M.face notes.old) (gives_by step call.now) (option_map M.Note.front result) }
+    ensures gift { IsGift (M.face notes.old) (gives_by step call.now)
+        (option_map M.Note.front result) }
     ensures origin { IfSome result (λ token. M.Note.origin token ≡ (M.face notes.old).name) }
     ensures unwritten { Unwritten (M.face notes.old) (M.face notes.new) }
     ensures moves { (M.face notes.new).moves ≡ (M.face notes.old).moves }

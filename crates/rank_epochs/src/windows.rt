@@ -73,7 +73,8 @@ impl WindowEpochs {
     }
 
     pub fn may_post(&self) -> bool
-        ensures { result ≡ (not (rules.is_fence_used self.now.access) && not (rules.is_exposed self.now.exposure)) }
+        ensures { result ≡ (not (rules.is_fence_used self.now.access) &&
+            not (rules.is_exposed self.now.exposure)) }
     {
         !self.access.is_fence_used() && !self.exposure.is_posted()
     }
@@ -198,7 +199,8 @@ impl WindowEpochs {
     pub fn lock(&mut self, target: i32)
         requires rank { IsTrue (is_rank_of 16 target) }
         requires free { IsTrue (rules.may_lock self.old.access (Some target)) }
-        ensures { self.new ≡ record self.old { access = rules.after_lock self.old.access (Some target) } }
+        ensures { self.new ≡ record self.old
+            { access = rules.after_lock self.old.access (Some target) } }
     {
         let mut targets = mem::replace(&mut self.access, AccessEpoch::Idle).into_targets();
         targets.push(target as u8);
@@ -214,7 +216,8 @@ impl WindowEpochs {
 
     /// The target is unlocked; no lock at all is no epoch.
     pub fn unlock(&mut self, target: i32)
-        ensures { self.new ≡ record self.old { access = rules.after_unlock self.old.access (Some target) } }
+        ensures { self.new ≡ record self.old
+            { access = rules.after_unlock self.old.access (Some target) } }
     {
         let targets = mem::replace(&mut self.access, AccessEpoch::Idle).into_targets();
         let targets = others(targets, natural(target));

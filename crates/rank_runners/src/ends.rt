@@ -19,7 +19,8 @@ pub(crate) fn have_ended(agents: &[Agent<Log>]) -> bool
 
 /// The logs of the ranks.
 pub(crate) fn logs_of(alloc: Global, agents: Vec<Agent<Log>>) -> Result<Logs, NoMemory>
-    ensures { IfOk result (λ logs. logs ≡ map (λ (state : RankState). state.agent.log) agents.entry.items) }
+    ensures { IfOk result
+        (λ logs. logs ≡ map (λ (state : RankState). state.agent.log) agents.entry.items) }
 {
     let mut logs = Vec::new(alloc);
     for agent in agents {

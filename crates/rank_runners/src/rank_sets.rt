@@ -40,14 +40,16 @@ impl RankSet {
     /// The set with one rank more, where it joins.
     pub(crate) fn with_if(self, rank: u8, joins: bool) -> RankSet
         requires { rank < 32 }
-        ensures { (other : ℕ) → has result other ≡ (if joins then rank == other || has self other else has self other) }
+        ensures { (other : ℕ) → has result other ≡
+            (if joins then rank == other || has self other else has self other) }
     {
         if joins { self.with(rank) } else { self }
     }
 
     /// The ranks below 32 that are in neither set.
     pub(crate) fn outside(self, other: RankSet) -> RankSet
-        ensures { (rank : ℕ) → rank < 32 → has result rank ≡ (not (has self rank) && not (has other rank)) }
+        ensures { (rank : ℕ) → rank < 32 → has result rank ≡
+            (not (has self rank) && not (has other rank)) }
     {
         RankSet {
             bits: !(self.bits | other.bits),

@@ -52,7 +52,8 @@ pub(crate) fn deliver_first(
 ) -> Result<bool, NoMemory>
     requires room { HasRoom agent.old (plain_face memory.old) }
     requires between { IsBetween agent.old }
-    ensures { IfOk result (λ delivered. IsDelivery delivered agent.old agent.new memory.old memory.new) }
+    ensures { IfOk result
+        (λ delivered. IsDelivery delivered agent.old agent.new memory.old memory.new) }
 {
     agent.has_room();
     match agent.drain(memory)? {

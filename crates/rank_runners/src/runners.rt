@@ -126,7 +126,8 @@ impl<'s> Runner<'s> {
     pub(crate) fn run(&mut self, order: Order, ranks: u8, turns: u32) -> Result<(), NoMemory>
         requires some { IsSome self.old }
         requires ranks { length self.old.agents.items ≡ ranks }
-        ensures { OnOk result (GoesOn self.old self.new (λ stage world. run_from stage order turns world)) }
+        ensures { OnOk result (GoesOn self.old self.new
+            (λ stage world. run_from stage order turns world)) }
     {
         for _turn in 0..turns {
             match self.next_rank(order, ranks) {
@@ -141,7 +142,8 @@ impl<'s> Runner<'s> {
     fn drain_rank(&mut self, rank: u8) -> Result<(), NoMemory>
         requires world { IsInWorld self.old }
         requires rank { rank < length self.old.agents.items }
-        ensures { OnOk result (LeadsOn self.old self.new (λ stage world. drain_rank stage world rank)) }
+        ensures { OnOk result (LeadsOn self.old self.new
+            (λ stage world. drain_rank stage world rank)) }
     {
         let mut more = true;
         'deliveries: while more {

@@ -27,7 +27,8 @@ pub(crate) fn cells_of(layout: &Layout) -> u32
 /// The memory before the first turn: no cell has had an update.
 pub(crate) fn new_memory(alloc: Global, layout: &Layout) -> Result<PlainMemory, NoMemory>
     requires { cells_in layout.now ≤ 16384 }
-    ensures cells { IfOk result (λ memory. memory.cells ≡ replicate (cells_in layout.now) empty_cell) }
+    ensures cells { IfOk result (λ memory. memory.cells ≡
+        replicate (cells_in layout.now) empty_cell) }
     ensures share { IfOk result (λ memory. memory.share ≡ 4294967295) }
 {
     match vec![in alloc; 0u32; cells_of(layout) as usize] {

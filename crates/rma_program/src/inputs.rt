@@ -44,8 +44,10 @@ pub fn read_script<S: Source>(alloc: Global, source: &mut S) -> Result<Script, N
     ensures read { IfOk result (ReadsAs (S.left source.old) (S.left source.new)) }
     ensures well_formed { IfOk result IsWellFormed }
     ensures refused { IfErr result (λ why. IsWhy (S.left source.old) (S.left source.new) why) }
-    ensures failed { result ≡ Err NoScript.Failed → Rose (S.faults source.old) (S.faults source.new) }
-    ensures no_fault { (result ≡ Err NoScript.Failed → ⊥) → S.faults source.new ≡ S.faults source.old }
+    ensures failed { result ≡ Err NoScript.Failed →
+        Rose (S.faults source.old) (S.faults source.new) }
+    ensures no_fault { (result ≡ Err NoScript.Failed → ⊥) →
+        S.faults source.new ≡ S.faults source.old }
     ensures never_falls { S.faults source.old ≤ S.faults source.new }
     ensures no_late_read { NoLateRead (S.end source.old) (S.end source.new) }
 {

@@ -81,7 +81,8 @@ pub fn write_usage<K: Sink>(sink: &mut K) -> Result<(), NoText>
 
 /// Writes the line of a script that is refused.
 pub fn write_fault<K: Sink>(alloc: Global, fault: Fault, sink: &mut K) -> Result<(), NoText>
-    ensures text { WritesOrStops (K.written sink.old) (K.written sink.new) (fault_line fault) result }
+    ensures text { WritesOrStops (K.written sink.old) (K.written sink.new)
+        (fault_line fault) result }
     ensures failed { result ≡ Err NoText.Failed → Rose (K.faults sink.old) (K.faults sink.new) }
     ensures no_fault { (result ≡ Err NoText.Failed → ⊥) → K.faults sink.new ≡ K.faults sink.old }
     ensures never_falls { K.faults sink.old ≤ K.faults sink.new }

@@ -59,7 +59,8 @@ fn report_run<K: Sink>(
     sink: &mut K,
 ) -> Outcome
     requires well_formed { IsWellFormed script.now }
-    ensures ends { EndsRun script.now run found.now (K.written sink.old) (K.written sink.new) result }
+    ensures ends { EndsRun script.now run found.now (K.written sink.old)
+        (K.written sink.new) result }
     ensures failed { result.status ≡ WRITE_FAILED → Rose (K.faults sink.old) (K.faults sink.new) }
     ensures no_fault { result.status ≢ WRITE_FAILED → K.faults sink.new ≡ K.faults sink.old }
     ensures never_falls { K.faults sink.old ≤ K.faults sink.new }
@@ -96,7 +97,8 @@ fn judge_run<K: Sink>(alloc: Global, script: &Script, run: Run, sink: &mut K) ->
 /// Runs a script by the options, and judges and reports on the run.
 fn run_script<K: Sink>(alloc: Global, options: &Options, script: &Script, sink: &mut K) -> Outcome
     requires well_formed { IsWellFormed script.now }
-    ensures ends { EndsScript options.now script.now (K.written sink.old) (K.written sink.new) result }
+    ensures ends { EndsScript options.now script.now (K.written sink.old)
+        (K.written sink.new) result }
     ensures failed { result.status ≡ WRITE_FAILED → Rose (K.faults sink.old) (K.faults sink.new) }
     ensures no_fault { result.status ≢ WRITE_FAILED → K.faults sink.new ≡ K.faults sink.old }
     ensures never_falls { K.faults sink.old ≤ K.faults sink.new }
@@ -117,9 +119,12 @@ fn answer<S: Source, K: Sink>(
 ) -> Outcome
     ensures ends { StepEnds options.now (S.left source.old) (S.left source.new)
         (K.written sink.old) (K.written sink.new) result }
-    ensures read_failed { result.status ≡ READ_FAILED → Rose (S.faults source.old) (S.faults source.new) }
-    ensures no_read_fault { result.status ≢ READ_FAILED → S.faults source.new ≡ S.faults source.old }
-    ensures write_failed { result.status ≡ WRITE_FAILED → Rose (K.faults sink.old) (K.faults sink.new) }
+    ensures read_failed { result.status ≡ READ_FAILED →
+        Rose (S.faults source.old) (S.faults source.new) }
+    ensures no_read_fault { result.status ≢ READ_FAILED →
+        S.faults source.new ≡ S.faults source.old }
+    ensures write_failed { result.status ≡ WRITE_FAILED →
+        Rose (K.faults sink.old) (K.faults sink.new) }
     ensures no_write_fault { result.status ≢ WRITE_FAILED → K.faults sink.new ≡ K.faults sink.old }
     ensures source_count { S.faults source.old ≤ S.faults source.new }
     ensures no_late_read { NoLateRead (S.end source.old) (S.end source.new) }
@@ -155,7 +160,8 @@ pub fn step_main<S: Source, K: Sink>(
         → Reported options.now (S.left source.old) (S.left source.new)
         (K.written sink.old) (K.written sink.new) result.status result.run }
     // A run is handed back only with the status of a run, or where a write failed.
-    ensures handed { IfSome result.run (λ _. IsRunStatus result.status ⊎ (result.status ≡ WRITE_FAILED)) }
+    ensures handed { IfSome result.run (λ _. IsRunStatus result.status ⊎
+        (result.status ≡ WRITE_FAILED)) }
 
     // Of the run that is handed back: each recorded update stands once in its cell's one history.
     ensures updates_stand_once { IfSome result.run
@@ -184,7 +190,8 @@ pub fn step_main<S: Source, K: Sink>(
     ensures refused { result.status ≡ SCRIPT_REFUSED
         → Refused (S.left source.old) (S.left source.new) (K.written sink.old) (K.written sink.new) result.run }
     // A read failed, and nothing was written.
-    ensures unread { result.status ≡ READ_FAILED → (K.written sink.new ≡ K.written sink.old) × (result.run ≡ None) }
+    ensures unread { result.status ≡ READ_FAILED → (K.written sink.new ≡ K.written sink.old) ×
+        (result.run ≡ None) }
     // A write failed, after a front of the text.
     ensures cut { result.status ≡ WRITE_FAILED
         → ReportedInPart options.now (S.left source.old) (S.left source.new)
@@ -196,7 +203,8 @@ pub fn step_main<S: Source, K: Sink>(
 
     // The counts of faults rise exactly where the status says so.
     ensures read_fault { result.status ≡ READ_FAILED → S.faults source.old < S.faults source.new }
-    ensures no_read_fault { result.status ≢ READ_FAILED → S.faults source.new ≡ S.faults source.old }
+    ensures no_read_fault { result.status ≢ READ_FAILED →
+        S.faults source.new ≡ S.faults source.old }
     ensures write_fault { result.status ≡ WRITE_FAILED → K.faults sink.old < K.faults sink.new }
     ensures no_write_fault { result.status ≢ WRITE_FAILED → K.faults sink.new ≡ K.faults sink.old }
 
@@ -204,7 +212,8 @@ pub fn step_main<S: Source, K: Sink>(
     ensures no_late_read { NoLateRead (S.end source.old) (S.end source.new) }
 
     // Without faults a script's text is reported on, and any other is refused, unless memory runs out.
-    ensures complete { (text : List ℕ) (script : ScriptValue) → Reads text script → S.left source.old ≡ Some text
+    ensures complete { (text : List ℕ) (script : ScriptValue) → Reads text script →
+        S.left source.old ≡ Some text
         → S.faults source.new ≡ S.faults source.old → K.faults sink.new ≡ K.faults sink.old
         → IsRunStatus result.status ⊎ (result.status ≡ OUT_OF_MEMORY) }
     ensures refuses { (text : List ℕ) → IsNoText text → S.left source.old ≡ Some text
@@ -248,27 +257,34 @@ pub fn rma_main<S: Source, K: Sink, G: Gate>(
         Reported options (S.left source.old) (S.left source.new)
         (K.written sink.old) (K.written sink.new) result.status result.run) }
     // A run is handed back only with the status of a run, or where a write failed.
-    ensures handed { IfSome result.run (λ _. IsRunStatus result.status ⊎ (result.status ≡ WRITE_FAILED)) }
+    ensures handed { IfSome result.run (λ _. IsRunStatus result.status ⊎
+        (result.status ≡ WRITE_FAILED)) }
 
     // Of the run that is handed back: each recorded update stands once in its cell's one history.
-    ensures updates_stand_once { IfSome result.run (λ run. StandFor (map string_bytes words.now) (λ options.
+    ensures updates_stand_once { IfSome result.run
+        (λ run. StandFor (map string_bytes words.now) (λ options.
         OfScript options (S.left source.old) (S.left source.new) UpdatesStandOnce run)) }
     // Every touch reads the state at its place.
-    ensures touches_read_states { IfSome result.run (λ run. StandFor (map string_bytes words.now) (λ options.
+    ensures touches_read_states { IfSome result.run
+        (λ run. StandFor (map string_bytes words.now) (λ options.
         OfScript options (S.left source.old) (S.left source.new) TouchesReadStates run)) }
     // A call is refused exactly by its named class.
-    ensures refused_by_class { IfSome result.run (λ run. StandFor (map string_bytes words.now) (λ options.
+    ensures refused_by_class { IfSome result.run
+        (λ run. StandFor (map string_bytes words.now) (λ options.
         OfScript options (S.left source.old) (S.left source.new) (CallsAreRefusedByClass options.delay) run)) }
     // A refused call changes nothing.
-    ensures refusals_change_nothing { IfSome result.run (λ run. StandFor (map string_bytes words.now) (λ options.
+    ensures refusals_change_nothing { IfSome result.run
+        (λ run. StandFor (map string_bytes words.now) (λ options.
         OfScript options (S.left source.old) (S.left source.new) (RefusalsOfRunChangeNothing options.delay) run)) }
     // A finding is printed exactly where rules S1 to S3 forbid a pair of accesses that no recorded synchronisation
     // orders.
-    ensures findings_printed { IfSome result.run (λ run. StandFor (map string_bytes words.now) (λ options.
+    ensures findings_printed { IfSome result.run
+        (λ run. StandFor (map string_bytes words.now) (λ options.
         OfScript options (S.left source.old) (S.left source.new)
         (PrintsFindings (K.written sink.old) (K.written sink.new)) run)) }
     // Without findings, every get and load gives what the updates ordered before it left.
-    ensures reads_ordered { IfSome result.run (λ run. StandFor (map string_bytes words.now) (λ options.
+    ensures reads_ordered { IfSome result.run (λ run.
+        StandFor (map string_bytes words.now) (λ options.
         OfScript options (S.left source.old) (S.left source.new) ReadsAreOrdered run)) }
 
     // The words stand for no options, and the line for that was written.
@@ -283,7 +299,8 @@ pub fn rma_main<S: Source, K: Sink, G: Gate>(
     ensures refused { result.status ≡ SCRIPT_REFUSED
         → Refused (S.left source.old) (S.left source.new) (K.written sink.old) (K.written sink.new) result.run }
     // A read failed, and nothing was written.
-    ensures unread { result.status ≡ READ_FAILED → (K.written sink.new ≡ K.written sink.old) × (result.run ≡ None) }
+    ensures unread { result.status ≡ READ_FAILED → (K.written sink.new ≡ K.written sink.old) ×
+        (result.run ≡ None) }
     // A write failed, after a front of the text.
     ensures cut { AreOptions (map string_bytes words.now) → result.status ≡ WRITE_FAILED
         → StandFor (map string_bytes words.now) (λ options. ReportedInPart options (S.left source.old)
@@ -297,7 +314,8 @@ pub fn rma_main<S: Source, K: Sink, G: Gate>(
 
     // The counts of faults rise exactly where the status says so.
     ensures read_fault { result.status ≡ READ_FAILED → S.faults source.old < S.faults source.new }
-    ensures no_read_fault { result.status ≢ READ_FAILED → S.faults source.new ≡ S.faults source.old }
+    ensures no_read_fault { result.status ≢ READ_FAILED →
+        S.faults source.new ≡ S.faults source.old }
     ensures write_fault { result.status ≡ WRITE_FAILED → K.faults sink.old < K.faults sink.new }
     ensures no_write_fault { result.status ≢ WRITE_FAILED → K.faults sink.new ≡ K.faults sink.old }
 

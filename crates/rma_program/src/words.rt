@@ -50,7 +50,8 @@ pub fn words_of(alloc: Global, arguments: io::Result<Args>) -> Result<Vec<String
 /// How the program ends where there are no words: one that is no text is refused like every other, and the source
 /// is not read.
 pub fn end_without_words<K: Sink>(why: NoWords, sink: &mut K) -> Outcome
-    ensures no_text { why ≡ NoWords.NoText → EndsUsage (K.written sink.old) (K.written sink.new) result }
+    ensures no_text { why ≡ NoWords.NoText → EndsUsage (K.written sink.old)
+        (K.written sink.new) result }
     ensures no_memory { why ≡ NoWords.NoMemory
         → (result ≡ record { status = OUT_OF_MEMORY; run = None }) × (sink.new ≡ sink.old) }
 {

@@ -38,7 +38,8 @@ impl Logs {
 
     /// The log of a rank.
     pub fn get(&self, rank: usize) -> Option<&Log>
-        ensures { option_map (λ (log : Kept). log.items) (option_copied result) ≡ slice_get self.now rank }
+        ensures { option_map (λ (log : Kept). log.items) (option_copied result) ≡
+            slice_get self.now rank }
     {
         self.logs.get(rank)
     }

@@ -65,7 +65,8 @@ impl MemorySink {
         ensures written { IfOk result (λ sink. sink.written ≡ []) }
         ensures room { IfOk result (λ sink. sink.room ≡ room) }
         ensures piece { IfOk result (λ sink. sink.piece ≡ piece) }
-        ensures plan { IfOk result (λ sink. sink.plan ≡ record { failing = failing.items; calls = 0; faults = 0 }) }
+        ensures plan { IfOk result (λ sink. sink.plan ≡
+            record { failing = failing.items; calls = 0; faults = 0 }) }
     {
         let bytes = Vec::with_capacity(alloc, room)?;
         Ok(MemorySink {
@@ -97,7 +98,8 @@ impl Sink for MemorySink {
         ensures cause { OnErr result (IsTrue (call_fails self.old.plan)
             ⊎ (self.old.room < length self.old.written + min self.old.piece (length bytes.now))) }
         ensures count { IfOk result (λ n. n ≡ min self.old.piece (length bytes.now)) }
-        ensures appended { IfOk result (λ n. self.new.written ≡ self.old.written ++ take n bytes.now) }
+        ensures appended { IfOk result (λ n. self.new.written ≡ self.old.written ++
+            take n bytes.now) }
         ensures kept { OnErr result (self.new.written ≡ self.old.written) }
 
         // The call is counted, and its failure is one fault.

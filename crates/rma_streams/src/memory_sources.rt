@@ -71,7 +71,8 @@ impl Source for MemorySource {
     /// Fails exactly where the number of the call is in the list.
     fn read(&mut self, buf: &mut [u8]) -> Result<usize, Failed>
         ensures fails { is_err result ≡ call_fails self.old.plan }
-        ensures count { IfOk result (λ n. n ≡ min (min self.old.piece (length buf.new)) (length self.old.left)) }
+        ensures count { IfOk result (λ n. n ≡ min (min self.old.piece (length buf.new))
+            (length self.old.left)) }
         ensures moved { IfOk result (λ n. self.old.left ≡ take n buf.new ++ self.new.left) }
         ensures kept { OnErr result (self.new.left ≡ self.old.left) }
         ensures told { self.new.end ≡ after_read self.old.end (length buf.new) result }

@@ -32,7 +32,8 @@ fn read_again<R: Read>(reader: &mut R, buf: &mut [u8]) -> Result<usize, Failed>
 fn write_again<W: Write>(writer: &mut W, bytes: &[u8]) -> Result<usize, Failed>
     ensures within { IfOk result (λ n. n ≤ length bytes.now) }
     ensures some { IfOk result (λ n. 0 < length bytes.now → 0 < n) }
-    ensures appended { WriteAppends (W.contents writer.old) (W.contents writer.new) result bytes.now }
+    ensures appended { WriteAppends (W.contents writer.old)
+        (W.contents writer.new) result bytes.now }
 {
     'calls: for _ in 0..MOST_CALLS {
         match writer.write(bytes) {
@@ -92,7 +93,8 @@ impl<R: Read> Source for StdSource<R> {
     /// is a fault.
     fn read(&mut self, buf: &mut [u8]) -> Result<usize, Failed>
         ensures within { IfOk result (λ n. n ≤ length buf.new) }
-        ensures moved { ReadConsumes (R.remaining self.old.stream) (R.remaining self.new.stream) result buf.new }
+        ensures moved { ReadConsumes (R.remaining self.old.stream)
+            (R.remaining self.new.stream) result buf.new }
         ensures told { self.new.end ≡ after_read self.old.end (length buf.new) result }
 
         // Each failure is one fault.
@@ -151,7 +153,8 @@ impl<W: Write> Sink for StdSink<W> {
     fn write(&mut self, bytes: &[u8]) -> Result<usize, Failed>
         ensures within { IfOk result (λ n. n ≤ length bytes.now) }
         ensures some { IfOk result (λ n. 0 < length bytes.now → 0 < n) }
-        ensures appended { WriteAppends (W.contents self.old.stream) (W.contents self.new.stream) result bytes.now }
+        ensures appended { WriteAppends (W.contents self.old.stream)
+            (W.contents self.new.stream) result bytes.now }
 
         // Each failure is one fault.
         ensures no_fault { OnOk result (self.new.faults ≡ self.old.faults) }

@@ -54,7 +54,8 @@ pub trait Sink {
     fn write(&mut self, bytes: &[u8]) -> Result<usize, Failed>
         ensures within { IfOk result (λ n. n ≤ length bytes.now) }
         ensures some { IfOk result (λ n. 0 < length bytes.now → 0 < n) }
-        ensures appended { IfOk result (λ n. Wrote (written self.old) (take n bytes.now) (written self.new)) }
+        ensures appended { IfOk result (λ n. Wrote (written self.old) (take n bytes.now)
+            (written self.new)) }
         ensures kept { OnErr result (written self.new ≡ written self.old) }
 
         // Why it failed.

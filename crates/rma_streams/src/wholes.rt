@@ -47,7 +47,8 @@ impl From<AllocError> for ReadError {
 /// After an `Err` some bytes may have been taken, and are lost.
 pub fn read_input<S: Source>(alloc: Global, source: &mut S) -> Result<Vec<u8>, ReadError>
     ensures took { IfOk result (λ bytes. Took (S.left source.old) bytes.items (S.left source.new)) }
-    ensures whole { IfOk result (λ bytes. AtEnd (S.left source.new) ⊎ (vec_len bytes ≡ READ_LIMIT)) }
+    ensures whole { IfOk result (λ bytes. AtEnd (S.left source.new) ⊎
+        (vec_len bytes ≡ READ_LIMIT)) }
     ensures within { IfOk result (λ bytes. vec_len bytes ≤ READ_LIMIT) }
     ensures lost { OnErr result (TookSome (S.left source.old) (S.left source.new)) }
 
@@ -57,8 +58,10 @@ pub fn read_input<S: Source>(alloc: Global, source: &mut S) -> Result<Vec<u8>, R
     // Why it failed. Want of memory is no fault of the source.
     ensures never_falls { S.faults source.old ≤ S.faults source.new }
     ensures no_fault { OnOk result (S.faults source.new ≡ S.faults source.old) }
-    ensures fault { result ≡ Err ReadError.Failed → Rose (S.faults source.old) (S.faults source.new) }
-    ensures no_memory { result ≡ Err ReadError.NoMemory → S.faults source.new ≡ S.faults source.old }
+    ensures fault { result ≡ Err ReadError.Failed →
+        Rose (S.faults source.old) (S.faults source.new) }
+    ensures no_memory { result ≡ Err ReadError.NoMemory →
+        S.faults source.new ≡ S.faults source.old }
 {
     let mut bytes = Vec::new(alloc);
     let mut piece = [0u8; READ_PIECE];

@@ -71,7 +71,8 @@ fn write_issue(
     access: &Access,
 ) -> Result<(), AllocError>
     requires index { index < length items.now }
-    requires chains { AreChains (length calls.now) items.now 0 chains.now.first.items chains.now.next.items }
+    requires chains { AreChains (length calls.now) items.now 0 chains.now.first.items
+        chains.now.next.items }
     ensures { OnOk result
         (string_bytes text.new
         ≡ string_bytes text.old ++ item_lines rank calls.now items.now index (Item.Issue call access.now)) }
@@ -108,7 +109,8 @@ fn write_item(
     item: &Item,
 ) -> Result<(), AllocError>
     requires index { index < length items.now }
-    requires chains { AreChains (length calls.now) items.now 0 chains.now.first.items chains.now.next.items }
+    requires chains { AreChains (length calls.now) items.now 0 chains.now.first.items
+        chains.now.next.items }
     ensures { OnOk result
         (string_bytes text.new ≡ string_bytes text.old ++ item_lines rank calls.now items.now index item.now) }
 {
@@ -142,8 +144,10 @@ fn write_said(
     call: usize,
 ) -> Result<(), AllocError>
     requires call { call < length calls.now }
-    requires chains { AreChains (length calls.now) items.now 0 chains.now.first.items chains.now.next.items }
-    ensures { OnOk result (string_bytes text.new ≡ string_bytes text.old ++ said_lines rank calls.now items.now call) }
+    requires chains { AreChains (length calls.now) items.now 0 chains.now.first.items
+        chains.now.next.items }
+    ensures { OnOk result (string_bytes text.new ≡ string_bytes text.old ++
+        said_lines rank calls.now items.now call) }
 {
     let mut at = chains.first(call);
     'links: while at < items.len() {
@@ -162,7 +166,8 @@ fn write_waiting(
     call: usize,
 ) -> Result<(), AllocError>
     requires { IfSome stands (λ at. at < length calls.now) }
-    ensures { OnOk result (string_bytes text.new ≡ string_bytes text.old ++ waiting_lines rank calls.now stands call) }
+    ensures { OnOk result (string_bytes text.new ≡ string_bytes text.old ++
+        waiting_lines rank calls.now stands call) }
 {
     match stands {
         Some(at) => {
@@ -184,7 +189,8 @@ pub(crate) fn write_calls(
     calls: &[Call],
     items: &[Item],
 ) -> Result<(), AllocError>
-    ensures { OnOk result (string_bytes text.new ≡ string_bytes text.old ++ call_lines rank calls.now items.now) }
+    ensures { OnOk result (string_bytes text.new ≡ string_bytes text.old ++
+        call_lines rank calls.now items.now) }
 {
     let chains = Chains::of(alloc, calls.len(), items)?;
     let stands = stands_at(calls, items, &chains);

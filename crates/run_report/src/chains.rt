@@ -60,7 +60,8 @@ impl Chains {
     /// The chains of a log, where there are so many calls. Want of memory is answered too where there are more items or
     /// more calls than a place can number.
     pub(crate) fn of(alloc: Global, calls: usize, items: &[Item]) -> Result<Chains, AllocError>
-        ensures { IfOk result (λ chains. AreChains calls items.now 0 chains.first.items chains.next.items) }
+        ensures { IfOk result
+            (λ chains. AreChains calls items.now 0 chains.first.items chains.next.items) }
     {
         if calls > MOST || items.len() > MOST {
             return Err(AllocError);
@@ -81,7 +82,8 @@ impl Chains {
     /// Puts the item at a place before the others of its chain; all items behind it have been put.
     fn put(&mut self, calls: usize, items: &[Item], at: usize)
         requires at { at < length items.now }
-        requires chains { AreChains calls items.now (at + 1) self.old.first.items self.old.next.items }
+        requires chains { AreChains calls items.now
+            (at + 1) self.old.first.items self.old.next.items }
         ensures { AreChains calls items.now at self.new.first.items self.new.next.items }
     {
         if let Some(chain) = chain_of(calls, &items[at]) {

@@ -31,7 +31,8 @@ fn write_found(
     dtype: Dtype,
     item: &Item,
 ) -> Result<(), AllocError>
-    ensures { OnOk result (string_bytes text.new ≡ string_bytes text.old ++ number_found access.now dtype item.now) }
+    ensures { OnOk result (string_bytes text.new ≡ string_bytes text.old ++
+        number_found access.now dtype item.now) }
 {
     match item {
         Item::Touch { element, bits, .. } => {

@@ -34,7 +34,8 @@ fn call_of(run: &Run, id: Id) -> u32
 
 /// Writes the name of an access behind a space.
 fn write_access(text: &mut String, run: &Run, id: Id) -> Result<(), AllocError>
-    ensures { OnOk result (string_bytes text.new ≡ string_bytes text.old ++ 32 ∷ access_name run.now id) }
+    ensures { OnOk result (string_bytes text.new ≡ string_bytes text.old ++
+        32 ∷ access_name run.now id) }
 {
     let rank = id.rank;
     let call = call_of(run, id);
@@ -43,7 +44,8 @@ fn write_access(text: &mut String, run: &Run, id: Id) -> Result<(), AllocError>
 
 /// Writes the line of a finding.
 fn write_finding(text: &mut String, run: &Run, finding: &Finding) -> Result<(), AllocError>
-    ensures { OnOk result (string_bytes text.new ≡ string_bytes text.old ++ finding_line run.now finding.now) }
+    ensures { OnOk result (string_bytes text.new ≡ string_bytes text.old ++
+        finding_line run.now finding.now) }
 {
     let rule = rule_name(finding.rule);
     write!(text, "finding {rule}")?;
@@ -59,7 +61,8 @@ pub(crate) fn write_findings(
     run: &Run,
     found: &[Finding],
 ) -> Result<(), AllocError>
-    ensures { OnOk result (string_bytes text.new ≡ string_bytes text.old ++ flat_map (finding_line run.now) found.now) }
+    ensures { OnOk result (string_bytes text.new ≡ string_bytes text.old ++
+        flat_map (finding_line run.now) found.now) }
 {
     for finding in found {
         write_finding(text, run, finding)?;

@@ -28,7 +28,8 @@ fn write_cell(text: &mut String, cell: u32) -> Result<(), AllocError>
 
 /// Writes the bytes of the cells.
 fn write_cells(text: &mut String, cells: &[u32]) -> Result<(), AllocError>
-    ensures { OnOk result (string_bytes text.new ≡ string_bytes text.old ++ flat_map cell_hex cells.now) }
+    ensures { OnOk result (string_bytes text.new ≡ string_bytes text.old ++
+        flat_map cell_hex cells.now) }
 {
     for cell in cells {
         write_cell(text, *cell)?;
@@ -45,7 +46,8 @@ fn is_blank(cells: &[u32]) -> bool
 
 /// Writes the line of some cells from an address on, where one of them is not 0.
 fn write_line(text: &mut String, rank: u8, address: usize, cells: &[u32]) -> Result<(), AllocError>
-    ensures { OnOk result (string_bytes text.new ≡ string_bytes text.old ++ memory_line rank address cells.now) }
+    ensures { OnOk result (string_bytes text.new ≡ string_bytes text.old ++
+        memory_line rank address cells.now) }
 {
     if is_blank(cells) {
         return Ok(());
@@ -94,7 +96,8 @@ fn write_piece(text: &mut String, rank: u8, cells: &[u32], piece: usize) -> Resu
 /// Writes the lines of a rank's memory.
 pub(crate) fn write_memory(text: &mut String, rank: u8, cells: &[u32]) -> Result<(), AllocError>
     requires { length cells.now < 2 ^ 32 }
-    ensures { OnOk result (string_bytes text.new ≡ string_bytes text.old ++ memory_lines rank cells.now) }
+    ensures { OnOk result (string_bytes text.new ≡ string_bytes text.old ++
+        memory_lines rank cells.now) }
 {
     let count = (cells.len() + 7) / 8;
     for piece in 0..count {

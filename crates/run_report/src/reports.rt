@@ -86,7 +86,8 @@ fn write_all_memory(
 
 /// Writes the counts of a run.
 fn write_summary(text: &mut String, run: &Run, found: &[Finding]) -> Result<(), AllocError>
-    ensures { OnOk result (string_bytes text.new ≡ string_bytes text.old ++ summary_line run.now found.now) }
+    ensures { OnOk result (string_bytes text.new ≡ string_bytes text.old ++
+        summary_line run.now found.now) }
 {
     let accesses = count_items(run, Counted::Accesses);
     let touches = count_items(run, Counted::Touches);
@@ -107,7 +108,8 @@ fn write_work(
     found: &[Finding],
 ) -> Result<(), AllocError>
     requires { IsWithinLimits script.now }
-    ensures { OnOk result (string_bytes text.new ≡ string_bytes text.old ++ work_report script.now run.now found.now) }
+    ensures { OnOk result (string_bytes text.new ≡ string_bytes text.old ++
+        work_report script.now run.now found.now) }
 {
     let calls = count_calls(script);
     let accesses = count_items(run, Counted::Accesses);
@@ -130,7 +132,8 @@ fn write_full(
     found: &[Finding],
 ) -> Result<(), AllocError>
     requires layout { layout.now ≡ layout_of_script script.now }
-    ensures { OnOk result (string_bytes text.new ≡ string_bytes text.old ++ full_report script.now run.now found.now) }
+    ensures { OnOk result (string_bytes text.new ≡ string_bytes text.old ++
+        full_report script.now run.now found.now) }
 {
     write_first(text, run)?;
     write_all_calls(alloc, text, script, run)?;
@@ -153,7 +156,8 @@ fn write_report(
 ) -> Result<(), AllocError>
     requires layout { layout.now ≡ layout_of_script script.now }
     requires limits { IsWithinLimits script.now }
-    ensures { OnOk result (string_bytes text.new ≡ string_bytes text.old ++ report script.now run.now found.now mode) }
+    ensures { OnOk result (string_bytes text.new ≡ string_bytes text.old ++
+        report script.now run.now found.now mode) }
 {
     match mode {
         Mode::Step => write_full(alloc, text, layout, script, run, found),

@@ -73,7 +73,8 @@ fn ends(calls: &[Call], call: usize, item: &Item) -> bool
 /// Whether an item ends the call of a number.
 fn is_ended(calls: &[Call], items: &[Item], chains: &Chains, call: usize) -> bool
     requires call { call < length calls.now }
-    requires chains { AreChains (length calls.now) items.now 0 chains.now.first.items chains.now.next.items }
+    requires chains { AreChains (length calls.now) items.now 0 chains.now.first.items
+        chains.now.next.items }
     ensures { result ≡ list_any (does_end calls.now call) items.now }
 {
     let mut at = chains.first(call);
@@ -88,7 +89,8 @@ fn is_ended(calls: &[Call], items: &[Item], chains: &Chains, call: usize) -> boo
 
 /// The first call that no item ends.
 fn first_left(calls: &[Call], items: &[Item], chains: &Chains) -> Option<usize>
-    requires { AreChains (length calls.now) items.now 0 chains.now.first.items chains.now.next.items }
+    requires { AreChains (length calls.now) items.now 0 chains.now.first.items
+        chains.now.next.items }
     ensures value { result ≡ first_left_of calls.now items.now }
     ensures within { IfSome result (λ call. call < length calls.now) }
 {
@@ -102,7 +104,8 @@ fn first_left(calls: &[Call], items: &[Item], chains: &Chains) -> Option<usize>
 
 /// The call at which a rank stands, if it has not ended.
 pub(crate) fn stands_at(calls: &[Call], items: &[Item], chains: &Chains) -> Option<usize>
-    requires { AreChains (length calls.now) items.now 0 chains.now.first.items chains.now.next.items }
+    requires { AreChains (length calls.now) items.now 0 chains.now.first.items
+        chains.now.next.items }
     ensures value { result ≡ standing_call calls.now items.now }
     ensures within { IfSome result (λ call. call < length calls.now) }
 {

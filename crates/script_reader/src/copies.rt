@@ -251,7 +251,8 @@ pub fn expand(
     calls: &[Call],
 ) -> Result<(), AllocError>
     requires { AllByRecursion (λ rank. rank < length lists.old.items) block.now }
-    ensures { OnOk result (lists.new.items ≡ added_to block.now (repeat_calls times calls.now) lists.old.items) }
+    ensures { OnOk result (lists.new.items ≡ added_to block.now
+        (repeat_calls times calls.now) lists.old.items) }
 {
     match block {
         [] => Ok(()),

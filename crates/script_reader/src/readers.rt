@@ -103,7 +103,8 @@ impl Reader {
     /// The number of ranks.
     fn add_ranks(&mut self, alloc: Global, fields: Fields) -> Result<(), ReadError>
         requires { IsCounted self.old }
-        ensures draft { Does result self.new.draft (draft_within_limits (with_line self.old.draft Ranks fields)) }
+        ensures draft { Does result self.new.draft
+            (draft_within_limits (with_line self.old.draft Ranks fields)) }
         ensures totals { OnOk result (HasTotals self.new) }
     {
         let spaces = no_spaces(alloc, fields.ranks)?;
@@ -119,7 +120,8 @@ impl Reader {
     fn add_space(&mut self, alloc: Global, fields: Fields) -> Result<(), ReadError>
         requires counted { IsCounted self.old }
         requires space { IsNewSpace self.old.draft fields }
-        ensures draft { Does result self.new.draft (draft_within_limits (with_line self.old.draft Space fields)) }
+        ensures draft { Does result self.new.draft
+            (draft_within_limits (with_line self.old.draft Space fields)) }
         ensures totals { OnOk result (HasTotals self.new) }
     {
         let totals = self.totals.with(1, 0, space_size(fields.room) as u64)?;
@@ -134,7 +136,8 @@ impl Reader {
     /// The end of a repeat.
     fn add_end(&mut self, alloc: Global, fields: Fields) -> Result<(), ReadError>
         requires { IsCounted self.old }
-        ensures draft { Does result self.new.draft (draft_within_limits (with_line self.old.draft End fields)) }
+        ensures draft { Does result self.new.draft
+            (draft_within_limits (with_line self.old.draft End fields)) }
         ensures totals { OnOk result (HasTotals self.new) }
     {
         let times = self.draft.times.unwrap_or(0);
@@ -159,7 +162,8 @@ impl Reader {
     /// A call.
     fn add_call(&mut self, alloc: Global, call: Call) -> Result<(), ReadError>
         requires { IsCounted self.old }
-        ensures draft { Does result self.new.draft (draft_within_limits (with_call self.old.draft call)) }
+        ensures draft { Does result self.new.draft
+            (draft_within_limits (with_call self.old.draft call)) }
         ensures totals { OnOk result (HasTotals self.new) }
     {
         if self.draft.times.is_some() {
@@ -180,7 +184,8 @@ impl Reader {
     fn add(&mut self, alloc: Global, form: Form, fields: Fields) -> Result<(), ReadError>
         requires counted { IsCounted self.old }
         requires space { form ≡ Space → IsNewSpace self.old.draft fields }
-        ensures draft { Does result self.new.draft (draft_within_limits (with_line self.old.draft form fields)) }
+        ensures draft { Does result self.new.draft
+            (draft_within_limits (with_line self.old.draft form fields)) }
         ensures totals { OnOk result (HasTotals self.new) }
     {
         match form {

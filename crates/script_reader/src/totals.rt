@@ -43,7 +43,8 @@ pub fn call_size(call: &Call) -> u32
 /// A total with so much more at each of some ranks, within its limit.
 fn sum(total: u32, ranks: usize, more: u64) -> Result<u32, FaultKind>
     requires { total ≤ 65536 }
-    ensures { result ≡ (if nat_le (total + ranks * more) 65536 then Ok (total + ranks * more) else Err Limit) }
+    ensures { result ≡ (if nat_le (total + ranks * more) 65536 then Ok
+        (total + ranks * more) else Err Limit) }
 {
     let sum = total as u128 + ranks as u128 * more as u128;
     if sum <= MOST as u128 {

@@ -195,7 +195,8 @@ fn behind_first(token: &[u8]) -> &[u8]
 /// The number below the limit that follows the letter.
 fn numbered(letter: u8, limit: u8, token: &[u8]) -> Option<u8>
     requires { limit ≤ 100 }
-    ensures { result ≡ find (λ n. bytes_eq (letter ∷ decimal n) token.now) (range_with_len 0 limit) }
+    ensures { result ≡ find (λ n. bytes_eq (letter ∷ decimal n) token.now)
+        (range_with_len 0 limit) }
 {
     let number = short_number(behind_first(token));
     if number < limit && is_name(letter, number, token) {

@@ -105,7 +105,8 @@ impl<N: Token> Board<N> {
         requires few { self.old.ranks ≤ 16 }
         requires name { asked.now.name < 32 }
         requires after { IsAfter (rows_on self.old) asked.now }
-        requires allowed { answer_to self.old.ranks (rows_on self.old) (row_asked asked.now) ≡ Allow }
+        requires allowed { answer_to self.old.ranks (rows_on self.old) (row_asked asked.now) ≡
+            Allow }
         requires gift { IfSome gift (λ token. N.origin token ≡ self.old.name) }
         ensures answer { IfOk result (λ answer.
             IsAnswer N.front N.origin self.old (row_asked asked.now) gift answer self.new) }

@@ -18,7 +18,8 @@ pub(crate) fn make_room(counts: &mut Vec<u32>, at: usize) -> Result<(), NoMemory
     requires { at < 2 ^ 32 }
     ensures room { OnOk result (at < length counts.new.items) }
     ensures small { OnOk result (slice_index counts.new.items at + 1 < 2 ^ 27) }
-    ensures same { (index : ℕ) → slice_index counts.new.items index ≡ slice_index counts.old.items index }
+    ensures same { (index : ℕ) → slice_index counts.new.items index ≡
+        slice_index counts.old.items index }
 {
     if count_at(counts, at) >= (1 << 27) - 1 {
         return Err(NoMemory);
@@ -37,7 +38,8 @@ pub(crate) fn make_room(counts: &mut Vec<u32>, at: usize) -> Result<(), NoMemory
 pub(crate) fn add(counts: &mut Vec<u32>, at: usize, more: bool)
     requires room { at < length counts.old.items }
     requires small { slice_index counts.old.items at + 1 < 2 ^ 27 }
-    ensures here { slice_index counts.new.items at ≡ slice_index counts.old.items at + (if more then 1 else 0) }
+    ensures here { slice_index counts.new.items at ≡
+        slice_index counts.old.items at + (if more then 1 else 0) }
     ensures others { (index : ℕ) → index ≢ at →
         slice_index counts.new.items index ≡ slice_index counts.old.items index }
 {

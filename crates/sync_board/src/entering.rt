@@ -130,7 +130,8 @@ impl WindowRecord {
     ) -> Result<(), NoMemory>
         requires asked { MayBeAsked layout.now asked.now }
         requires step { asked.now.step ≡ One }
-        ensures ok { OnOk result ((q : Question) → IsQuestion q asked.now → is_allowed_now q One ≡ true →
+        ensures ok { OnOk result ((q : Question) → IsQuestion q asked.now →
+            is_allowed_now q One ≡ true →
             KeepsBefore layout.now q self.old → KeepsAfter layout.now q asked.now.number One self.new) }
         ensures err { OnErr result ((q : Question) →
             KeepsBefore layout.now q self.old → KeepsBefore layout.now q self.new) }
@@ -203,7 +204,8 @@ impl WindowRecord {
         layout: &KeptLayout,
     ) -> Result<(), NoMemory>
         requires { MayBeAsked layout.now asked.now }
-        ensures ok { OnOk result ((q : Question) → IsQuestion q asked.now → is_allowed_now q asked.now.step ≡ true →
+        ensures ok { OnOk result ((q : Question) → IsQuestion q asked.now →
+            is_allowed_now q asked.now.step ≡ true →
             KeepsBefore layout.now q self.old → KeepsAfter layout.now q asked.now.number asked.now.step self.new) }
         ensures err { OnErr result ((q : Question) →
             KeepsBefore layout.now q self.old → KeepsBefore layout.now q self.new) }

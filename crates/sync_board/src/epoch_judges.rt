@@ -22,14 +22,16 @@ use rma_types::{Asserts, Class, Group, Lock};
 impl WindowRecord {
     /// The rank is posted.
     fn is_posted(&self, rank: u8) -> bool
-        ensures { (layout : Layout) (q : Question) → KeepsBefore layout q self.now → result ≡ is_posted_at q rank }
+        ensures { (layout : Layout) (q : Question) → KeepsBefore layout q self.now →
+            result ≡ is_posted_at q rank }
     {
         self.side_table.is_posted(rank as usize)
     }
 
     /// One of so many ranks is posted.
     fn is_any_posted(&self, ranks: u8) -> bool
-        ensures { (layout : Layout) (q : Question) → q.ranks ≡ ranks → KeepsBefore layout q self.now →
+        ensures { (layout : Layout) (q : Question) → q.ranks ≡ ranks →
+            KeepsBefore layout q self.now →
             result ≡ meets_post q None }
     {
         for rank in 0..ranks {
@@ -57,7 +59,8 @@ impl WindowRecord {
     /// The answer to a start: its group's posts must have come.
     pub(crate) fn judge_start(&self, asked: &Asked, group: &Group) -> Judged
         requires { asked.now.rank < 16 }
-        ensures { (layout : Layout) (q : Question) (win : ℕ) (asserts : Asserts) → IsQuestion q asked.now →
+        ensures { (layout : Layout) (q : Question) (win : ℕ) (asserts : Asserts) →
+            IsQuestion q asked.now →
             action_of q.call ≡ Synchronises win (Starts group.now asserts) →
             q.ranks ≤ 16 → is_wrong_group q.ranks group.now ≡ false →
             KeepsBefore layout q self.now → decision_of result ≡ decision q One }
@@ -73,7 +76,8 @@ impl WindowRecord {
     /// The answer to a wait or a true testwin: the completes of the posts' group must have come.
     pub(crate) fn judge_wait(&self, asked: &Asked) -> Judged
         requires { asked.now.rank < 16 }
-        ensures { (layout : Layout) (q : Question) (win : ℕ) (tests : Bool) → IsQuestion q asked.now →
+        ensures { (layout : Layout) (q : Question) (win : ℕ) (tests : Bool) →
+            IsQuestion q asked.now →
             action_of q.call ≡ Synchronises win (Waits tests) →
             KeepsBefore layout q self.now → decision_of result ≡ decision q One }
     {
@@ -104,7 +108,8 @@ impl WindowRecord {
     /// The answer to a lock_all: the post of any rank refuses it, and an exclusive lock has it wait.
     pub(crate) fn judge_lock_all(&self, asked: &Asked) -> Judged
         requires { asked.now.ranks ≤ 16 }
-        ensures { (layout : Layout) (q : Question) (win : ℕ) (asserts : Asserts) → IsQuestion q asked.now →
+        ensures { (layout : Layout) (q : Question) (win : ℕ) (asserts : Asserts) →
+            IsQuestion q asked.now →
             action_of q.call ≡ Synchronises win (Locks SharedLock None asserts) →
             KeepsBefore layout q self.now → decision_of result ≡ decision q One }
     {

@@ -53,7 +53,8 @@ impl WindowRecord {
 
     /// The answer to an arrival.
     fn judge_arrival(&self, asked: &Asked) -> Judged
-        ensures { (layout : Layout) (q : Question) → IsQuestion q asked.now → KeepsBefore layout q self.now →
+        ensures { (layout : Layout) (q : Question) → IsQuestion q asked.now →
+            KeepsBefore layout q self.now →
             decision_of result ≡ decision q Arrive }
     {
         match asked.call {
@@ -129,7 +130,8 @@ impl WindowRecord {
     /// The answer to an entry of step One.
     fn judge_one(&self, asked: &Asked) -> Judged
         requires { MayBeJudged asked.now }
-        ensures { (layout : Layout) (q : Question) → IsQuestion q asked.now → KeepsBefore layout q self.now →
+        ensures { (layout : Layout) (q : Question) → IsQuestion q asked.now →
+            KeepsBefore layout q self.now →
             decision_of result ≡ decision q One }
     {
         let rank = asked.rank;
@@ -247,7 +249,8 @@ impl WindowRecord {
     /// The answer to an entry. Barriers are on no window, and their Leave is answered without one.
     pub(crate) fn judge(&self, asked: &Asked) -> Judged
         requires { MayBeJudged asked.now }
-        ensures { (layout : Layout) (q : Question) → IsQuestion q asked.now → KeepsBefore layout q self.now →
+        ensures { (layout : Layout) (q : Question) → IsQuestion q asked.now →
+            KeepsBefore layout q self.now →
             (collective_of q.call ≡ Some BarrierCollective → asked.now.step ≡ Arrive) →
             decision_of result ≡ decision q asked.now.step }
     {

@@ -135,7 +135,8 @@ impl KeptLayout {
 
     /// The part that a rank brings by its call of this number, and none where that is no creation.
     pub(crate) fn part(&self, rank: u8, number: u32, call: &Call) -> Part
-        ensures { result ≡ option_map_or (part_made self.now rank number) (creation_of call.now) no_part }
+        ensures { result ≡ option_map_or (part_made self.now rank number)
+            (creation_of call.now) no_part }
     {
         match call {
             Call::Allocate { bytes, unit, .. } => Part {

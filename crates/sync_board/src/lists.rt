@@ -57,7 +57,8 @@ impl<N: Token> EntryList<N> {
     pub(crate) fn push(&mut self, row: EntryRow, call: Call, gift: Option<N>)
         requires { HasSpace self.old }
         ensures rows { self.new.rows.items ≡ self.old.rows.items ++ row ∷ [] }
-        ensures kept { self.new.kept.items ≡ self.old.kept.items ++ record { call = call; gift = gift } ∷ [] }
+        ensures kept { self.new.kept.items ≡ self.old.kept.items ++
+            record { call = call; gift = gift } ∷ [] }
     {
         match self.rows.push(row) {
             Ok(()) => {}

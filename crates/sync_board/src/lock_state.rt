@@ -66,7 +66,8 @@ impl LockState {
     /// Whether a lock is held at the rank.
     pub(crate) fn is_locked(&self, rank: u8) -> bool
         requires { rank < 16 }
-        ensures { (q : Question) → KeepsHeld q.ranks q.window q.entries self.now.table → result ≡ is_locked_at q rank }
+        ensures { (q : Question) → KeepsHeld q.ranks q.window q.entries self.now.table →
+            result ≡ is_locked_at q rank }
     {
         match &self.table {
             Some(table) => locks::is_locked(table, rank),
@@ -78,7 +79,8 @@ impl LockState {
     pub(crate) fn lock_one(&mut self, window: u32, rank: u8, kind: Lock, target: u8)
         requires rank { rank < 16 }
         requires target { target < 16 }
-        ensures { (q : Question) (act : Act) (asked : ℤ) → natural asked ≡ target → target < q.ranks →
+        ensures { (q : Question) (act : Act) (asked : ℤ) → natural asked ≡ target →
+            target < q.ranks →
             q.window ≡ window → act.window ≡ q.window → act.row.rank ≡ rank → q.rank ≡ rank →
             lock_in act.row.call ≡ Some (kind, Some asked) →
             are_free q (locks_asked q kind (Some asked)) ≡ true →
@@ -110,7 +112,8 @@ impl LockState {
     pub(crate) fn unlock_one(&mut self, window: u32, rank: u8, target: u8)
         requires rank { rank < 16 }
         requires target { target < 16 }
-        ensures { (ranks at : ℕ) (entries : List Act) (act : Act) (asked : ℤ) → natural asked ≡ target → at ≡ window →
+        ensures { (ranks at : ℕ) (entries : List Act) (act : Act) (asked : ℤ) →
+            natural asked ≡ target → at ≡ window →
             act.window ≡ at → act.row.rank ≡ rank → unlock_in act.row.call ≡ Some (Some asked) →
             KeepsHeld ranks at entries self.old.table →
             KeepsHeld ranks at (entries ++ act ∷ []) self.new.table }

@@ -88,7 +88,8 @@ pub(crate) fn may_lock_all(table: &LockTable) -> bool
 /// Whether a lock is held at the rank.
 pub(crate) fn is_locked(table: &LockTable, rank: u8) -> bool
     requires { rank < 16 }
-    ensures { (q : Question) → KeepsLocks q.ranks q.window q.entries table.now → result ≡ is_locked_at q rank }
+    ensures { (q : Question) → KeepsLocks q.ranks q.window q.entries table.now →
+        result ≡ is_locked_at q rank }
 {
     table.is_held(rank)
 }
@@ -125,7 +126,8 @@ pub(crate) fn lock_all(table: &mut LockTable, rank: u8, ranks: u8)
 pub(crate) fn unlock_one(table: &mut LockTable, rank: u8, target: u8)
     requires rank { rank < 16 }
     requires target { target < 16 }
-    ensures { (ranks window : ℕ) (entries : List Act) (act : Act) (asked : ℤ) → natural asked ≡ target →
+    ensures { (ranks window : ℕ) (entries : List Act) (act : Act) (asked : ℤ) →
+        natural asked ≡ target →
         act.window ≡ window → act.row.rank ≡ rank → unlock_in act.row.call ≡ Some (Some asked) →
         KeepsLocks ranks window entries table.old →
         KeepsLocks ranks window (entries ++ act ∷ []) table.new }

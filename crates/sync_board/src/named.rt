@@ -89,7 +89,8 @@ impl NameRecord {
         flavor: Flavor,
         ranks: u8,
     ) -> Result<Shape, NoMemory>
-        ensures { IfOk result (λ shape. (board : BoardState) (row : Row) (creation : Creation) (name : ℕ) →
+        ensures { IfOk result (λ shape. (board : BoardState) (row : Row) (creation : Creation)
+            (name : ℕ) →
             board.ranks ≡ ranks → creation.flavor ≡ flavor → IsLayoutOf board.ranks board.layout →
             window_of (rows_on board) row ≡ window_number round name →
             KeepsName board.layout board.ranks name (acts (rows_on board)) self.now.rounds.items →
@@ -126,7 +127,8 @@ impl Windows {
     pub(crate) fn judge(&self, alloc: Global, name: u8, round: u32, asked: &Asked) -> Judged
         requires asked { MayBeJudged asked.now }
         requires name { name < 32 }
-        ensures { (layout : Layout) (q : Question) → IsQuestion q asked.now → q.window ≡ window_number round name →
+        ensures { (layout : Layout) (q : Question) → IsQuestion q asked.now →
+            q.window ≡ window_number round name →
             KeepsWindows layout q.ranks q.entries self.now.names.items →
             (collective_of q.call ≡ Some BarrierCollective → asked.now.step ≡ Arrive) →
             decision_of result ≡ decision q asked.now.step }
@@ -152,10 +154,12 @@ impl Windows {
     ) -> Result<(), NoMemory>
         requires asked { MayBeAsked layout.now asked.now }
         requires name { name < 32 }
-        ensures ok { OnOk result ((q : Question) → IsQuestion q asked.now → q.window ≡ window_number round name →
+        ensures ok { OnOk result ((q : Question) → IsQuestion q asked.now →
+            q.window ≡ window_number round name →
             is_allowed_now q asked.now.step ≡ true → KeepsWindows layout.now q.ranks q.entries self.old.names.items →
             KeepsWindows layout.now q.ranks (entries_after q asked.now.number asked.now.step) self.new.names.items) }
-        ensures err { OnErr result ((q : Question) → IsQuestion q asked.now → q.window ≡ window_number round name →
+        ensures err { OnErr result ((q : Question) → IsQuestion q asked.now →
+            q.window ≡ window_number round name →
             KeepsWindows layout.now q.ranks q.entries self.old.names.items →
             KeepsWindows layout.now q.ranks q.entries self.new.names.items) }
     {

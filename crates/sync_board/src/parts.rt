@@ -43,8 +43,10 @@ fn make_room(parts: &mut Vec<Option<Part>>, count: usize) -> Result<(), NoMemory
 /// The part is kept for the item at the place, where none is kept yet.
 fn fill(parts: &mut Vec<Option<Part>>, at: usize, part: Part)
     requires { at < length parts.old.items }
-    ensures filled { part_kept parts.new.items at ≡ option_or (part_kept parts.old.items at) (Some part) }
-    ensures others { (other : ℕ) → other ≢ at → part_kept parts.new.items other ≡ part_kept parts.old.items other }
+    ensures filled { part_kept parts.new.items at ≡
+        option_or (part_kept parts.old.items at) (Some part) }
+    ensures others { (other : ℕ) → other ≢ at →
+        part_kept parts.new.items other ≡ part_kept parts.old.items other }
 {
     let kept = parts[at];
     parts[at] = kept.or(Some(part));
@@ -91,7 +93,8 @@ impl Parts {
     /// The rank has arrived at the window's creation with this part. A rank's first arrival counts.
     pub(crate) fn arrive(&mut self, rank: u8, part: Part)
         requires room { rank < length self.old.parts.items }
-        ensures { (layout : Layout) (window : ℕ) (entries : List Act) (act : Act) (creation : Creation) →
+        ensures { (layout : Layout) (window : ℕ) (entries : List Act) (act : Act)
+            (creation : Creation) →
             act.row.rank ≡ rank → act.window ≡ window → act.row.step ≡ ArriveStep →
             creation_of act.row.call ≡ Some creation → part ≡ part_made layout rank act.row.number creation →
             IsInside layout rank part →
@@ -121,7 +124,8 @@ impl Parts {
 
     /// The parts of so many ranks, where each may stand in a window of this flavor.
     fn collected(&self, alloc: Global, flavor: Flavor, ranks: u8) -> Result<Vec<Part>, NoMemory>
-        ensures parts { IfOk result (λ parts. parts.items ≡ parts_or_none self.now.parts.items ranks) }
+        ensures parts { IfOk result (λ parts. parts.items ≡
+            parts_or_none self.now.parts.items ranks) }
         ensures dynamic { IfOk result (λ parts. is_same_flavor flavor DynamicFlavor ≡ true →
             (rank : ℕ) → rank < ranks → part_or_none self.now.parts.items rank ≡ no_part) }
     {

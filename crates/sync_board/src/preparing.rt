@@ -56,7 +56,8 @@ fn reserve<N: Token>(list: &mut EntryList<N>, gains: &mut Gains<N>) -> Result<()
     ensures kept { list.new.kept.items ≡ list.old.kept.items }
     ensures gains { (ranks : ℕ) (entries : List Given) →
         Keeps N.front ranks entries gains.old → Keeps N.front ranks entries gains.new }
-    ensures sound { (name : List ℕ) → IsSound N.origin name gains.old → IsSound N.origin name gains.new }
+    ensures sound { (name : List ℕ) → IsSound N.origin name gains.old →
+        IsSound N.origin name gains.new }
     ensures space { OnOk result (HasSpace list.new) }
     ensures room { OnOk result (HasGainsRoom gains.new) }
 {
@@ -81,7 +82,8 @@ pub(crate) fn prepare_entry<N: Token>(
     ensures kept { list.new.kept.items ≡ list.old.kept.items }
     ensures gains { (ranks : ℕ) (entries : List Given) →
         Keeps N.front ranks entries gains.old → Keeps N.front ranks entries gains.new }
-    ensures sound { (name : List ℕ) → IsSound N.origin name gains.old → IsSound N.origin name gains.new }
+    ensures sound { (name : List ℕ) → IsSound N.origin name gains.old →
+        IsSound N.origin name gains.new }
     ensures space { OnOk result (HasSpace list.new) }
     ensures room { OnOk result (HasGainsRoom gains.new) }
     ensures call { IfOk result (λ prepared. prepared.call ≡ kept_call_of asked.now.call.now) }

@@ -67,7 +67,8 @@ impl Regions {
         requires end { base + bytes < 2 ^ 32 }
         ensures ok { OnOk result ((ranges : List Range) → KeepsRanges ranges self.old →
             KeepsRanges (ranges ++ record { base = base; bytes = bytes } ∷ []) self.new) }
-        ensures err { OnErr result ((ranges : List Range) → KeepsRanges ranges self.old → KeepsRanges ranges self.new) }
+        ensures err { OnErr result ((ranges : List Range) → KeepsRanges ranges self.old →
+            KeepsRanges ranges self.new) }
     {
         if self.apart.is_taken(base, bytes) {
             match self.others.push(Span { base, bytes }) {
@@ -81,7 +82,8 @@ impl Regions {
 
     /// The ranges that begin at the base go.
     pub(crate) fn detach(&mut self, base: u32)
-        ensures { (ranges : List Range) → KeepsRanges ranges self.old → KeepsRanges (without base ranges) self.new }
+        ensures { (ranges : List Range) → KeepsRanges ranges self.old →
+            KeepsRanges (without base ranges) self.new }
     {
         self.apart.remove(base);
         remove_from(&mut self.others, base);
@@ -105,7 +107,8 @@ impl Regions {
     /// Whether each of so many bytes from an address on lies in one of the ranges.
     pub(crate) fn covers(&self, lo: u32, len: u32) -> bool
         requires { lo + len < 2 ^ 32 }
-        ensures { (ranges : List Range) → KeepsRanges ranges self.now → result ≡ do_they_cover ranges lo len }
+        ensures { (ranges : List Range) → KeepsRanges ranges self.now →
+            result ≡ do_they_cover ranges lo len }
     {
         if self.others.is_empty() {
             return self.apart.covers(lo, len);

@@ -68,7 +68,8 @@ impl RoundTable {
 
     /// Every rank has arrived at the collective calls of the kind as often as this one.
     pub(crate) fn have_all_arrived(&self, kind: Kind, ranks: usize, rank: usize) -> bool
-        ensures { (q : Question) → q.rank ≡ rank → q.ranks ≡ ranks → collective_of q.call ≡ Some (collective_by kind) →
+        ensures { (q : Question) → q.rank ≡ rank → q.ranks ≡ ranks →
+            collective_of q.call ≡ Some (collective_by kind) →
             KeepsRounds (done_at q) self.now.rounds.items → result ≡ all_arrived q }
     {
         let begun = self.begun(kind, rank);
@@ -113,7 +114,8 @@ impl RoundTable {
 
     /// One arrival more of the rank at the window's creation.
     pub(crate) fn create(&mut self, alloc: Global, rank: u8, flavor: Flavor) -> Result<(), NoMemory>
-        ensures ok { OnOk result ((before after : ℕ → Done) (call : Call) → flavor_in call ≡ Some flavor →
+        ensures ok { OnOk result ((before after : ℕ → Done) (call : Call) →
+            flavor_in call ≡ Some flavor →
             IsSameFor rank before after → after rank ≡ with_creation (before rank) call →
             KeepsRounds before self.old.rounds.items → KeepsRounds after self.new.rounds.items) }
         ensures err { OnErr result ((done_of : ℕ → Done) →
@@ -146,7 +148,8 @@ impl RoundTable {
         rank: u8,
         asserts: Asserts,
     ) -> Result<(), NoMemory>
-        ensures ok { OnOk result ((before after : ℕ → Done) (call : Call) → asserts_in call ≡ Some asserts →
+        ensures ok { OnOk result ((before after : ℕ → Done) (call : Call) →
+            asserts_in call ≡ Some asserts →
             IsSameFor rank before after → after rank ≡ with_fence (before rank) call →
             KeepsRounds before self.old.rounds.items → KeepsRounds after self.new.rounds.items) }
         ensures err { OnErr result ((done_of : ℕ → Done) →

@@ -91,7 +91,8 @@ impl SideTable {
         rank: u8,
         group: &[bool; 16],
     ) -> Result<(), NoMemory>
-        ensures ok { OnOk result ((before after : ℕ → Done) (members : List ℕ) → IsGroup group.now members →
+        ensures ok { OnOk result ((before after : ℕ → Done) (members : List ℕ) →
+            IsGroup group.now members →
             IsSameFor rank before after → after rank ≡ with_post (before rank) members →
             KeepsSides before self.old.sides.items → KeepsSides after self.new.sides.items) }
         ensures err { OnErr result ((done_of : ℕ → Done) →
@@ -110,7 +111,8 @@ impl SideTable {
         rank: u8,
         group: &[bool; 16],
     ) -> Result<(), NoMemory>
-        ensures ok { OnOk result ((before after : ℕ → Done) (members : List ℕ) → IsGroup group.now members →
+        ensures ok { OnOk result ((before after : ℕ → Done) (members : List ℕ) →
+            IsGroup group.now members →
             IsSameFor rank before after → after rank ≡ with_start (before rank) members →
             KeepsSides before self.old.sides.items → KeepsSides after self.new.sides.items) }
         ensures err { OnErr result ((done_of : ℕ → Done) →

@@ -124,7 +124,8 @@ impl Side {
 
     /// One complete more: it completes the start of its number, where there is one.
     pub(crate) fn complete(&mut self) -> Result<(), NoMemory>
-        ensures ok { OnOk result ((d : Done) → Keeps d self.old → Keeps (with_complete d) self.new) }
+        ensures ok { OnOk result ((d : Done) → Keeps d self.old →
+            Keeps (with_complete d) self.new) }
         ensures err { OnErr result ((d : Done) → Keeps d self.old → Keeps d self.new) }
     {
         let completes = self.completes.checked_add(1).ok_or(NoMemory)?;

@@ -89,7 +89,8 @@ fn is_barrier(call: &Call) -> bool
 
 /// The entry is the arrival at a barrier.
 fn meets(asked: &Asked) -> bool
-    ensures { result ≡ (is_arrive asked.now.step && is_collective BarrierCollective asked.now.call.now) }
+    ensures { result ≡ (is_arrive asked.now.step &&
+        is_collective BarrierCollective asked.now.call.now) }
 {
     match asked.step {
         Step::Arrive => is_barrier(asked.call),
@@ -141,8 +142,10 @@ impl State {
         requires written { IsWrittenCall call.now }
         requires small { (index : ℕ) → slice_index self.now.creations.items index < 2 ^ 27 }
         ensures ranks { result.ranks ≡ ranks }
-        ensures row { row_asked result ≡ record { rank = rank; number = number; call = call.now; step = step } }
-        ensures after { (rows : List Row) → KeepsCreations rows self.now.creations.items → IsAfter rows result }
+        ensures row { row_asked result ≡
+            record { rank = rank; number = number; call = call.now; step = step } }
+        ensures after { (rows : List Row) → KeepsCreations rows self.now.creations.items →
+            IsAfter rows result }
         ensures below { result.name < 32 }
     {
         match window_named(call) {
@@ -175,7 +178,8 @@ impl State {
 
     /// Every rank has arrived at barriers as often as this one.
     fn have_all_met(&self, ranks: u8, rank: u8) -> bool
-        ensures { (q : Question) (rows : List Row) → q.rank ≡ rank → q.ranks ≡ ranks → q.call ≡ BarrierCall →
+        ensures { (q : Question) (rows : List Row) → q.rank ≡ rank → q.ranks ≡ ranks →
+            q.call ≡ BarrierCall →
             q.window ≡ 0 → q.entries ≡ acts rows →
             KeepsBarriers rows self.now.barriers.items → result ≡ all_arrived q }
     {
@@ -191,7 +195,8 @@ impl State {
 
     /// The answer to the Leave of a barrier.
     fn judge_barrier(&self, asked: &Asked) -> Judged
-        ensures { (layout : Layout) (rows : List Row) → asked.now.call.now ≡ BarrierCall → asked.now.step ≡ Leave →
+        ensures { (layout : Layout) (rows : List Row) → asked.now.call.now ≡ BarrierCall →
+            asked.now.step ≡ Leave →
             KeepsState layout asked.now.ranks rows self.now →
             decision_of result ≡ decide asked.now.ranks rows (row_asked asked.now) }
     {

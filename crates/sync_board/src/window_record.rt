@@ -59,7 +59,8 @@ impl Idle for WindowRecord {
 impl WindowRecord {
     /// The rank has posted to a group.
     pub(crate) fn post(&mut self, alloc: Global, rank: u8, group: &Group) -> Result<(), NoMemory>
-        ensures ok { OnOk result ((layout : Layout) (q : Question) (number : ℕ) (step : Step) (win : ℕ)
+        ensures ok { OnOk result ((layout : Layout) (q : Question) (number : ℕ) (step : Step)
+            (win : ℕ)
             (asserts : Asserts) → q.rank ≡ rank → action_of q.call ≡ Synchronises win (Posts group.now asserts) →
             q.ranks ≤ 16 → is_wrong_group q.ranks group.now ≡ false →
             KeepsBefore layout q self.old → KeepsAfter layout q number step self.new) }
@@ -72,7 +73,8 @@ impl WindowRecord {
 
     /// The rank has started to a group.
     pub(crate) fn start(&mut self, alloc: Global, rank: u8, group: &Group) -> Result<(), NoMemory>
-        ensures ok { OnOk result ((layout : Layout) (q : Question) (number : ℕ) (step : Step) (win : ℕ)
+        ensures ok { OnOk result ((layout : Layout) (q : Question) (number : ℕ) (step : Step)
+            (win : ℕ)
             (asserts : Asserts) → q.rank ≡ rank → action_of q.call ≡ Synchronises win (Starts group.now asserts) →
             KeepsBefore layout q self.old → KeepsAfter layout q number step self.new) }
         ensures err { OnErr result ((layout : Layout) (q : Question) →
@@ -84,7 +86,8 @@ impl WindowRecord {
 
     /// The rank has completed.
     pub(crate) fn complete(&mut self, alloc: Global, rank: u8) -> Result<(), NoMemory>
-        ensures ok { OnOk result ((layout : Layout) (q : Question) (number : ℕ) (step : Step) (win : ℕ) →
+        ensures ok { OnOk result ((layout : Layout) (q : Question) (number : ℕ) (step : Step)
+            (win : ℕ) →
             q.rank ≡ rank → action_of q.call ≡ Synchronises win Completes →
             KeepsBefore layout q self.old → KeepsAfter layout q number step self.new) }
         ensures err { OnErr result ((layout : Layout) (q : Question) →
@@ -95,7 +98,8 @@ impl WindowRecord {
 
     /// The rank has waited, or its testwin was true.
     pub(crate) fn wait(&mut self, alloc: Global, rank: u8) -> Result<(), NoMemory>
-        ensures ok { OnOk result ((layout : Layout) (q : Question) (number : ℕ) (step : Step) (win : ℕ) (tests : Bool) →
+        ensures ok { OnOk result ((layout : Layout) (q : Question) (number : ℕ) (step : Step)
+            (win : ℕ) (tests : Bool) →
             q.rank ≡ rank → action_of q.call ≡ Synchronises win (Waits tests) →
             KeepsBefore layout q self.old → KeepsAfter layout q number step self.new) }
         ensures err { OnErr result ((layout : Layout) (q : Question) →
@@ -139,7 +143,8 @@ impl WindowRecord {
         flavor: Flavor,
         part: Part,
     ) -> Result<(), NoMemory>
-        ensures ok { OnOk result ((layout : Layout) (q : Question) (number : ℕ) (creation : Creation) →
+        ensures ok { OnOk result ((layout : Layout) (q : Question) (number : ℕ)
+            (creation : Creation) →
             q.rank ≡ rank → action_of q.call ≡ Creates creation → creation.flavor ≡ flavor →
             part ≡ part_made layout rank number creation → IsInside layout rank part →
             KeepsBefore layout q self.old → KeepsAfter layout q number Arrive self.new) }
@@ -173,7 +178,8 @@ impl WindowRecord {
     pub(crate) fn lock_all(&mut self, window: u32, rank: u8, ranks: u8)
         requires rank { rank < 16 }
         requires ranks { ranks ≤ 16 }
-        ensures { (layout : Layout) (q : Question) (number : ℕ) (step : Step) (win : ℕ) (asserts : Asserts) →
+        ensures { (layout : Layout) (q : Question) (number : ℕ) (step : Step) (win : ℕ)
+            (asserts : Asserts) →
             q.rank ≡ rank → q.ranks ≡ ranks → q.window ≡ window →
             action_of q.call ≡ Synchronises win (Locks SharedLock None asserts) →
             are_free q (locks_asked q SharedLock None) ≡ true →
@@ -186,7 +192,8 @@ impl WindowRecord {
     pub(crate) fn unlock_one(&mut self, window: u32, rank: u8, target: u8)
         requires rank { rank < 16 }
         requires target { target < 16 }
-        ensures { (layout : Layout) (q : Question) (number : ℕ) (step : Step) (win : ℕ) (asked : ℤ) →
+        ensures { (layout : Layout) (q : Question) (number : ℕ) (step : Step) (win : ℕ)
+            (asked : ℤ) →
             q.rank ≡ rank → q.window ≡ window → action_of q.call ≡ Synchronises win (Unlocks (Some asked)) →
             natural asked ≡ target →
             KeepsBefore layout q self.old → KeepsAfter layout q number step self.new }
@@ -214,7 +221,8 @@ impl WindowRecord {
     ) -> Result<(), NoMemory>
         requires some { 0 < bytes }
         requires end { base + bytes < 2 ^ 32 }
-        ensures ok { OnOk result ((layout : Layout) (q : Question) (number : ℕ) (step : Step) (win : ℕ)
+        ensures ok { OnOk result ((layout : Layout) (q : Question) (number : ℕ) (step : Step)
+            (win : ℕ)
             (from size : ℤ) → q.rank ≡ rank → action_of q.call ≡ Attaches win from size →
             natural from ≡ base → natural size ≡ bytes →
             base + bytes ≤ bytes_at layout rank →

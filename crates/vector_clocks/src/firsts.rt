@@ -16,7 +16,8 @@ pub(crate) const PAST_ALL: u64 = 4294967296;
 fn marks_without(marks: &[Mark], a: Id) -> usize
     requires { IsSorted marks.now }
     ensures bound { result ≤ length marks.now }
-    ensures point { IsPartitionPoint (λ (mark : MarkValue). nat_le (slice_index mark.counts a.rank) a.index ≡ true)
+    ensures point { IsPartitionPoint (λ (mark : MarkValue). nat_le
+        (slice_index mark.counts a.rank) a.index ≡ true)
         (λ (mark : MarkValue). nat_le (slice_index mark.counts a.rank) a.index ≡ false) marks.now result }
 {
     marks.partition_point(|mark| count_at(mark, a.rank) <= a.index)

@@ -63,7 +63,8 @@ fn joined(counts: [u32; 16], gained: Option<Front>) -> [u32; 16]
 
 fn push_mark(clocks: &mut [Items<Mark>], rank: u8, mark: Mark) -> Result<(), NoMemory>
     requires { rank < length clocks.old }
-    ensures { OnOk result (clocks.new ≡ slice_set clocks.old rank (marks_of clocks.old rank ++ mark ∷ [])) }
+    ensures { OnOk result (clocks.new ≡ slice_set clocks.old rank
+        (marks_of clocks.old rank ++ mark ∷ [])) }
 {
     let marks = &mut clocks[rank as usize];
     match marks.push(mark) {
@@ -145,7 +146,8 @@ pub(crate) fn replay(
     requires name { board.old.name ≡ [] }
     requires lists { length clocks.old ≡ 16 }
     requires first { Replayed script.now run.now 0 board.old.entries clocks.old }
-    ensures { OnOk result (Replayed script.now run.now (length order.now) board.new.entries clocks.new) }
+    ensures { OnOk result (Replayed script.now run.now
+        (length order.now) board.new.entries clocks.new) }
 {
     for at in 0..order.len() {
         let one = order[at];

@@ -45,7 +45,8 @@ impl Attached {
         requires some { 0 < bytes }
         requires end { base + bytes < 2 ^ 32 }
         requires apart { is_taken self.old (record { base = base; bytes = bytes }) ≡ false }
-        ensures ok { OnOk result (self.new ≡ self.old ++ record { base = base; bytes = bytes } ∷ []) }
+        ensures ok { OnOk result (self.new ≡ self.old ++
+            record { base = base; bytes = bytes } ∷ []) }
         ensures err { OnErr result (self.new ≡ self.old) }
     {
         self.ranges.attach(0, base, bytes)

@@ -154,7 +154,8 @@ pub fn make_range(own: &mut OwnRanges, flavor: Flavor, win: u8, part: Part) -> R
 }
 
 fn does_any_overlap(ranges: &[Region], base: u32, bytes: u32) -> bool
-    ensures { result ≡ list_any (λ own. do_overlap (record { base = base; bytes = bytes }) own.range) ranges.now }
+    ensures { result ≡ list_any (λ own. do_overlap
+        (record { base = base; bytes = bytes }) own.range) ranges.now }
 {
     ranges.iter().any(|range| does_overlap(range, base, bytes))
 }
@@ -167,7 +168,8 @@ fn does_overlap(range: &Region, base: u32, bytes: u32) -> bool
 }
 
 fn detach_from(ranges: &mut Vec<Region>, win: u8, base: u32)
-    ensures { ranges.new.items ≡ filter (λ own. not (is_attached_from win base own)) ranges.old.items }
+    ensures { ranges.new.items ≡ filter (λ own.
+        not (is_attached_from win base own)) ranges.old.items }
 {
     ranges.retain(
         |range: &Region| -> bool

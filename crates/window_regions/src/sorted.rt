@@ -20,7 +20,8 @@ pub fn first_past(ranges: &[Region], address: u32) -> usize
 pub fn do_any_overlap(ranges: &[Region], base: u32, bytes: u32) -> bool
     requires ascending { IsAscending ranges.now }
     requires some { 0 < bytes }
-    ensures { result ≡ list_any (λ own. do_overlap (record { base = base; bytes = bytes }) own.range) ranges.now }
+    ensures { result ≡ list_any (λ own. do_overlap
+        (record { base = base; bytes = bytes }) own.range) ranges.now }
 {
     let at = first_past(ranges, base);
     if at < ranges.len() {

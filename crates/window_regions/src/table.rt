@@ -205,7 +205,8 @@ impl WindowTable {
     /// The window of this name and number is made (MPI 3.1, sections 11.2.1, 11.2.2 and 11.2.4). `Err` changes nothing.
     pub fn made(&mut self, win: u8, window: u32, shape: Shape) -> Result<(), NoMemory>
         requires { IsShape shape.flavor shape.parts }
-        ensures ok { OnOk result (self.new ≡ rules.with_window self.old win window shape.flavor shape.parts) }
+        ensures ok { OnOk result
+            (self.new ≡ rules.with_window self.old win window shape.flavor shape.parts) }
         ensures err { OnErr result (self.new ≡ self.old) }
     {
         if self.created.reserve(1).is_err() || self.windows.reserve(1).is_err() {
@@ -257,7 +258,8 @@ impl WindowTable {
     /// Whether the live window of this name is dynamic (MPI 3.1, section 11.2.4). In a dynamic window the part of each
     /// rank is one without bytes.
     pub fn is_dynamic(&self, win: u8) -> bool
-        ensures value { result ≡ option_map_or (λ window. rules.is_same_flavor window.flavor DynamicFlavor)
+        ensures value { result ≡ option_map_or
+            (λ window. rules.is_same_flavor window.flavor DynamicFlavor)
             (rules.window_of_name self.now win) false }
         ensures parts { result ≡ true → IfSome (rules.window_of_name self.now win)
             (λ window. (rank : ℕ) → rules.part_at window.parts rank ≡ rules.no_part) }
@@ -282,7 +284,8 @@ impl WindowTable {
         count: u32,
     ) -> Result<Range, Class>
         requires { count ≤ 256 }
-        ensures { result ≡ option_map_or (λ window. place_in (rules.part_at window.parts target) disp dtype count)
+        ensures { result ≡ option_map_or (λ window.
+            place_in (rules.part_at window.parts target) disp dtype count)
             (rules.window_of_name self.now win) (Err WinClass) }
     {
         match self.window(win) {

@@ -42,7 +42,12 @@ impl Model for Window {
 impl Window {
     pub fn new(win: u8, number: u32, shape: Shape) -> Window
         requires { IsShape shape.flavor shape.parts }
-        ensures { result ≡ record { win = win; number = number; flavor = shape.flavor; parts = shape.parts } }
+        ensures { result ≡ record {
+          win = win;
+          number = number;
+          flavor = shape.flavor;
+          parts = shape.parts;
+        } }
     {
         let Shape { flavor, parts } = shape;
         Window {
@@ -68,7 +73,8 @@ impl Window {
     /// In a dynamic window the part of each rank is one without bytes.
     pub fn is_dynamic(&self) -> bool
         ensures value { result ≡ is_same_flavor self.now.flavor DynamicFlavor }
-        ensures parts { result ≡ true → (rank : ℕ) → part_of_rank self.now.parts rank ≡ part_without_bytes }
+        ensures parts { result ≡ true → (rank : ℕ) →
+            part_of_rank self.now.parts rank ≡ part_without_bytes }
     {
         match self.flavor {
             Flavor::Allocate => false,
