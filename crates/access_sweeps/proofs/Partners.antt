@@ -17,10 +17,12 @@ use Rattle.order_rules.specs.Ordered.{JudgedAccess, is_ordered}
 use Rattle.order_rules.specs.Rules.{forbidden_kind}
 use Rattle.vector_clocks.specs.Marks.{before_in}
 use Rattle.access_sweeps.specs.Labels.{do_stand, label_of}
-use Rattle.access_sweeps.specs.Places.{ArePartners, IsLeastOf, NoneRises, is_pair, judged_at}
-use Rattle.access_sweeps.specs.Sweeps.{IsChosen, IsLater, IsSwept, accesses_of}
+use Rattle.access_sweeps.specs.Places.{AreLeastOf, ArePartners, IsLeastOf, NoneRises, is_pair, judged_at}
+use Rattle.access_sweeps.specs.Sweeps.{DoAllStand, HaveLabel, IsChosen, IsLater, IsSwept, accesses_of}
 use Rattle.access_sweeps.specs.Sweeps.{improved, improved_at, passed_of}
+use Rattle.access_sweeps.specs.declared.kinds.Label.{Label}
 use Rattle.access_sweeps.specs.declared.sweeps.Sweep.{Sweep}
+use Rattle.access_sweeps.proofs.Stands.{stand_through, stand_turned}
 
 -- ---- forbidden pairs
 
@@ -273,3 +275,20 @@ pub judged_read : (xs : List JudgedPoints) (b : ℕ) (d : JudgedPoints) → b < 
 judged_read [] b d within = absurd (omega (arith, within))
 judged_read (y ∷ xs) zero d within = refl
 judged_read (y ∷ xs) (suc b) d within = judged_read xs b d (omega (arith, within))
+
+-- accesses that may all stand beside each other form no pairs
+pub standing_least : (model : Model) (s : Sweep) → IsSwept model s → DoAllStand s → (best : List ℕ) →
+    AreLeastOf model (before_in s.clocks.now) (accesses_of s) s.first.now s.second.now best
+standing_least model s swept stand best j within k low less pair =
+    let x = judged_at (accesses_of s) (slice_index s.first.now k) in
+    let y = judged_at (accesses_of s) (slice_index s.second.now j) in
+    absurd (false≢true (sym (swept.decides k j low within ∙ ap not (stand k j low within))
+    ∙ (pair_parts model (before_in s.clocks.now) x y pair).0))
+
+-- both lists have the label of the first access
+pub labelled_stand : (s : Sweep) (label : Option Label) → HaveLabel s s.first.now label →
+    HaveLabel s s.second.now label → DoAllStand s
+labelled_stand s label first second k j low within =
+    let a = label_of s.by_operation (judged_at (accesses_of s) (slice_index s.first.now k)).access in
+    let b = label_of s.by_operation (judged_at (accesses_of s) (slice_index s.second.now j)).access in
+    stand_through a label b (first k low) (stand_turned b label (second j within))

@@ -1,6 +1,6 @@
 -- Sweeps of two lists of accesses: MPI 3.1, section 11.7, in this project's profile.
 use Rattle.std.specs.Prelude.{ℕ, ◌≡◌, ◌<◌, ◌≤◌, ◌⊎◌, Bool, true, false, not, ◌&&◌, List, length, map, slice_index}
-use Rattle.std.specs.Prelude.{slice_set, nat_lt, if◌then◌else◌}
+use Rattle.std.specs.Prelude.{slice_set, nat_lt, if◌then◌else◌, Option}
 use Rattle.std.specs.Option.{is_some}
 use Rattle.rma_types.specs.declared.accesses.Id.{Id}
 use Rattle.rma_types.specs.declared.findings.Model.{Model}
@@ -10,6 +10,7 @@ use Rattle.vector_clocks.specs.Marks.{before_in}
 use Rattle.judged_points.specs.Alike.{judged_by}
 use Rattle.access_sweeps.specs.Labels.{do_stand, label_of}
 use Rattle.access_sweeps.specs.Places.{judged_at}
+use Rattle.access_sweeps.specs.declared.kinds.Label.{Label}
 use Rattle.access_sweeps.specs.declared.fronts.Choice.{Choice}
 use Rattle.access_sweeps.specs.declared.fronts.Front.{Front}
 use Rattle.access_sweeps.specs.declared.fronts.Passed.{Passed}
@@ -110,3 +111,16 @@ improved_at s best at b =
     if nat_lt at (length s.first.now)
     then improved (before_in s.clocks.now) (accesses_of s) best (slice_index s.first.now at) b
     else best
+
+-- ---- accesses that may all stand beside each other
+
+-- the accesses at the places all have this label
+abbrev pub HaveLabel : Sweep → List ℕ → Option Label → Type 0
+HaveLabel s places label = (k : ℕ) → k < length places →
+    do_stand (label_of s.by_operation (judged_at (accesses_of s) (slice_index places k)).access) label ≡ true
+
+-- each access of the first list may stand beside each of the second
+abbrev pub DoAllStand : Sweep → Type 0
+DoAllStand s = (k j : ℕ) → k < length s.first.now → j < length s.second.now →
+    do_stand (label_of s.by_operation (judged_at (accesses_of s) (slice_index s.first.now k)).access)
+    (label_of s.by_operation (judged_at (accesses_of s) (slice_index s.second.now j)).access) ≡ true

@@ -3,9 +3,10 @@ ghost use Rattle.std.specs.Prelude.{◌≡◌, ◌≤◌, ◌<◌, ◌⊎◌, le
 ghost use Rattle.rma_types.specs.declared.findings.Model.{Model as ModelValue};
 ghost use Rattle.vector_clocks.specs.Marks.{before_in};
 ghost use Rattle.access_sweeps.specs.Places.{AreLeastOf, ArePartners, IsLeastOf, NoneRises};
-ghost use Rattle.access_sweeps.specs.Sweeps.{IsFrontFrom, IsSwept, IsWithin, accesses_of, improved, improved_at};
+ghost use Rattle.access_sweeps.specs.Sweeps.{DoAllStand, HaveLabel, IsFrontFrom, IsSwept, IsWithin, accesses_of, improved, improved_at};
 
 use crate::fronts::{Front, Passed};
+use crate::kinds::{Label, do_stand, label_of};
 use crate::order::is_ordered;
 use judged_points::JudgedPoints;
 use vector_clocks::Clocks;
@@ -62,6 +63,35 @@ impl Sweep<'_> {
         }
     }
 
+    /// Whether the accesses at the places all have this label.
+    fn have_label(&self, places: &[usize], label: Option<Label>) -> bool
+        requires { IsWithin (length self.now.accesses.now) places.now }
+        ensures { result ≡ true → HaveLabel self.now places.now label }
+    {
+        for at in 0..places.len() {
+            let access = &self.accesses[places[at]].access;
+            if !do_stand(label_of(access, self.by_operation), label) {
+                return false;
+            }
+        }
+        true
+    }
+
+    /// Whether the accesses of both lists all have the label of the first one: each may stand beside each.
+    fn do_all_stand(&self) -> bool
+        requires first_list { IsWithin (length self.now.accesses.now) self.now.first.now }
+        requires second_list { IsWithin (length self.now.accesses.now) self.now.second.now }
+        ensures { result ≡ true → DoAllStand self.now }
+    {
+        match self.first.first() {
+            Some(place) => {
+                let label = label_of(&self.accesses[*place].access, self.by_operation);
+                self.have_label(self.first, label) && self.have_label(self.second, label)
+            }
+            None => true,
+        }
+    }
+
     /// One access of the second list.
     fn pass(&self, front: Front, at: usize, best: &mut [usize]) -> Front
         requires first_list { IsWithin (length self.now.accesses.now) self.now.first.now }
@@ -103,7 +133,7 @@ impl Sweep<'_> {
 }
 
 /// For each access of the second list, the least partner of the first is taken where it is smaller than the one so far.
-/// Each list is gone through once.
+/// Each list is gone through once. Where all may stand beside each other, no order is asked.
 pub fn sweep_lists(lists: &Sweep<'_>, best: &mut [usize])
     requires first_list { IsWithin (length lists.now.accesses.now) lists.now.first.now }
     requires second_list { IsWithin (length lists.now.accesses.now) lists.now.second.now }
@@ -117,6 +147,9 @@ pub fn sweep_lists(lists: &Sweep<'_>, best: &mut [usize])
         AreLeastOf model (before_in lists.now.clocks.now) (accesses_of lists.now) lists.now.first.now
         lists.now.second.now best.new }
 {
+    if lists.do_all_stand() {
+        return;
+    }
     let mut front = Front { first: 0, other: 0 };
     for at in 0..lists.second.len() {
         front = lists.pass(front, at, best);

@@ -1,11 +1,16 @@
--- One access more of the second list.
+-- All may stand beside each other, or one access more of the second list.
 use Rattle.std.proofs.Common.{◌≡◌, inl, inr, subst, ◌∙◌, arith}
 use Rattle.std.specs.Prelude.{slice_index}
 use Rattle.std.proofs.lemmas.Bool.{cases_lt}
 use Rattle.vector_clocks.specs.Marks.{before_in}
 use Rattle.access_sweeps.specs.Places.{IsLeastOf}
 use Rattle.access_sweeps.specs.Sweeps.{accesses_of}
+use Rattle.access_sweeps.proofs.Partners.{standing_least}
 use Rattle.access_sweeps.proofs.sweeps.sweep_lists.Goals as goal
+
+pub returns-then-do_all_stand-clause-least : goal.returns-then-do_all_stand-clause-least
+returns-then-do_all_stand-clause-least c model swept =
+    standing_least model c.args.lists.now swept (c.do_all_stand.ensures c.if-do_all_stand.true) c.args.best.now
 
 pub loop-at-preserved : goal.loop-at-preserved
 loop-at-preserved c =
