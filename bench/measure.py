@@ -41,6 +41,7 @@ PARTS = [
     ("products", (8000, 16000), ""),
     ("pending_sums", (15000, 30000, 60000), "--delay end"),
     ("past_others", (10000, 20000, 40000), "--delay end"),
+    ("chain", (4000, 8000, 16000), "--delay end"),
     ("range_tests", (1000, 32000), ""),
 ]
 

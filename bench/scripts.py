@@ -166,6 +166,13 @@ def past_others(size):
     return from_rank_0(repeated(size // 2 // len(pending), pending) + repeated(size // len(flushed), flushed))
 
 
+def chain(size):
+    """accumulates of two elements, each on a cell of the one before, then a fetch on the last and a wait for it"""
+    calls = ["acc w0 0 %d int32 sum 1 1" % cell for cell in range(size)]
+    last = ["rgetacc q0 w0 0 %d int32 sum 1 1" % size, "waitreq q0", "unlock_all w0"]
+    return script(["rank 0", "allocate w0 %d 4" % (4 * size + 8), "lock_all w0"] + calls + last, 1)
+
+
 def range_tests(size):
     """20,000 attaches and loads that are refused where SIZE ranges of one byte are attached: the search of a range"""
     attaches = ["attach w0 %d 1" % at for at in range(0, 2 * size, 2)]
@@ -177,7 +184,7 @@ def range_tests(size):
 FORMS = {form.__name__: form for form in (
     cells, one_cell, sums_and_swaps, locks, locked_puts, rounds, accumulates, accumulates_of_one, puts, disjoint,
     flushed_gets, past_flushes, barriers, fences, windows, flushes, sums, products, pending_sums, past_others,
-    range_tests)}
+    chain, range_tests)}
 
 
 def main():
