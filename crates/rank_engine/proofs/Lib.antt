@@ -13,6 +13,7 @@ pub mod EntrySteps
 pub mod EntryTurns
 pub mod IssueMoves
 pub mod Issued
+pub mod KeptEntries
 pub mod KeptLogs
 pub mod Learnt
 pub mod MoveKinds

@@ -226,7 +226,7 @@ impl<'s, L: Keep + Drop> Agent<'s, L> {
     ///
     /// A token of `notes` is given with each Arrive, post, complete, unlock and unlock_all; what an entry gains is met.
     /// A step that refuses the call does nothing else. Where memory runs out, the log keeps all its items and the board
-    /// all its entries, and no cell is touched.
+    /// all its entries, behind which only entries of this rank may stand, and no cell is touched.
     pub fn next_board<M: Memory>(
         &mut self,
         notes: &mut M,
@@ -240,7 +240,7 @@ impl<'s, L: Keep + Drop> Agent<'s, L> {
         ensures known { IfOk result (λ _. Keeps (M.knows notes.old) (M.knows notes.new)) }
         ensures kept { OnErr result (KeepsItems self.old.agent.log self.new.agent.log) }
         ensures unwritten { OnErr result (Unwritten (M.face notes.old) (M.face notes.new)) }
-        ensures entries { OnErr result (KeepsEntries board.old board.new) }
+        ensures entries { OnErr result (KeepsEntries self.old.agent.rank board.old board.new) }
     {
         if self.log.free_known() < STEP_ROOM {
             return Ok(Turned::Full);

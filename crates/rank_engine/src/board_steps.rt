@@ -65,7 +65,7 @@ impl<'s, L: Keep + Drop> Agent<'s, L> {
         ensures known { IfOk result (λ _. Keeps (M.knows notes.old) (M.knows notes.new)) }
         ensures kept { OnErr result (self.new.agent.log ≡ self.old.agent.log) }
         ensures unwritten { OnErr result (Unwritten (M.face notes.old) (M.face notes.new)) }
-        ensures entries { OnErr result (KeepsEntries board.old board.new) }
+        ensures entries { OnErr result (KeepsEntries self.old.agent.rank board.old board.new) }
     {
         if self.kept == u32::MAX {
             return Err(NoMemory);
@@ -107,7 +107,7 @@ impl<'s, L: Keep + Drop> Agent<'s, L> {
         ensures known { IfOk result (λ _. Keeps (M.knows notes.old) (M.knows notes.new)) }
         ensures kept { OnErr result (self.new.agent.log ≡ self.old.agent.log) }
         ensures unwritten { OnErr result (Unwritten (M.face notes.old) (M.face notes.new)) }
-        ensures entries { OnErr result (KeepsEntries board.old board.new) }
+        ensures entries { OnErr result (KeepsEntries self.old.agent.rank board.old board.new) }
     {
         if self.kept == u32::MAX {
             return Err(NoMemory);
@@ -154,7 +154,7 @@ impl<'s, L: Keep + Drop> Agent<'s, L> {
         ensures known { IfOk result (λ _. Keeps (M.knows notes.old) (M.knows notes.new)) }
         ensures kept { OnErr result (self.new.agent.log ≡ self.old.agent.log) }
         ensures unwritten { OnErr result (Unwritten (M.face notes.old) (M.face notes.new)) }
-        ensures entries { OnErr result (KeepsEntries board.old board.new) }
+        ensures entries { OnErr result (KeepsEntries self.old.agent.rank board.old board.new) }
     {
         match self.close(notes, board, call, Step::One)? {
             Turned::NotYet => match u32::try_from(board.entries().len()) {
@@ -187,7 +187,7 @@ impl<'s, L: Keep + Drop> Agent<'s, L> {
         ensures known { IfOk result (λ _. Keeps (M.knows notes.old) (M.knows notes.new)) }
         ensures kept { OnErr result (KeepsItems self.old.agent.log self.new.agent.log) }
         ensures unwritten { OnErr result (Unwritten (M.face notes.old) (M.face notes.new)) }
-        ensures entries { OnErr result (KeepsEntries board.old board.new) }
+        ensures entries { OnErr result (KeepsEntries self.old.agent.rank board.old board.new) }
     {
         let arrived = self.open(notes, board, call, Step::Arrive)?;
         if !self.entered {
@@ -215,7 +215,7 @@ impl<'s, L: Keep + Drop> Agent<'s, L> {
         ensures known { IfOk result (λ _. Keeps (M.knows notes.old) (M.knows notes.new)) }
         ensures kept { OnErr result (KeepsItems self.old.agent.log self.new.agent.log) }
         ensures unwritten { OnErr result (Unwritten (M.face notes.old) (M.face notes.new)) }
-        ensures entries { OnErr result (KeepsEntries board.old board.new) }
+        ensures entries { OnErr result (KeepsEntries self.old.agent.rank board.old board.new) }
     {
         if self.entered {
             return self.close(notes, board, call, Step::Leave);

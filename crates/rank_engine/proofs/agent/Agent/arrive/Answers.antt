@@ -5,6 +5,7 @@ use Rattle.step_runs.specs.Agents.{end_call}
 use Rattle.step_runs.specs.BoardSteps.{arrive, enter}
 use Rattle.rma_types.specs.declared.accesses.Step.TheVariants.{Leave}
 use Rattle.sync_board.specs.Boards.{rows_on}
+use Rattle.rank_engine.proofs.KeptEntries.{keeps_both}
 use Rattle.rank_engine.proofs.TwoEntries.{HasArrived, has_arrived, if_ok_then, left_turn, still_closes, still_ready}
 use Rattle.rank_engine.proofs.agent.Agent.arrive.Goals as goal
 use Rattle.rank_engine.specs.Entering.{IsTurn}
@@ -52,3 +53,17 @@ returns-clause-turn g c =
     (λ turned two. left_turn turned c.args.self.now c.open.new.self c.close.new.self c.args.call.now c.args.board.now
     c.open.new.board c.close.new.board face between after arrived two)
     c.close.ensures.turn
+
+pub returns-clause-entries : goal.returns-clause-entries
+returns-clause-entries g c =
+    let begun = ap (λ (x : RankState). x.agent.entered) (sym c.self.view_is) ∙ c.if-not-self.false in
+    let face : Face = g.M.Memory.face c.args.notes.now in
+    let between : Face = g.M.Memory.face c.open.new.notes in
+    let arrived : HasArrived c.args.self.now c.open.new.self c.args.call.now c.args.board.now c.open.new.board face
+    between =
+    has_arrived c.in_ok-arrived.arrived c.args.self.now c.open.new.self c.args.call.now c.args.board.now
+    c.open.new.board
+    face between c.requires.ready c.requires.new c.requires.course c.in_ok-arrived.ensures.turn begun in
+    keeps_both c.close.result c.args.self.now.agent.rank c.open.new.self.agent.rank c.args.board.now c.open.new.board
+    c.close.new.board (ap (λ (x : RankState). x.agent.rank) arrived.steps.rank)
+    (arrived.steps.given, arrived.steps.of_rank, arrived.steps.entries) c.close.ensures.entries
