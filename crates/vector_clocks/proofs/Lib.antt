@@ -2,7 +2,6 @@
 
 pub mod Chains
 pub mod Entered
-pub mod FirstCounts
 pub mod Gains
 pub mod Greater
 pub mod Laws

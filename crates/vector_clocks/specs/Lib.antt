@@ -2,4 +2,3 @@
 pub mod Marks
 pub mod Numbers
 pub mod Replays
-pub mod Firsts

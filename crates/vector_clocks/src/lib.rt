@@ -2,7 +2,6 @@
 #![tactic(auto)]
 
 mod clocks;
-mod firsts;
 mod marks;
 mod replays;
 

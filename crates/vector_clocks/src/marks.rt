@@ -2,11 +2,9 @@
 ghost use Rattle.std.specs.Prelude.{◌≡◌, ◌≤◌, [], length, nat_le, slice_index, true, false};
 ghost use Rattle.std.specs.List.{list_any};
 ghost use Rattle.std.specs.List.Sorted.{IsPartitionPoint};
-ghost use Rattle.vector_clocks.specs.Firsts.{IsFirstOf, item_at};
 ghost use Rattle.vector_clocks.specs.Marks.{AreSorted, before_in, IsSorted, is_marked};
 ghost use Rattle.vector_clocks.specs.declared.marks.Mark.{Mark as MarkValue};
 
-use crate::firsts::{PAST_ALL, first_counting};
 use rma_types::{Id, Items};
 use std::alloc::Global;
 use std::marker::Model;
@@ -100,23 +98,6 @@ impl Clocks {
         match self.ranks.get(b.rank as usize) {
             Some(marks) => is_counted(marks.as_slice(), a, b.index),
             None => false,
-        }
-    }
-
-    /// The first index of the log of a rank from which on its items come after the item, or are it, by the order of the
-    /// run whose clocks these are (MPI 3.1, section 11.7, in this project's profile); 4,294,967,296 where none does. It
-    /// takes no memory.
-    pub fn first_after(&self, a: Id, rank: u8) -> u64
-        ensures { IsFirstOf (λ index. before_in self.now a (item_at rank index)) result }
-    {
-        let counted = match self.ranks.get(rank as usize) {
-            Some(marks) => first_counting(marks.as_slice(), a),
-            None => PAST_ALL,
-        };
-        if a.rank == rank {
-            counted.min(u64::from(a.index))
-        } else {
-            counted
         }
     }
 }
