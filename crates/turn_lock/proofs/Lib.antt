@@ -1,0 +1,4 @@
+-- Lemmas over plain lists, for the steps of the table.
+mod Totals
+mod Entries
+mod Moves
