@@ -2,3 +2,4 @@
 mod Totals
 mod Entries
 mod Moves
+mod Seating

@@ -27,32 +27,32 @@ has_none t (Some u) f = ap weight (ne_eqb u t (f u refl))
 has_one : (t : ℕ) (o : Option ℕ) → o ≡ Some t → has_drawn t o ≡ 1
 has_one t o e = ap (λ (x : Option ℕ). has_drawn t x) e ∙ ap weight (eq-eqb t t refl)
 
-none_some : (t : ℕ) → None ≡ Some t → ⊥
+pub none_some : (t : ℕ) → None ≡ Some t → ⊥
 none_some t e = true≢false (sym (ap is_some e))
 
-inside_le : (t : ℕ) (o : Option ℕ) (b : Bool) → (b ≡ true → o ≡ Some t) → weight b ≤ has_drawn t o
+pub inside_le : (t : ℕ) (o : Option ℕ) (b : Bool) → (b ≡ true → o ≡ Some t) → weight b ≤ has_drawn t o
 inside_le t o true f = let h = has_one t o (f refl) in omega arith
 inside_le t o false f = omega arith
 
-drawn_le : (t : ℕ) (o : Option ℕ) (b : Bool) → (b ≡ true → o ≡ Some t) → weight b ≤ drawn o
+pub drawn_le : (t : ℕ) (o : Option ℕ) (b : Bool) → (b ≡ true → o ≡ Some t) → weight b ≤ drawn o
 drawn_le t o true f = let h : drawn o ≡ 1 = ap drawn (f refl) in omega arith
 drawn_le t o false f = omega arith
 
 module _ {V E O : Type 0} (list : V → List E) (owner : E → ℕ) (origin : V → O) (seats : ℕ) (from : O) where
-  abbrev Table : Type 0
+  abbrev pub Table : Type 0
   Table = State (Option V) (View E O)
 
-  abbrev K : Table → Type 0
+  abbrev pub K : Table → Type 0
   K = Kept list owner origin seats from
 
   -- each total is what it was
-  abbrev Same : List (View E O) → List (View E O) → Type 0
+  abbrev pub Same : List (View E O) → List (View E O) → Type 0
   Same vs ws = (numbers vs ≡ numbers ws) × ((n : ℕ) → with_number n vs ≡ with_number n ws) × (tickets vs ≡ tickets ws) × ((t : ℕ) → with_ticket t vs ≡ with_ticket t ws) × (insiders vs ≡ insiders ws)
 
-  abbrev FitsIn : List E → ℕ → ℕ → View E O → Type 0
+  abbrev pub FitsIn : List E → ℕ → ℕ → View E O → Type 0
   FitsIn = Fits owner seats from
 
-  recut : (s : Table) (k : K s) (words : List ℕ) (views : List (View E O)) → words ≡ s.words → Same views s.views
+  pub recut : (s : Table) (k : K s) (words : List ℕ) (views : List (View E O)) → words ≡ s.words → Same views s.views
     → ((id : ℕ) (v : View E O) → get_elem? views id ≡ some v → FitsIn k.log k.served k.line v)
     → K (record { words = words; homes = s.homes; views = views })
   recut s k words views e same fits = record {
@@ -70,7 +70,7 @@ module _ {V E O : Type 0} (list : V → List E) (owner : E → ℕ) (origin : V 
     fits = fits }
 
   -- one view changes and weighs the same
-  reseen : (s : Table) (k : K s) (words : List ℕ) (id : ℕ) (v w : View E O) → words ≡ s.words → get_elem? s.views id ≡ some v
+  pub reseen : (s : Table) (k : K s) (words : List ℕ) (id : ℕ) (v w : View E O) → words ≡ s.words → get_elem? s.views id ≡ some v
     → length v.parts ≡ length w.parts → ((n : ℕ) → times n v.parts ≡ times n w.parts) → v.ticket ≡ w.ticket → v.inside ≡ w.inside
     → FitsIn k.log k.served k.line w
     → K (record { words = words; homes = s.homes; views = set s.views id w })

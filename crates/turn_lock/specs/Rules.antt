@@ -58,19 +58,20 @@ module _ {E O : Type 0} where
     pub gave : All (λ (p : ℕ × List E). (p.0 < seats) × (of owner p.0 log ≡ p.1)) v.parts
     pub of_origin : (o : O) → v.origin ≡ Some o → o ≡ from
 
-module _ {V E O : Type 0} (list : V → List E) (owner : E → ℕ) (origin : V → O) where
+module _ {V E O : Type 0} (list : V → List E) (origin : V → O) where
   -- the value is at home, or a view is inside
   abbrev pub IsShelved : O → List E → List (View E O) → List (maybe.Option (Option V)) → Type 0
   IsShelved from log views homes =
     ((x : V) × (homes ≡ some (Some x) ∷ []) × (list x ≡ log) × (origin x ≡ from))
     ⊎ ((homes ≡ none ∷ []) × (1 ≤ insiders views))
 
+module _ {V E O : Type 0} (list : V → List E) (owner : E → ℕ) (origin : V → O) where
   pub record Kept (seats : ℕ) (from : O) (s : State (Option V) (View E O)) : Type 0 where
     pub log : List E
     pub served : ℕ
     pub line : ℕ
     pub words : s.words ≡ (served + line) % 2 ^ 64 ∷ served % 2 ^ 64 ∷ []
-    pub home : IsShelved from log s.views s.homes
+    pub home : IsShelved list origin from log s.views s.homes
     pub few : seats < 2 ^ 32
     pub all_numbers : numbers s.views ≡ seats
     pub each_number : (n : ℕ) → with_number n s.views ≤ 1
