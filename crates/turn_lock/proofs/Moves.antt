@@ -11,7 +11,7 @@ use Rattle.std.proofs.Math.Seq.{drop-append_seam}
 use Rattle.std.proofs.lemmas.List.{append-nil}
 use Rattle.std.proofs.lemmas.List.Elements.{All-cons, All-head, All-tail, All-append, All-weaker, filter-append}
 use Rattle.atomic_table.proofs.Lists.{at_set, at_snoc, one_turn}
-use Rattle.atomic_table.specs.Table.{State, Me, Step, Act, keeps, takes, gives, Allows, Splits, Joins, Final, Seen, opening}
+use Rattle.atomic_table.specs.Table.{State, Me, Step, step, Act, keeps, takes, gives, Allows, Splits, Joins, Final, Seen, opening}
 use Rattle.turn_lock.specs.Lists.{of, longer}
 use Rattle.turn_lock.specs.Views.{numbers_from, dealing, opening_view, resting, hearing, waiting, holding, spent, without_first, first_alone, telling, both}
 use Rattle.turn_lock.specs.Rules.{total, weight, times, drawn, has_drawn, numbers, tickets, insiders, with_ticket, with_number, Fits, IsShelved, Kept}
@@ -287,3 +287,18 @@ module _ {V E O : Type 0} (list : V → List E) (owner : E → ℕ) (origin : V 
       subst (λ (w : View E O). K (record { words = slice_set s.words 1 ((slice_index s.words 1 + 1) % 2 ^ 64); homes = slice_set s.homes 0 (some (Some x)); views = set s.views id w }))
         (λ i. resting n (g ++ gone i) (sym whole i) o) (leave_kept id n g kn added o t x s k at whole own org),
       refl )
+
+  -- the same for a seat that is known to be so
+
+  pub draws_at : (slots id : ℕ) (m : Me (Option V) (View E O)) (n : ℕ) (g kn : List E) (o : O) → m ≡ (resting n g kn o, [])
+    → Allows K slots id m 0 (λ x. (x + 1) % 2 ^ 64) (Draws (step 0 0 0 0 none) m)
+  draws_at slots id m n g kn o e = subst (λ (z : Me (Option V) (View E O)). Allows K slots id z 0 (λ x. (x + 1) % 2 ^ 64) (Draws (step 0 0 0 0 none) z)) (sym e) (draws slots id (step 0 0 0 0 none) n g kn o)
+
+  pub looks_at : (slots id : ℕ) (m : Me (Option V) (View E O)) (n : ℕ) (g kn : List E) (o : O) (t : ℕ) → m ≡ (waiting n g kn o t, [])
+    → Allows K slots id m 1 (λ x. x) (Looks list owner origin (step 0 0 0 0 none) m)
+  looks_at slots id m n g kn o t e = subst (λ (z : Me (Option V) (View E O)). Allows K slots id z 1 (λ x. x) (Looks list owner origin (step 0 0 0 0 none) z)) (sym e) (looks slots id (step 0 0 0 0 none) n g kn o t)
+
+  pub hands_on_at : (slots id : ℕ) (m : Me (Option V) (View E O)) (n : ℕ) (g kn added : List E) (o : O) (t : ℕ) (x : V) → m ≡ (holding n g kn o t, (0, Some x) ∷ [])
+    → list x ≡ kn ++ added → All (λ e. owner e ≡ n) added → origin x ≡ o
+    → Allows K slots id m 1 (λ y. (y + 1) % 2 ^ 64) (HandsOn list (step 0 0 0 0 none) m)
+  hands_on_at slots id m n g kn added o t x e is own org = subst (λ (z : Me (Option V) (View E O)). Allows K slots id z 1 (λ y. (y + 1) % 2 ^ 64) (HandsOn list (step 0 0 0 0 none) z)) (sym e) (hands_on slots id (step 0 0 0 0 none) n g kn added o t x is own org)

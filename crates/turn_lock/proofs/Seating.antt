@@ -6,7 +6,7 @@ use mathlib.Core.Option.{some, none, some-injective, some-ne-none}
 use lib.ListN.{get_elem?, length-append}
 use Rattle.std.proofs.lemmas.List.Elements.{All-cons, All-head, All-tail, All-append, All-weaker}
 use Rattle.atomic_table.proofs.Lists.{at_set, at_snoc}
-use Rattle.atomic_table.specs.Table.{State, Step, keeps, Allows, Splits, Joins, Final, Seen, opening}
+use Rattle.atomic_table.specs.Table.{State, Me, Step, step, keeps, Allows, Splits, Joins, Final, Seen, opening}
 use Rattle.turn_lock.specs.Lists.{of, longer}
 use Rattle.turn_lock.specs.Views.{numbers_from, dealing, opening_view, resting, hearing, spent, without_first, first_alone, telling, both}
 use Rattle.turn_lock.specs.Rules.{total, weight, times, drawn, has_drawn, numbers, insiders, Fits, Kept}
@@ -178,3 +178,16 @@ module _ {V E O : Type 0} (list : V → List E) (owner : E → ℕ) (origin : V 
           (λ j u d. let m = drawn_le k.served u.ticket u.inside (λ e. ((k.fits j u d).in_turn e).0) in let l = (k.fits j u d).numbered in omega arith) F.1.1 in
         let b = k.all_numbers in let c : weight v.inside ≡ 0 = ap weight out in let e = h.1 in omega arith))
       k.home
+
+  -- the same for a seat that is known to be so
+
+  pub learns_at : (slots id : ℕ) (m : Me (Option V) (View E O)) (n : ℕ) (g kn h : List E) (o : O) → m ≡ (hearing n g kn h o, [])
+    → Allows Rule slots id m 1 (λ x. x) (Learns (step 0 0 0 0 none) m)
+  learns_at slots id m n g kn h o e = subst (λ (z : Me (Option V) (View E O)). Allows Rule slots id z 1 (λ x. x) (Learns (step 0 0 0 0 none) z)) (sym e) (learns slots id (step 0 0 0 0 none) n g kn h o)
+
+  pub deals_at : (id : ℕ) (v : View E O) (p : ℕ × List E) (ps : List (ℕ × List E)) (o : O) → v ≡ dealing (p ∷ ps) o → Splits Rule id v (without_first v) (first_alone v)
+  deals_at id v p ps o e = subst (λ (z : View E O). Splits Rule id z (without_first z) (first_alone z)) (sym e) (deals id p ps o)
+
+  pub closes_at : (id : ℕ) (v : View E O) (ws : List ℕ) (xs : List (Option V)) (y : Option V) → Final (Seen Rule id v) ws xs → v.inside ≡ false → length v.parts ≡ seats
+    → get_elem? xs 0 ≡ some y → (x : V) × (y ≡ Some x) × Ended v (origin x) (list x)
+  closes_at id v ws xs y F out all e = let c = closes id v ws xs F out all in (c.0, some-injective y (Some c.0) (sym e ∙ c.1), c.2)
