@@ -3,3 +3,4 @@ mod Totals
 mod Entries
 mod Moves
 mod Seating
+mod SeatLists

@@ -1,5 +1,5 @@
 -- What contracts say of a turn and of its seats.
-use Rattle.std.specs.Prelude.{ℕ, ◌≡◌, ◌+◌, ◌%◌, ◌^◌, List, [], ◌∷◌, Option, Some, None, length, map, false, slice_get}
+use Rattle.std.specs.Prelude.{ℕ, ◌≡◌, ◌%◌, ◌^◌, List, [], ◌∷◌, Option, Some, None, length, map, false, slice_get}
 use Rattle.atomic_table.specs.Seated.{TableId}
 use Rattle.turn_lock.specs.Views.{resting, waiting, holding, first, spent}
 use Rattle.turn_lock.specs.declared.seats.Turn.{Turn}
@@ -47,10 +47,10 @@ module _ {V E O : Type 0} where
       (seat.place.table_id ≡ name)
       × (t : ℕ) × (seat.place.me ≡ (holding (number_of seat) (given_by seat) (known_by seat) origin t, (0, None) ∷ []))
 
-    -- seats that nobody has used, whose numbers go on from one
-    abbrev pub AreFreshFrom : ℕ → List (TurnSeat V E O) → Type 0
-    AreFreshFrom i seats = (k : ℕ) (seat : TurnSeat V E O) → slice_get seats k ≡ Some seat
-      → (seat.place.table_id ≡ name) × (seat.place.me ≡ (resting (i + k) [] [] origin, []))
+    -- seats that nobody has used, whose numbers are their places
+    abbrev pub AreFresh : List (TurnSeat V E O) → Type 0
+    AreFresh seats = (k : ℕ) (seat : TurnSeat V E O) → slice_get seats k ≡ Some seat
+      → (seat.place.table_id ≡ name) × (seat.place.me ≡ (resting k [] [] origin, []))
 
   module _ (origin : V → O) (turn : Turn V E O) where
     abbrev pub IsIdle : TurnSeat V E O → Type 0

@@ -1,6 +1,6 @@
 // The seats at the start and at the end.
 ghost use Rattle.std.specs.Prelude.{◌≡◌, ◌<◌, [], length, All, IfOk};
-ghost use Rattle.turn_lock.specs.Seats.{AreFreshFrom, IsIdleAt, gathered};
+ghost use Rattle.turn_lock.specs.Seats.{AreFresh, IsIdleAt, gathered};
 ghost use Rattle.turn_lock.specs.Views.{dealing, numbers_from};
 
 use crate::plays::{Deal, Gather};
@@ -23,16 +23,14 @@ pub(crate) fn deal_seats<V: Listed>(
     requires dealer { dealer.me ≡ (dealing (numbers_from 0 count) (V.origin shared.now.key.value.value), []) }
     ensures count { IfOk result (λ seats. length seats.items ≡ count) }
     ensures fresh { IfOk result (λ seats.
-        AreFreshFrom shared.now.table_id (V.origin shared.now.key.value.value) 0 seats.items) }
+        AreFresh shared.now.table_id (V.origin shared.now.key.value.value) seats.items) }
 {
     let mut seats = Vec::with_capacity(alloc, count as usize).map_err(|_| NoMemory)?;
     for _ in 1..count {
         let place = shared.split_seat::<Deal>(&mut dealer);
-        seats.push(TurnSeat { place }).map_err(|_| NoMemory)?;
+        seats.push_reserved(TurnSeat { place });
     }
-    seats
-        .push(TurnSeat { place: dealer })
-        .map_err(|_| NoMemory)?;
+    seats.push_reserved(TurnSeat { place: dealer });
     Ok(seats)
 }
 
