@@ -1,13 +1,13 @@
 -- Lists of seats: fresh ones as they are dealt, and all of them as they are joined.
 use Rattle.std.proofs.Common.{◌≡◌, ℕ, zero, suc, ◌+◌, ◌-◌, ◌<◌, ◌≤◌, ◌⊎◌, inl, inr, ⊎_elim, true≢false, false, List, [], ◌∷◌, ◌++◌, length, drop, get_or, map, sym, refl, ap, ◌∙◌, subst, arith}
-use lib.ListN.{length-map}
+use lib.ListN.{length-map, length-append}
 use Rattle.std.specs.Prelude.{Option, Some, None, All, slice_get, is_some, unwrap_or}
 use mathlib.Core.List.{IsPrefix}
 use Rattle.std.proofs.lemmas.List.{append_assoc}
 use Rattle.std.proofs.lemmas.List.Elements.{All-cons, All-head, All-tail}
 use Rattle.atomic_table.specs.Seated.{TableId}
 use Rattle.turn_lock.specs.Lists.{of}
-use Rattle.turn_lock.specs.Views.{numbers_from, first, resting, both}
+use Rattle.turn_lock.specs.Views.{numbers_from, first, resting, both, dealing, without_first}
 use Rattle.turn_lock.specs.Seats.{number_of, given_by, known_by, IsIdleAt, AreFresh, gathered}
 use Rattle.turn_lock.specs.declared.views.View.{View}
 use Rattle.turn_lock.specs.declared.seats.TurnSeat.{TurnSeat}
@@ -74,9 +74,9 @@ module _ {V E O : Type 0} (name : TableId) (o : O) where
   gather_more s (d ∷ rest) all idle e lt = λ i. both (idle.1 i).0 (e i)
 
 module _ {V E O : Type 0} (o : O) where
-  pub gathered_out : (xs : List (TurnSeat V E O)) → ((gathered o xs).inside ≡ false) × (length (gathered o xs).parts ≡ length xs)
-  gathered_out [] = (refl, refl)
-  gathered_out (x ∷ xs) = (refl, ap suc (length-map xs (λ (s : TurnSeat V E O). (number_of s, given_by s))))
+  pub gathered_out : (xs : List (TurnSeat V E O)) → ((gathered o xs).ticket ≡ None) × ((gathered o xs).inside ≡ false) × (length (gathered o xs).parts ≡ length xs)
+  gathered_out [] = (refl, refl, refl)
+  gathered_out (x ∷ xs) = (refl, refl, ap suc (length-map xs (λ (s : TurnSeat V E O). (number_of s, given_by s))))
 
   pub gathered_known : (l : List E) (xs : List (TurnSeat V E O)) → IsPrefix (gathered o xs).known l → All (λ (h : List E). IsPrefix h l) (gathered o xs).heard
     → All (λ (s : TurnSeat V E O). IsPrefix (known_by s) l) xs
@@ -87,3 +87,29 @@ module _ {V E O : Type 0} (o : O) where
     → All (λ (s : TurnSeat V E O). of owner (number_of s) l ≡ given_by s) xs
   gathered_gave owner l [] all = all_none (λ (s : TurnSeat V E O). of owner (number_of s) l ≡ given_by s)
   gathered_gave owner l (x ∷ xs) all = all_unmap (λ (p : ℕ × List E). of owner p.0 l ≡ p.1) (λ (s : TurnSeat V E O). (number_of s, given_by s)) (x ∷ xs) all
+
+-- What is left to be dealt begins with the next number
+
+pub dealt_at : {E O : Type 0} (i n : ℕ) (v : View E O) (o : O) → v ≡ dealing (numbers_from i n) o → 0 < n → v ≡ dealing ((i, []) ∷ numbers_from (i + 1) (n - 1)) o
+dealt_at {E} i n v o e lt = e ∙ ap (λ (l : List (ℕ × List E)). dealing l o) (numbers_more E i n lt)
+
+pub dealt_left : {E O : Type 0} (i n j m : ℕ) (v : View E O) (o : O) → v ≡ dealing (numbers_from i n) o → 0 < n → j ≡ i + 1 → m ≡ n - 1 → without_first v ≡ dealing (numbers_from j m) o
+dealt_left {E} i n j m v o e lt ej em = ap without_first (dealt_at i n v o e lt) ∙ (λ k. dealing (numbers_from {E = E} (sym ej k) (sym em k)) o)
+
+module _ {V E O : Type 0} (name : TableId) (o : O) where
+  -- all seats are those that are left, the one that was taken last, and those that were taken before
+  pub record Seam (all left : List (TurnSeat V E O)) (s : TurnSeat V E O) (taken : List (TurnSeat V E O)) : Type 0 where
+    pub here : IsIdleAt name o s
+    pub whole : left ++ drop (length left) all ≡ all
+    pub fewer : length left < length all
+    pub behind : drop (length left) all ≡ s ∷ taken
+
+  pub seam : (all left : List (TurnSeat V E O)) (s : TurnSeat V E O) (taken : List (TurnSeat V E O)) → all ≡ (left ++ s ∷ []) ++ taken → All (IsIdleAt name o) all → Seam all left s taken
+  seam all left s taken e idle =
+    let behind = ap (λ (l : List (TurnSeat V E O)). drop (length left) l) e ∙ drop_seam left s taken in
+    let long : length all ≡ length left + 1 + length taken = ap length e ∙ length-append (left ++ s ∷ []) taken ∙ ap (λ (n : ℕ). n + length taken) (length-append left (s ∷ [])) in
+    record {
+      here = all_seam (IsIdleAt name o) left s taken (subst (λ (l : List (TurnSeat V E O)). All (IsIdleAt name o) l) e idle);
+      whole = ap (λ (l : List (TurnSeat V E O)). left ++ l) behind ∙ sym (append_assoc left (s ∷ []) taken) ∙ sym e;
+      fewer = omega arith;
+      behind = behind }
