@@ -4,3 +4,4 @@ mod Entries
 mod Moves
 mod Seating
 mod SeatLists
+mod Ending

@@ -1,5 +1,5 @@
 -- Lists of seats: fresh ones as they are dealt, and all of them as they are joined.
-use Rattle.std.proofs.Common.{◌≡◌, ℕ, zero, suc, ◌+◌, ◌-◌, ◌<◌, ◌≤◌, ◌⊎◌, inl, inr, ⊎_elim, true≢false, false, List, [], ◌∷◌, ◌++◌, length, drop, get_or, map, sym, refl, ap, ◌∙◌, subst, arith}
+use Rattle.std.proofs.Common.{◌≡◌, ℕ, zero, suc, ◌+◌, ◌-◌, ◌<◌, ◌⊎◌, inl, inr, ⊎_elim, true≢false, false, List, [], ◌∷◌, ◌++◌, length, drop, get_or, map, sym, refl, ap, ◌∙◌, subst, arith}
 use lib.ListN.{length-map, length-append}
 use Rattle.std.specs.Prelude.{Option, Some, None, All, slice_get, is_some, unwrap_or}
 use mathlib.Core.List.{IsPrefix}
@@ -43,33 +43,31 @@ numbers_more E i (suc n) lt = ap (λ (l : List (ℕ × List E)). (i, []) ∷ l) 
   where
     next : suc i ≡ i + 1
     next = omega arith
+
     left : n ≡ suc n - 1
     left = omega arith
 
 module _ {V E O : Type 0} (name : TableId) (o : O) where
-  pub fresh_none : AreFresh {V = V} {E = E} name o []
-  fresh_none k seat e = absurd (true≢false (sym (ap is_some e)))
-
   pub fresh_more : (xs : List (TurnSeat V E O)) (a : TurnSeat V E O) → AreFresh name o xs → a.place.table_id ≡ name → a.place.me ≡ (resting (length xs) [] [] o, [])
-    → AreFresh name o (xs ++ a ∷ [])
+      → AreFresh name o (xs ++ a ∷ [])
   fresh_more xs a fresh t e k seat d = ⊎_elim (λ p. fresh k seat p)
-    (λ p. subst (λ (z : TurnSeat V E O). (z.place.table_id ≡ name) × (z.place.me ≡ (resting k [] [] o, []))) p.1
+      (λ p. subst (λ (z : TurnSeat V E O). (z.place.table_id ≡ name) × (z.place.me ≡ (resting k [] [] o, []))) p.1
       (t, e ∙ ap (λ (n : ℕ). (resting n [] [] o, [])) (sym p.0)))
-    (get_snoc xs a seat k d)
+      (get_snoc xs a seat k d)
 
   pub fresh_at : (xs : List (TurnSeat V E O)) → AreFresh name o xs → (P : TurnSeat V E O → Type 0)
-    → ((k : ℕ) (s : TurnSeat V E O) → s.place.table_id ≡ name → s.place.me ≡ (resting k [] [] o, []) → P s) → All P xs
+      → ((k : ℕ) (s : TurnSeat V E O) → s.place.table_id ≡ name → s.place.me ≡ (resting k [] [] o, []) → P s) → All P xs
   fresh_at xs fresh P each k d lt = let f = fresh k (get_or xs k d) (get_some xs k d lt) in each k (get_or xs k d) f.0 f.1
 
   pub fresh_idle : (k : ℕ) (s : TurnSeat V E O) → s.place.table_id ≡ name → s.place.me ≡ (resting k [] [] o, []) → IsIdleAt name o s
   fresh_idle k s t e =
-    (t, e ∙ (λ i. (resting (first (sym e i).0.parts).0 (first (sym e i).0.parts).1 (sym e i).0.known o, [])))
+      (t, e ∙ (λ i. (resting (first (sym e i).0.parts).0 (first (sym e i).0.parts).1 (sym e i).0.known o, [])))
 
-  pub gather_first : (s : TurnSeat V E O) → IsIdleAt name o s → s.place.me ≡ (gathered o (s ∷ []), [])
-  gather_first s idle = idle.1
+  pub fresh_empty : (k : ℕ) (s : TurnSeat V E O) → s.place.table_id ≡ name → s.place.me ≡ (resting k [] [] o, []) → (given_by s ≡ []) × (known_by s ≡ [])
+  fresh_empty k s t e = (ap (λ m. (first m.0.parts).1) e, ap (λ m. m.0.known) e)
 
   pub gather_more : (s : TurnSeat V E O) (rest : List (TurnSeat V E O)) (all : View E O) → IsIdleAt name o s → all ≡ gathered o rest → 0 < length rest
-    → both s.place.me.0 all ≡ gathered o (s ∷ rest)
+      → both s.place.me.0 all ≡ gathered o (s ∷ rest)
   gather_more s [] all idle e lt = absurd (omega arith)
   gather_more s (d ∷ rest) all idle e lt = λ i. both (idle.1 i).0 (e i)
 
@@ -79,12 +77,12 @@ module _ {V E O : Type 0} (o : O) where
   gathered_out (x ∷ xs) = (refl, refl, ap suc (length-map xs (λ (s : TurnSeat V E O). (number_of s, given_by s))))
 
   pub gathered_known : (l : List E) (xs : List (TurnSeat V E O)) → IsPrefix (gathered o xs).known l → All (λ (h : List E). IsPrefix h l) (gathered o xs).heard
-    → All (λ (s : TurnSeat V E O). IsPrefix (known_by s) l) xs
+      → All (λ (s : TurnSeat V E O). IsPrefix (known_by s) l) xs
   gathered_known l [] p all = all_none (λ (s : TurnSeat V E O). IsPrefix (known_by s) l)
   gathered_known l (x ∷ xs) p all = All-cons (λ (s : TurnSeat V E O). IsPrefix (known_by s) l) x xs p (all_unmap (λ (h : List E). IsPrefix h l) known_by xs all)
 
   pub gathered_gave : (owner : E → ℕ) (l : List E) (xs : List (TurnSeat V E O)) → All (λ (p : ℕ × List E). of owner p.0 l ≡ p.1) (gathered o xs).parts
-    → All (λ (s : TurnSeat V E O). of owner (number_of s) l ≡ given_by s) xs
+      → All (λ (s : TurnSeat V E O). of owner (number_of s) l ≡ given_by s) xs
   gathered_gave owner l [] all = all_none (λ (s : TurnSeat V E O). of owner (number_of s) l ≡ given_by s)
   gathered_gave owner l (x ∷ xs) all = all_unmap (λ (p : ℕ × List E). of owner p.0 l ≡ p.1) (λ (s : TurnSeat V E O). (number_of s, given_by s)) (x ∷ xs) all
 
@@ -106,10 +104,11 @@ module _ {V E O : Type 0} (name : TableId) (o : O) where
 
   pub seam : (all left : List (TurnSeat V E O)) (s : TurnSeat V E O) (taken : List (TurnSeat V E O)) → all ≡ (left ++ s ∷ []) ++ taken → All (IsIdleAt name o) all → Seam all left s taken
   seam all left s taken e idle =
-    let behind = ap (λ (l : List (TurnSeat V E O)). drop (length left) l) e ∙ drop_seam left s taken in
-    let long : length all ≡ length left + 1 + length taken = ap length e ∙ length-append (left ++ s ∷ []) taken ∙ ap (λ (n : ℕ). n + length taken) (length-append left (s ∷ [])) in
-    record {
-      here = all_seam (IsIdleAt name o) left s taken (subst (λ (l : List (TurnSeat V E O)). All (IsIdleAt name o) l) e idle);
-      whole = ap (λ (l : List (TurnSeat V E O)). left ++ l) behind ∙ sym (append_assoc left (s ∷ []) taken) ∙ sym e;
-      fewer = omega arith;
-      behind = behind }
+      let behind = ap (λ (l : List (TurnSeat V E O)). drop (length left) l) e ∙ drop_seam left s taken in
+      let long : length all ≡ length left + 1 + length taken = ap length e ∙ length-append (left ++ s ∷ []) taken ∙ ap (λ (n : ℕ). n + length taken) (length-append left (s ∷ [])) in
+      record {
+        here = all_seam (IsIdleAt name o) left s taken (subst (λ (l : List (TurnSeat V E O)). All (IsIdleAt name o) l) e idle);
+        whole = ap (λ (l : List (TurnSeat V E O)). left ++ l) behind ∙ sym (append_assoc left (s ∷ []) taken) ∙ sym e;
+        fewer = omega arith;
+        behind = behind;
+      }

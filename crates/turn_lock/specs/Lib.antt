@@ -3,5 +3,4 @@ pub mod Lists
 pub mod Views
 pub mod Rules
 pub mod Steps
-
 pub mod Seats

@@ -1,6 +1,5 @@
 -- Lists of entries: whose they are, and which is the longer of two.
-use Rattle.std.specs.Prelude.{ℕ, ◌≡◌, ◌==◌, List, [], ◌∷◌, ◌++◌, filter, length, if◌then◌else◌, All, leb}
-use mathlib.Core.List.{IsPrefix}
+use Rattle.std.specs.Prelude.{ℕ, ◌≡◌, ◌==◌, List, ◌++◌, filter, length, if◌then◌else◌, All, leb}
 
 module _ {E : Type 0} where
   -- the entries of one owner, in order

@@ -1,5 +1,5 @@
 -- The rule of a turn's table: what holds between any two steps of its words, of the value at home and of all views.
-use Rattle.std.specs.Prelude.{ℕ, ◌≡◌, ◌+◌, ◌%◌, ◌^◌, ◌<◌, ◌≤◌, ◌⊎◌, ◌==◌, Bool, true, false, List, [], ◌∷◌, length, All, Option, Some, None, if◌then◌else◌}
+use Rattle.std.specs.Prelude.{ℕ, ◌≡◌, ◌+◌, ◌%◌, ◌^◌, ◌<◌, ◌≤◌, ◌⊎◌, ◌==◌, Bool, true, List, [], ◌∷◌, length, All, Option, Some, None, if◌then◌else◌}
 use mathlib.Core.List.{IsPrefix}
 use mathlib.Core.Option.{some, none}
 use mathlib.Core.Option as maybe
@@ -62,8 +62,8 @@ module _ {V E O : Type 0} (list : V → List E) (origin : V → O) where
   -- the value is at home, or a view is inside
   abbrev pub IsShelved : O → List E → List (View E O) → List (maybe.Option (Option V)) → Type 0
   IsShelved from log views homes =
-    ((x : V) × (homes ≡ some (Some x) ∷ []) × (list x ≡ log) × (origin x ≡ from))
-    ⊎ ((homes ≡ none ∷ []) × (1 ≤ insiders views))
+      ((x : V) × (homes ≡ some (Some x) ∷ []) × (list x ≡ log) × (origin x ≡ from))
+      ⊎ ((homes ≡ none ∷ []) × (1 ≤ insiders views))
 
 module _ {V E O : Type 0} (list : V → List E) (owner : E → ℕ) (origin : V → O) where
   pub record Kept (seats : ℕ) (from : O) (s : State (Option V) (View E O)) : Type 0 where

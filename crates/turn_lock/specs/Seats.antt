@@ -1,5 +1,5 @@
 -- What contracts say of a turn and of its seats.
-use Rattle.std.specs.Prelude.{ℕ, ◌≡◌, ◌%◌, ◌^◌, List, [], ◌∷◌, Option, Some, None, length, map, false, slice_get}
+use Rattle.std.specs.Prelude.{ℕ, ◌≡◌, ◌%◌, ◌^◌, List, [], ◌∷◌, Some, None, map, false, slice_get}
 use Rattle.atomic_table.specs.Seated.{TableId}
 use Rattle.turn_lock.specs.Views.{resting, waiting, holding, first, spent}
 use Rattle.turn_lock.specs.declared.seats.Turn.{Turn}
@@ -31,26 +31,26 @@ module _ {V E O : Type 0} where
     -- the seat is of this turn, and neither waits for it nor has it
     abbrev pub IsIdleAt : TurnSeat V E O → Type 0
     IsIdleAt seat =
-      (seat.place.table_id ≡ name)
-      × (seat.place.me ≡ (resting (number_of seat) (given_by seat) (known_by seat) origin, []))
+        (seat.place.table_id ≡ name)
+        × (seat.place.me ≡ (resting (number_of seat) (given_by seat) (known_by seat) origin, []))
 
     -- the seat waits for this turn with a ticket that has this number modulo 2^64
     abbrev pub IsWaitingAt : ℕ → TurnSeat V E O → Type 0
     IsWaitingAt ticket seat =
-      (seat.place.table_id ≡ name)
-      × (t : ℕ) × (ticket ≡ t % 2 ^ 64)
-      × (seat.place.me ≡ (waiting (number_of seat) (given_by seat) (known_by seat) origin t, []))
+        (seat.place.table_id ≡ name)
+        × (t : ℕ) × (ticket ≡ t % 2 ^ 64)
+        × (seat.place.me ≡ (waiting (number_of seat) (given_by seat) (known_by seat) origin t, []))
 
     -- the seat has this turn, and the value is out with it
     abbrev pub HoldsAt : TurnSeat V E O → Type 0
     HoldsAt seat =
-      (seat.place.table_id ≡ name)
-      × (t : ℕ) × (seat.place.me ≡ (holding (number_of seat) (given_by seat) (known_by seat) origin t, (0, None) ∷ []))
+        (seat.place.table_id ≡ name)
+        × (t : ℕ) × (seat.place.me ≡ (holding (number_of seat) (given_by seat) (known_by seat) origin t, (0, None) ∷ []))
 
     -- seats that nobody has used, whose numbers are their places
     abbrev pub AreFresh : List (TurnSeat V E O) → Type 0
     AreFresh seats = (k : ℕ) (seat : TurnSeat V E O) → slice_get seats k ≡ Some seat
-      → (seat.place.table_id ≡ name) × (seat.place.me ≡ (resting k [] [] origin, []))
+        → (seat.place.table_id ≡ name) × (seat.place.me ≡ (resting k [] [] origin, []))
 
   module _ (origin : V → O) (turn : Turn V E O) where
     abbrev pub IsIdle : TurnSeat V E O → Type 0
@@ -71,7 +71,8 @@ module _ {V E O : Type 0} where
     parts = map (λ (s : TurnSeat V E O). (number_of s, given_by s)) (seat ∷ seats);
     known = known_by seat;
     heard = map known_by seats;
-    origin = Some origin }
+    origin = Some origin;
+  }
 
   -- the number of a seat and what it gave stay
   abbrev pub IsSameSeat : TurnSeat V E O → TurnSeat V E O → Type 0

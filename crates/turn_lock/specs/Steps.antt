@@ -36,7 +36,8 @@ module _ {E O : Type 0} where
     parts = (number v, given v ++ drop (length v.known) entries) ∷ rest v.parts;
     known = entries;
     heard = v.heard;
-    origin = v.origin }
+    origin = v.origin;
+  }
 
   abbrev pub learning : View E O → View E O
   learning v = record { ticket = v.ticket; inside = v.inside; parts = v.parts; known = longest v.known v.heard; heard = []; origin = v.origin }
@@ -49,9 +50,9 @@ module _ {V E O : Type 0} where
   -- the longest list is known, which all others begin
   abbrev pub Learns : Step (Option V) → Seated V E O → ℕ → Seated V E O → Type 0
   Learns s m found after =
-    (after ≡ (learning m.0, m.1))
-    × IsPrefix m.0.known (learning m.0).known
-    × All (λ (heard : List E). IsPrefix heard (learning m.0).known) m.0.heard
+      (after ≡ (learning m.0, m.1))
+      × IsPrefix m.0.known (learning m.0).known
+      × All (λ (heard : List E). IsPrefix heard (learning m.0).known) m.0.heard
 
 module _ {V E O : Type 0} (list : V → List E) where
   -- the view after the value was given back
@@ -75,5 +76,5 @@ module _ {V E O : Type 0} (list : V → List E) where
     -- where its ticket is served, a seat that waited is inside and has the value; else nothing changed
     abbrev pub Looks : Step (Option V) → Seated V E O → ℕ → Seated V E O → Type 0
     Looks s m found after =
-      (found ≡ unwrap_or m.0.ticket 0 % 2 ^ 64 → (x : V) × (after ≡ (entering m.0 (list x), (0, Some x) ∷ m.1)) × Fetched m.0 x)
-      × (found ≢ unwrap_or m.0.ticket 0 % 2 ^ 64 → after ≡ m)
+        (found ≡ unwrap_or m.0.ticket 0 % 2 ^ 64 → (x : V) × (after ≡ (entering m.0 (list x), (0, Some x) ∷ m.1)) × Fetched m.0 x)
+        × (found ≢ unwrap_or m.0.ticket 0 % 2 ^ 64 → after ≡ m)

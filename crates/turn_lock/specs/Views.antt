@@ -1,5 +1,5 @@
 -- What a seat knows at each point of its life.
-use Rattle.std.specs.Prelude.{ℕ, zero, suc, true, false, List, [], ◌∷◌, ◌++◌, Option, Some, None}
+use Rattle.std.specs.Prelude.{ℕ, zero, suc, true, false, List, [], ◌∷◌, ◌++◌, Some, None}
 use Rattle.turn_lock.specs.declared.views.View.{View}
 
 module _ {E : Type 0} where

@@ -19,6 +19,7 @@ use std::time::Duration;
 
 /// The word of the next ticket, and the word of the ticket that is served.
 const TICKET: usize = 0;
+
 const SERVED: usize = 1;
 
 /// The only slot.
@@ -40,11 +41,7 @@ fn low_half(word: u64) -> u32 {
 
 impl<V: Listed> Turn<V> {
     /// A turn round this value, whose list is empty, and its seats: their numbers are their places in the list.
-    pub fn new(
-        alloc: Global,
-        value: V,
-        seats: u32,
-    ) -> Result<(Turn<V>, Vec<TurnSeat<V>>), NoMemory>
+    pub fn new(alloc: Global, value: V, seats: u32) -> Result<(Turn<V>, Vec<TurnSeat<V>>), NoMemory>
         requires seats { 0 < seats }
         requires empty { V.list value ≡ [] }
         ensures count { IfOk result (λ made. (seats_of made.0 ≡ seats) × (length made.1.items ≡ seats)) }

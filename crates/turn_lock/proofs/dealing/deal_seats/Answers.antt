@@ -1,4 +1,4 @@
-use Rattle.std.proofs.Common.{rules, ◌≡◌, ℕ, ◌+◌, ◌-◌, ◌<◌, ◌++◌, [], ◌∷◌, length, ap, ◌∙◌, subst, sym, arith, List}
+use Rattle.std.proofs.Common.{rules, ◌≡◌, ◌+◌, ◌-◌, ◌<◌, [], length, ap, ◌∙◌, subst, sym, arith}
 use Rattle.turn_lock.specs.Seats.{AreFresh}
 use Rattle.turn_lock.specs.Views.{first_alone, dealing, numbers_from}
 use Rattle.turn_lock.proofs.SeatLists.{dealt_at, dealt_left, fresh_more}
@@ -21,10 +21,14 @@ loop-preserved g c =
     let view = ap (λ m. m.0) inv.4 in
     let split = c.split_seat-place.ensures in
     let long : length c.push_reserved.new.self.items ≡ length c.loop.seats.items + 1 = search rules in
-    let less : c.args.count - length c.push_reserved.new.self.items ≡ c.args.count - length c.loop.seats.items - 1 = omega (arith, long) in
-    (search rules, search rules, search rules, search rules,
+    let less : c.args.count - length c.push_reserved.new.self.items ≡ c.args.count - length c.loop.seats.items - 1 = omega (arith, long) in (
+      search rules,
+      search rules,
+      search rules,
+      search rules,
       split.2 ∙ (λ i. (dealt_left _ _ _ _ _ o view left long less i, ap (λ m. m.1) inv.4 i)),
-      subst (λ l. AreFresh name o l) (sym items) (fresh_more name o _ _ inv.5 (search rules) (split.4 ∙ ap (λ v. (first_alone v, [])) (dealt_at _ _ _ o view left))))
+      subst (λ l. AreFresh name o l) (sym items) (fresh_more name o _ _ inv.5 (search rules) (split.4 ∙ ap (λ v. (first_alone v, [])) (dealt_at _ _ _ o view left))),
+    )
 
 pub returns-clause-fresh : goal.returns-clause-fresh
 returns-clause-fresh g c =

@@ -1,5 +1,5 @@
-use Rattle.std.proofs.Common.{◌≡◌, [], ◌≤◌, ◌<◌, ◌++◌, ◌∷◌, length, drop, All, List}
-use Rattle.turn_lock.specs.Seats.{gathered, IsIdleAt}
+use Rattle.std.proofs.Common.{◌≡◌, [], ◌<◌, ◌++◌, length, drop}
+use Rattle.turn_lock.specs.Seats.{gathered}
 use Rattle.turn_lock.proofs.dealing.gather_seats.Given as goal
 
 abbrev pub invariant-loop-seat : goal.invariant-loop-seat

@@ -8,9 +8,13 @@ split_seat-told-requires g c = (search rules, search rules, tells g.V.Listed.lis
 
 pub join_seat-requires : goal.join_seat-requires
 join_seat-requires g c =
-    let told = c.split_seat-told.ensures.4 in
-    (search rules, search rules, search rules, search rules,
-      joins g.V.Listed.list g.V.Listed.owner g.V.Listed.origin _ _ _ _ _ _ (ap (λ m. m.0.ticket) told) (ap (λ m. m.0.inside) told))
+    let told = c.split_seat-told.ensures.4 in (
+      search rules,
+      search rules,
+      search rules,
+      search rules,
+      joins g.V.Listed.list g.V.Listed.owner g.V.Listed.origin _ _ _ _ _ _ (ap (λ m. m.0.ticket) told) (ap (λ m. m.0.inside) told),
+    )
 
 pub load-requires : goal.load-requires
 load-requires g c =

@@ -1,4 +1,4 @@
-use Rattle.std.proofs.Common.{rules, ◌≡◌, ap, sym, ◌∙◌, ◌%◌, ◌^◌, ℕ}
+use Rattle.std.proofs.Common.{rules, ◌≡◌, ap, sym, ◌∙◌, ◌%◌, ◌^◌}
 use Rattle.std.specs.Prelude.{unwrap_or, Some, ◌∷◌}
 use Rattle.atomic_table.specs.Table.{rest}
 use Rattle.turn_lock.proofs.Moves.{looks_at}
