@@ -66,6 +66,9 @@ module _ {V E O : Type 0} (name : TableId) (o : O) where
   pub fresh_empty : (k : ℕ) (s : TurnSeat V E O) → s.place.table_id ≡ name → s.place.me ≡ (resting k [] [] o, []) → (given_by s ≡ []) × (known_by s ≡ [])
   fresh_empty k s t e = (ap (λ m. (first m.0.parts).1) e, ap (λ m. m.0.known) e)
 
+  pub fresh_numbers : (xs : List (TurnSeat V E O)) → AreFresh name o xs → (k : ℕ) (d : TurnSeat V E O) → k < length xs → number_of (get_or xs k d) ≡ k
+  fresh_numbers xs fresh k d lt = ap (λ m. (first m.0.parts).0) (fresh k (get_or xs k d) (get_some xs k d lt)).1
+
   pub gather_more : (s : TurnSeat V E O) (rest : List (TurnSeat V E O)) (all : View E O) → IsIdleAt name o s → all ≡ gathered o rest → 0 < length rest
       → both s.place.me.0 all ≡ gathered o (s ∷ rest)
   gather_more s [] all idle e lt = absurd (omega arith)

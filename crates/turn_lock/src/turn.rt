@@ -1,5 +1,5 @@
 //! What a turn does.
-ghost use Rattle.std.specs.Prelude.{◌≡◌, ℕ, ◌+◌, ◌<◌, ◌≤◌, [], ◌++◌, drop, length, All, IfOk, IfSome, IfNone, slice_get, Some};
+ghost use Rattle.std.specs.Prelude.{◌≡◌, ℕ, ◌+◌, ◌<◌, ◌≤◌, [], ◌++◌, drop, length, All, IfOk, IfSome, IfNone, slice_index_or};
 ghost use mathlib.Core.List.{IsPrefix};
 ghost use Rattle.turn_lock.specs.Lists.{of, longer, AddsOwn};
 ghost use Rattle.turn_lock.specs.Seats.{number_of, given_by, known_by, seats_of, origin_of, IsIdle, IsWaiting, Holds, IsSameSeat};
@@ -47,8 +47,8 @@ impl<V: Listed> Turn<V> {
         ensures count { IfOk result (λ made. (seats_of made.0 ≡ seats) × (length made.1.items ≡ seats)) }
         ensures origin { IfOk result (λ made. origin_of V.origin made.0 ≡ V.origin value) }
         ensures idle { IfOk result (λ made. All (IsIdle V.origin made.0) made.1.items) }
-        ensures numbers { IfOk result (λ made. (k : ℕ) (seat : _)
-            → slice_get made.1.items k ≡ Some seat → number_of seat ≡ k) }
+        ensures numbers { IfOk result (λ made. (k : ℕ) (seat : _) → k < length made.1.items
+            → number_of (slice_index_or made.1.items k seat) ≡ k) }
         ensures fresh { IfOk result (λ made.
             All (λ seat. (given_by seat ≡ []) × (known_by seat ≡ [])) made.1.items) }
     {
@@ -175,8 +175,8 @@ impl<V: Listed> Turn<V> {
         }
     }
 
-    // Waits a little: who is next yields, and then sleeps until the turn is handed on; the others sleep the longer
-    // the more stand before them.
+    // Waits a little, unless it is its turn by now: who is next yields, and then sleeps until the turn is handed on;
+    // the others sleep the longer the more stand before them.
     fn pause<R: Wait>(&self, ticket: u64, looks: u64, rt: &R) {
         let shared = &self.round.shared;
         let served = shared.peek(SERVED);
@@ -185,10 +185,10 @@ impl<V: Listed> Turn<V> {
             let tickets = shared.peek(TICKET);
             let nanos = PAUSE * before.min(MOST);
             shared.park_timeout(rt, TICKET, low_half(tickets), Duration::from_nanos(nanos));
-        } else if looks < LOOKS {
-            thread::yield_now();
-        } else {
+        } else if before == 1 && looks >= LOOKS {
             shared.park(rt, SERVED, low_half(served));
+        } else if before == 1 {
+            thread::yield_now();
         }
     }
 }

@@ -3,7 +3,7 @@ use Rattle.std.specs.Prelude.{Some}
 use Rattle.atomic_table.specs.Table.{opening}
 use Rattle.turn_lock.specs.Views.{opening_view, first}
 use Rattle.turn_lock.specs.Rules.{Kept}
-use Rattle.turn_lock.proofs.SeatLists.{fresh_at, fresh_idle, fresh_empty}
+use Rattle.turn_lock.proofs.SeatLists.{fresh_at, fresh_idle, fresh_empty, fresh_numbers}
 use Rattle.turn_lock.proofs.Seating.{opens}
 use Rattle.turn_lock.proofs.seats.Turn.new.Goals as goal
 
@@ -20,7 +20,7 @@ pub returns-clause-idle : goal.returns-clause-idle
 returns-clause-idle g c = fresh_at _ _ _ c.in_ok-dealt.ensures.fresh _ (fresh_idle _ _)
 
 pub returns-clause-numbers : goal.returns-clause-numbers
-returns-clause-numbers g c k seat e = ap (λ m. (first m.0.parts).0) (c.in_ok-dealt.ensures.fresh k seat e).1
+returns-clause-numbers g c = fresh_numbers _ _ _ c.in_ok-dealt.ensures.fresh
 
 pub returns-clause-fresh : goal.returns-clause-fresh
 returns-clause-fresh g c = fresh_at _ _ _ c.in_ok-dealt.ensures.fresh _ (fresh_empty _ _)
