@@ -1,7 +1,7 @@
 use Rattle.std.proofs.Common.{rules, ap, [], ◌∷◌, ◌≡◌, ◌<◌, ◌^◌, sym, subst}
 use Rattle.std.specs.Prelude.{Some}
 use Rattle.atomic_table.specs.Table.{opening}
-use Rattle.turn_lock.specs.Views.{opening_view, first}
+use Rattle.turn_lock.specs.Views.{opening_view}
 use Rattle.turn_lock.specs.Rules.{Kept}
 use Rattle.turn_lock.proofs.SeatLists.{fresh_at, fresh_idle, fresh_empty, fresh_numbers}
 use Rattle.turn_lock.proofs.Seating.{opens}
