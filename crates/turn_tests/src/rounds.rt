@@ -5,7 +5,7 @@ use std::test::Fail;
 use turn_lock::Turn;
 
 /// How many turns each seat takes where all play at once.
-const TURNS: u32 = 300;
+const TURNS: u32 = 10_000;
 
 #[test]
 fn two_seats_and_one_mark(rt: HostRuntime) -> Result<(), Fail> {
