@@ -1,0 +1,2 @@
+-- What contracts say of marks.
+pub mod Places
