@@ -162,8 +162,3 @@ IsAnswer front origin before row gift (NotYetEntered back) after =
 IsAnswer front origin before row gift (Refused class seen back) after =
     (decide before.ranks (rows_on before) row ≡ Refuse class) × (seen ≡ length before.entries) × (back ≡ gift)
     × (after ≡ before)
-
-abbrev pub is_allow : Decision → Bool
-is_allow (Refuse class) = false
-is_allow Allow = true
-is_allow NotYet = false

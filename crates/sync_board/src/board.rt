@@ -65,8 +65,8 @@ fn forked<N: Token>(gift: &mut Option<N>) -> Option<N>
 impl<N: Token> Board<N> {
     ghost use Rattle.board_rules.specs.Board.{Allow, decide as answer_to};
     ghost use Rattle.sync_board.specs.Asked.{IsAfter, row_asked};
-    ghost use Rattle.sync_board.specs.Boards.{IsAnswer, IsGiftOfToken, IsLayoutOf, MayAsk, MayJudge};
-    ghost use Rattle.sync_board.specs.Boards.{entry_row, is_allow, rows_on};
+    ghost use Rattle.sync_board.specs.Boards.{IsAnswer, IsGiftOfToken, IsLayoutOf, MayAsk};
+    ghost use Rattle.sync_board.specs.Boards.{entry_row, rows_on};
 
     /// A board without entries, for 1 to 16 ranks with this layout of memory. The root is a token of the memory from
     /// which gifts come; it is kept, and is no gift.
@@ -173,21 +173,6 @@ impl<N: Token> Board<N> {
             }
             Judged::NotYet => Ok(Decided::NotYet { gift }),
             Judged::Allowed => self.enter(&asked, gift),
-        }
-    }
-
-    /// Whether the next entry of a rank would be entered, whichever number its call has in the rank's list (MPI 3.1,
-    /// sections 11.2 and 11.5). It takes no memory.
-    pub fn allows(&self, rank: u8, call: &Call, step: Step) -> bool
-        requires { MayJudge self.now.ranks rank call.now step }
-        ensures { (number : ℕ) → result ≡ is_allow (answer_to self.now.ranks (rows_on self.now)
-            (record { rank = rank; number = number; call = call.now; step = step })) }
-    {
-        let asked = self.state.ask(self.ranks, rank, 0, call, step);
-        match self.state.judge(self.alloc, &asked) {
-            Judged::Refused(_) => false,
-            Judged::NotYet => false,
-            Judged::Allowed => true,
         }
     }
 
