@@ -1,7 +1,7 @@
 //! What a run on several workers passes before each call.
 
-/// Stands between the calls of a rank. Both calls return, and decide nothing of the run.
-pub trait Gate {
+/// Stands between the calls of a rank; all threads of a run share it. Both calls return, and decide nothing of the run.
+pub trait Gate: Sync {
     /// Called before each call of a rank, with its number.
     fn pass(&self, rank: u8, call: u32);
 

@@ -4,8 +4,11 @@
 #![tactic(auto)]
 
 mod accesses;
+mod actions;
+mod call_table;
 mod calls;
 mod classes;
+mod copies;
 mod dtypes;
 mod findings;
 mod gates;
@@ -15,6 +18,7 @@ mod schedules;
 mod scripts;
 
 pub use accesses::{Access, Id, Kind, Step};
+pub use actions::{Action, Creation, Operands, Ranks, Synchronisation, Target, Transfer};
 pub use calls::{Asserts, Call, Flavor, Lock};
 pub use classes::Class;
 pub use dtypes::Dtype;

@@ -1,10 +1,17 @@
 //! Scripts, and the memory that they ask for.
 use crate::calls::Call;
 use crate::items::Items;
+use std::alloc::AllocError;
 
 /// The answer for want of memory.
 #[derive(Clone, Copy, Debug, PartialEq, Eq)]
 pub struct NoMemory;
+
+impl From<AllocError> for NoMemory {
+    fn from(_: AllocError) -> NoMemory {
+        NoMemory
+    }
+}
 
 /// A rank's part of a window: where it begins in the rank's memory, its bytes and its displacement unit
 /// (MPI 3.1, section 11.2).

@@ -1,59 +1,14 @@
--- The word of a call is that of its form, and a line is its word with the tokens behind it.
-use Rattle.std.proofs.Common.{◌≡◌, ℕ, zero, suc, ◌+◌, Some, None, List, [], ◌∷◌, ◌++◌, refl, ap, sym, ◌∙◌, append_assoc}
+-- A line is its word with the tokens behind it.
+use Rattle.std.proofs.Common.{◌≡◌, ℕ, zero, suc, ◌+◌, List, [], ◌∷◌, ◌++◌, refl, ap, sym, ◌∙◌, append_assoc}
 use Rattle.std.specs.Prelude.{Result, Ok, Err, OnOk}
 use Rattle.std.specs.List.{flat_map}
 use Rattle.std.proofs.lemmas.List.{append-nil}
 use Rattle.rma_types.specs.declared.calls.Call.{Call}
-use Rattle.rma_types.specs.declared.calls.Call.TheVariants.{Allocate, Create, Dynamic, Free, Attach, Detach, Fence}
-use Rattle.rma_types.specs.declared.calls.Call.TheVariants.{Post, Start, Complete, WaitWin, TestWin, LockOne, Unlock}
-use Rattle.rma_types.specs.declared.calls.Call.TheVariants.{LockAll, UnlockAll, Flush, FlushAll, FlushLocal}
-use Rattle.rma_types.specs.declared.calls.Call.TheVariants.{FlushLocalAll, Sync, Barrier, Put, Get, Acc, GetAcc, Fop}
-use Rattle.rma_types.specs.declared.calls.Call.TheVariants.{Cas, Load, Store, WaitReq, TestReq}
-use Rattle.rma_types.specs.CallWords.{word_of}
 use Rattle.call_rules.specs.Text.{join_by_spaces, line}
-use Rattle.script_language.specs.Calls.{form_of, no_fields}
-use Rattle.script_language.specs.Forms.{call_word}
+use Rattle.script_language.specs.Calls.{no_fields}
 use Rattle.script_language.specs.declared.forms.Form.TheVariants.{Space, Rank}
 use Rattle.script_language.specs.Canon.{form_line, call_line, space_lines, rank_lines}
 use Rattle.script_printer.specs.Printing.{behind_spaces}
-
-pub word_is : (call : Call) → call_word (form_of call) ≡ word_of call
-word_is (Allocate win bytes unit) = refl
-word_is (Create win base bytes unit) = refl
-word_is (Dynamic win) = refl
-word_is (Free win) = refl
-word_is (Attach win base bytes) = refl
-word_is (Detach win base) = refl
-word_is (Fence win asserts) = refl
-word_is (Post win group asserts) = refl
-word_is (Start win group asserts) = refl
-word_is (Complete win) = refl
-word_is (WaitWin win) = refl
-word_is (TestWin win) = refl
-word_is (LockOne win lock peer asserts) = refl
-word_is (Unlock win peer) = refl
-word_is (LockAll win asserts) = refl
-word_is (UnlockAll win) = refl
-word_is (Flush win peer) = refl
-word_is (FlushAll win) = refl
-word_is (FlushLocal win peer) = refl
-word_is (FlushLocalAll win) = refl
-word_is (Sync win) = refl
-word_is Barrier = refl
-word_is (Put None win target disp dtype values) = refl
-word_is (Put (Some req) win target disp dtype values) = refl
-word_is (Get None win target disp dtype count) = refl
-word_is (Get (Some req) win target disp dtype count) = refl
-word_is (Acc None win target disp dtype op values) = refl
-word_is (Acc (Some req) win target disp dtype op values) = refl
-word_is (GetAcc None win target disp dtype op values) = refl
-word_is (GetAcc (Some req) win target disp dtype op values) = refl
-word_is (Fop win target disp dtype op value) = refl
-word_is (Cas win target disp dtype compare value) = refl
-word_is (Load win disp dtype count) = refl
-word_is (Store win disp dtype values) = refl
-word_is (WaitReq req) = refl
-word_is (TestReq req) = refl
 
 -- a word and the tokens behind it
 pub spaced_is : (word : List ℕ) (tokens : List (List ℕ)) → join_by_spaces (word ∷ tokens) ≡ word ++ behind_spaces tokens

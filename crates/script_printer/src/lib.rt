@@ -6,7 +6,6 @@
 
 mod calls;
 mod lines;
-mod places;
 mod said;
 mod scripts;
 mod tokens;

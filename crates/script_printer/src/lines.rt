@@ -1,18 +1,16 @@
 //! The lines of a text.
-ghost use Rattle.std.specs.Prelude.{◌≡◌, ◌++◌, ◌∷◌, OnOk};
+ghost use Rattle.std.specs.Prelude.{◌≡◌, ◌++◌, OnOk};
 ghost use Rattle.std.specs.List.{flat_map};
 ghost use Rattle.std.specs.String.{string_bytes};
-ghost use Rattle.call_rules.specs.Text.{line, join_by_spaces};
-ghost use Rattle.script_language.specs.Canon.{call_line};
+ghost use Rattle.script_language.specs.Canon.{call_line, form_line};
 ghost use Rattle.script_language.specs.Spelling.{spelling_of};
 ghost use Rattle.script_printer.specs.Printing.{behind_spaces, fields_said};
 
 use crate::calls::said;
-use crate::places::places;
 use crate::said::Said;
 use crate::tokens::write_place;
 use rma_types::Call;
-use script_language::Place;
+use script_language::{Form, Place, call_form, form_places, form_word};
 use std::alloc::AllocError;
 
 /// Writes what a line says at each of its places.
@@ -28,20 +26,13 @@ fn write_places(text: &mut String, said: &Said<'_>, places: &[Place]) -> Result<
     Ok(())
 }
 
-/// Writes a line: its word, and what it says at each of its places.
-pub(crate) fn write_line(
-    text: &mut String,
-    word: &str,
-    said: &Said<'_>,
-    places: &[Place],
-) -> Result<(), AllocError>
+/// Writes a line of a form: its word, and what it says at each of its places.
+pub(crate) fn write_line(text: &mut String, form: Form, said: &Said<'_>) -> Result<(), AllocError>
     ensures { OnOk result
-        (string_bytes text.new
-        ≡ string_bytes text.old
-        ++ line (join_by_spaces (word.now ∷ flat_map (spelling_of (fields_said said.now)) places.now))) }
+        (string_bytes text.new ≡ string_bytes text.old ++ form_line form (fields_said said.now)) }
 {
-    text.push_str(word)?;
-    write_places(text, said, places)?;
+    text.push_str(form_word(form))?;
+    write_places(text, said, form_places(form))?;
     text.push_str("\n")?;
     Ok(())
 }
@@ -50,5 +41,5 @@ pub(crate) fn write_line(
 pub(crate) fn write_call(text: &mut String, call: &Call) -> Result<(), AllocError>
     ensures { OnOk result (string_bytes text.new ≡ string_bytes text.old ++ call_line call.now) }
 {
-    write_line(text, call.word(), &said(call), places(call))
+    write_line(text, Form::Call(call_form(call)), &said(call))
 }

@@ -7,7 +7,7 @@ ghost use Rattle.script_language.specs.Canon.{canon, call_line, space_lines, ran
 use crate::lines::{write_call, write_line};
 use crate::said::{NOTHING, Said};
 use rma_types::{Call, Items, NoMemory, Script};
-use script_language::Place;
+use script_language::Form;
 use std::alloc::{AllocError, Global};
 
 /// Writes the line of a rank's space, unless it has none.
@@ -23,7 +23,7 @@ fn write_space(text: &mut String, rank: usize, bytes: u32) -> Result<(), AllocEr
         room: bytes,
         ..NOTHING
     };
-    write_line(text, "space", &said, &[Place::Owner, Place::Room])
+    write_line(text, Form::Space, &said)
 }
 
 /// Writes the lines of all spaces.
@@ -60,7 +60,7 @@ fn write_rank(text: &mut String, rank: usize, calls: &[Call]) -> Result<(), Allo
         member: Some(rank),
         ..NOTHING
     };
-    write_line(text, "rank", &said, &[Place::Member, Place::Members])?;
+    write_line(text, Form::Rank, &said)?;
     write_calls(text, calls)
 }
 
@@ -83,7 +83,7 @@ fn write_script(text: &mut String, script: &Script) -> Result<(), AllocError>
         ranks: script.ranks,
         ..NOTHING
     };
-    write_line(text, "ranks", &said, &[Place::Ranks])?;
+    write_line(text, Form::Ranks, &said)?;
     write_spaces(text, script.spaces.as_slice())?;
     write_ranks(text, script.calls.as_slice())
 }

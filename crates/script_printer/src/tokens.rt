@@ -4,14 +4,16 @@ ghost use Rattle.std.specs.String.{string_bytes};
 ghost use Rattle.std.specs.Option.{option_to_list};
 ghost use Rattle.call_rules.specs.Numbers.{signed_number};
 ghost use Rattle.call_rules.specs.Text.{number, integer};
-ghost use Rattle.script_language.specs.Spelling.{spelling_of, target_text, is_given, pattern_text};
-ghost use Rattle.script_language.specs.Words.{all_assertions, assertion_text, dtype_text, op_text, lock_text};
-ghost use Rattle.script_language.specs.Words.{window_text, request_text};
+ghost use Rattle.script_language.specs.Spelling.{spelling_of, target_text, pattern_text};
+ghost use Rattle.script_language.specs.Spelling.{is_given as given};
+ghost use Rattle.script_language.specs.Words.{all_assertions, assertion_text, window_text, request_text};
 ghost use Rattle.script_printer.specs.Printing.{behind_spaces, fields_said};
 
 use crate::said::Said;
-use rma_types::{Asserts, Dtype, Lock, Op};
-use script_language::{Assertion, Place};
+use rma_types::{Asserts, Dtype};
+use script_language::{
+    Assertion, Place, assertion_word, assertions, dtype_word, is_given, lock_word, op_word,
+};
 use std::alloc::AllocError;
 
 /// Writes a word.
@@ -38,86 +40,6 @@ fn write_integer(text: &mut String, z: i64) -> Result<(), AllocError>
     write!(text, " {z}")
 }
 
-fn dtype_word(dtype: Dtype) -> &'static str
-    ensures { result.now ≡ dtype_text dtype }
-{
-    match dtype {
-        Dtype::Int8 => "int8",
-        Dtype::Int16 => "int16",
-        Dtype::Int32 => "int32",
-        Dtype::Uint8 => "uint8",
-        Dtype::Uint16 => "uint16",
-        Dtype::Uint32 => "uint32",
-        Dtype::Byte => "byte",
-    }
-}
-
-fn op_word(op: Op) -> &'static str
-    ensures { result.now ≡ op_text op }
-{
-    match op {
-        Op::Replace => "replace",
-        Op::NoOp => "no_op",
-        Op::Max => "max",
-        Op::Min => "min",
-        Op::Sum => "sum",
-        Op::Prod => "prod",
-        Op::Land => "land",
-        Op::Band => "band",
-        Op::Lor => "lor",
-        Op::Bor => "bor",
-        Op::Lxor => "lxor",
-        Op::Bxor => "bxor",
-    }
-}
-
-fn lock_word(lock: Lock) -> &'static str
-    ensures { result.now ≡ lock_text lock }
-{
-    match lock {
-        Lock::Shared => "shared",
-        Lock::Exclusive => "exclusive",
-    }
-}
-
-fn assertion_word(assertion: Assertion) -> &'static str
-    ensures { result.now ≡ assertion_text assertion }
-{
-    match assertion {
-        Assertion::NoCheck => "nocheck",
-        Assertion::NoStore => "nostore",
-        Assertion::NoPut => "noput",
-        Assertion::NoPrecede => "noprecede",
-        Assertion::NoSucceed => "nosucceed",
-    }
-}
-
-/// Whether an assertion is given.
-fn given(asserts: Asserts, assertion: Assertion) -> bool
-    ensures { result ≡ is_given asserts assertion }
-{
-    match assertion {
-        Assertion::NoCheck => asserts.nocheck,
-        Assertion::NoStore => asserts.nostore,
-        Assertion::NoPut => asserts.noput,
-        Assertion::NoPrecede => asserts.noprecede,
-        Assertion::NoSucceed => asserts.nosucceed,
-    }
-}
-
-/// All assertions, in the order in which they are printed.
-fn assertions() -> &'static [Assertion]
-    ensures { result.now ≡ all_assertions }
-{
-    &[
-        Assertion::NoCheck,
-        Assertion::NoStore,
-        Assertion::NoPut,
-        Assertion::NoPrecede,
-        Assertion::NoSucceed,
-    ]
-}
-
 /// Writes an assertion that is given.
 fn write_assertion(
     text: &mut String,
@@ -127,9 +49,9 @@ fn write_assertion(
     ensures { OnOk result
         (string_bytes text.new
         ≡ string_bytes text.old
-        ++ behind_spaces (map assertion_text (filter (is_given asserts) (assertion ∷ [])))) }
+        ++ behind_spaces (map assertion_text (filter (given asserts) (assertion ∷ [])))) }
 {
-    if given(asserts, assertion) {
+    if is_given(asserts, assertion) {
         write_word(text, assertion_word(assertion))
     } else {
         Ok(())
@@ -141,7 +63,7 @@ fn write_assertions(text: &mut String, asserts: Asserts) -> Result<(), AllocErro
     ensures { OnOk result
         (string_bytes text.new
         ≡ string_bytes text.old
-        ++ behind_spaces (map assertion_text (filter (is_given asserts) all_assertions))) }
+        ++ behind_spaces (map assertion_text (filter (given asserts) all_assertions))) }
 {
     let all = assertions();
     for index in 0..all.len() {

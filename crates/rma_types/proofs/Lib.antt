@@ -1,0 +1,5 @@
+-- Laws of the definitions.
+pub mod ActionLaws
+pub mod CallLaws
+pub mod ClassLaws
+pub mod MemoryLaws
