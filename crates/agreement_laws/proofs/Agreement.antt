@@ -5,6 +5,8 @@ use Rattle.std.specs.Prelude.{◌≢◌, slice_get}
 use Rattle.std.specs.Option.{option_map_or}
 use Rattle.std.proofs.lemmas.Bool.{cases_lt}
 use Rattle.std.proofs.lemmas.List.{length-map}
+use Rattle.list_laws.proofs.Each.{each_at}
+use Rattle.list_laws.proofs.Members.{In, contains_in}
 use Rattle.rma_types.specs.declared.accesses.Id.{Id}
 use Rattle.rma_types.specs.declared.schedules.Delay.{Delay}
 use Rattle.rma_types.specs.declared.scripts.Script.{Script}
@@ -20,7 +22,6 @@ use Rattle.lawful_runs.specs.Cells.{KeepsOrder}
 use Rattle.lawful_runs.specs.Logs.{log_of, calls_of, rows_of}
 use Rattle.lawful_runs.specs.Stages.{stage_of, calls_at}
 use Rattle.order_rules.specs.Before.{NamedEvent, Before, Same, InLog, Across, events_in, is_edge_between}
-use Rattle.order_laws.proofs.Members.{In, contains_in}
 use Rattle.order_laws.proofs.Order.{edge_between, event_on_board, same_on_board, edge_ascends_on_board}
 use Rattle.rank_laws.proofs.BoardLaws.{board_is_lawful, rows_are}
 use Rattle.rank_laws.proofs.Histories.{most_join, rows_joined}
@@ -35,7 +36,7 @@ use Rattle.agreement_laws.proofs.MarkedLives.{lived_marked}
 use Rattle.agreement_laws.proofs.MarkMoves.{marking_of}
 use Rattle.agreement_laws.proofs.OneEdge.{no_two_edges}
 use Rattle.agreement_laws.specs.AgreementLaws.{AssembledRunsAgree}
-use Rattle.agreement_laws.proofs.Splits.{each_got, pair_got, mapped_got, one_split, later_split, met_at, keeps_by}
+use Rattle.agreement_laws.proofs.Splits.{pair_got, mapped_got, one_split, later_split, met_at, keeps_by}
 
 module _ (script : Script) (delay : Delay) (seed : ℕ) (run : Run) (is : IsAssembled script delay seed run) where
   board : HasLawfulBoard script run
@@ -85,7 +86,7 @@ module _ (script : Script) (delay : Delay) (seed : ℕ) (run : Run) (is : IsAsse
         mark = one.0;
         at = one.1;
         right = subst (λ i. IsRightItem (marking rank) i one.0.low one.0.out) one.2
-            (each_got (IsRight (marking rank)) m.marks k one.0 m.right one.1);
+            (each_at (IsRight (marking rank)) m.marks k one.0 m.right one.1);
       }
 
   rising : (rank : ℕ) (within : rank < script.ranks) (i j : ℕ) (a b : Item) (x : HasMark rank within i a)
@@ -133,6 +134,12 @@ module _ (script : Script) (delay : Delay) (seed : ℕ) (run : Run) (is : IsAsse
   -- the front of an entry
   abbrev front_of : (f : NamedEvent) (rank : ℕ) (within : rank < script.ranks) → HasPut f rank within → Lows
   front_of f rank within put = put.mark.right.put.front
+
+  -- the lows at an entry with an edge are at or below its front
+  front_above : (f e : NamedEvent) (rank : ℕ) (within : rank < script.ranks) (put : HasPut f rank within) →
+      is_edge_between f e ≡ true → AreAtMost put.mark.mark.low (front_of f rank within put)
+  front_above f e rank within put edge =
+      put.mark.right.above e.event (sym (λ i. is_edge (put.event_is i) e.event) ∙ edge)
 
   -- an entry has one put
   one_put : (f : NamedEvent) (r s : ℕ) (within : r < script.ranks) (inside : s < script.ranks) (p : HasPut f r within)
@@ -219,15 +226,16 @@ module _ (script : Script) (delay : Delay) (seed : ℕ) (run : Run) (is : IsAsse
         cc both
 
     -- an entry after the touch in its log
-    near_front : (f : NamedEvent) (within : f.id.rank < script.ranks) (put : HasPut f f.id.rank within) →
-        In f (events_in script run) →
+    near_front : (f e : NamedEvent) (within : f.id.rank < script.ranks) (put : HasPut f f.id.rank within) →
+        In f (events_in script run) → is_edge_between f e ≡ true →
         x.id.rank ≡ f.id.rank → x.id.index < f.id.index → AreAtMost own.mark.out (front_of f f.id.rank within put)
-    near_front f within put of_f rank below =
+    near_front f e within put of_f edge rank below =
         let here = put_of f x.id.rank touch.within of_f (sym rank) in
         let up = rising x.id.rank touch.within x.id.index f.id.index (Touch x.issue x.element x.cell x.place x.bits)
         (Entry here.number f.event.place f.event.step) own here.mark below in
         subst (λ (p : Put). AreAtMost own.mark.out p.front) (one_put f x.id.rank f.id.rank touch.within within here put)
-        (most_join own.mark.out here.mark.mark.low here.mark.right.put.front up here.mark.right.above)
+        (most_join own.mark.out here.mark.mark.low here.mark.right.put.front up
+        (front_above f e x.id.rank touch.within here edge))
 
     -- an entry after one to which an edge leads from a front that passed the touch
     far_front : (b : Id) (f e : NamedEvent) (within : f.id.rank < script.ranks) (put : HasPut f f.id.rank within) →
@@ -249,7 +257,7 @@ module _ (script : Script) (delay : Delay) (seed : ℕ) (run : Run) (is : IsAsse
               (most_join (front_of far.f far.f.id.rank far.within far.put) there.mark.mark.out
               (front_of f f.id.rank within put) meets
               (most_join there.mark.mark.out put.mark.mark.low
-              (front_of f f.id.rank within put) up put.mark.right.above))
+              (front_of f f.id.rank within put) up (front_above f e f.id.rank within put edge)))
           | inr late ↦
               let last = far.index in
               let at : far.e.id.index ≡ f.id.index = omega (arith, late, last, index) in
@@ -293,7 +301,7 @@ module _ (script : Script) (delay : Delay) (seed : ℕ) (run : Run) (is : IsAsse
           | inl same ↦ absurd (not_entry ends.0 ends.2 (same ∙ sym ends.4))
           | inr (inl near) ↦
               let index = ap (λ (i : Id). i.index) ends.4 in
-              near_front ends.0 within put ends.2 (near.0 ∙ sym (ap (λ (i : Id). i.rank) ends.4))
+              near_front ends.0 ends.1 within put ends.2 ends.6 (near.0 ∙ sym (ap (λ (i : Id). i.rank) ends.4))
               (omega (arith, near.1, index))
           | inr (inr far) ↦ far_front b ends.0 ends.1 within put ends.2 ends.4 ends.6 far
         ])

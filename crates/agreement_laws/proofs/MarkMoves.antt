@@ -5,11 +5,12 @@ use Rattle.std.specs.Prelude.{map, slice_get}
 use Rattle.std.specs.List.{AllByRecursion}
 use Rattle.std.specs.Option.{option_map_or}
 use Rattle.std.proofs.lemmas.Bool.{cases_lt}
+use Rattle.list_laws.proofs.Each.{each_weaker, each_at}
 use Rattle.rma_record.specs.declared.items.Item.{Item}
 use Rattle.rma_record.specs.declared.items.Item.TheVariants.{Issue, Touch, Refused, Tested, Ended}
 use Rattle.call_rules.specs.declared.elements.Piece.{Piece}
 use Rattle.board_rules.specs.Entries.{Row}
-use Rattle.call_rules.specs.Actions.{Transfer}
+use Rattle.rma_types.specs.declared.actions.Transfer.{Transfer}
 use Rattle.call_rules.specs.Pieces.{pieces}
 use Rattle.call_rules.specs.Transfers.{change_of}
 use Rattle.lawful_runs.specs.Accesses.{change_made, issued_at, issued_by, transfer_at, EachPair}
@@ -19,7 +20,7 @@ use Rattle.rank_laws.proofs.CellOrder.{touches_rise}
 use Rattle.rank_laws.proofs.DataPaths.{its_transfer}
 use Rattle.rank_laws.proofs.Histories.{most_same, most_join}
 use Rattle.rank_laws.proofs.Inductions.{Keeps}
-use Rattle.rank_laws.proofs.Lists.{each_turned, each_at, get_rest}
+use Rattle.rank_laws.proofs.Lists.{get_rest}
 use Rattle.rank_laws.proofs.Moves.{Point, IsPlainItem, course_at, Learns, Rises, Ends, RefusesAlone, IsRefused, Tests}
 use Rattle.rank_laws.proofs.Moves.{Passes, Enters, Issues, IssuesWhole, Draws, Delivers}
 use Rattle.rank_laws.proofs.Pendings.{IsUntouched}
@@ -75,7 +76,7 @@ touch_marks m one t issued moves element (piece ∷ rest) lows items after h at 
       rising = (later.above, later.rising);
       above = (
         most_same lows,
-        each_turned (λ (mark : Mark). AreAtMost h.3 mark.low) (λ (mark : Mark). AreAtMost lows mark.low)
+        each_weaker (λ (mark : Mark). AreAtMost h.3 mark.low) (λ (mark : Mark). AreAtMost lows mark.low)
             (λ mark up. most_join lows h.3 mark.low h.6 up) later.marks later.above,
       );
       below = (touches_rise t one.index (element + 1) rest h.3 h.2 after h.8, later.below);

@@ -1,9 +1,11 @@
 -- The log of a rank is marked through its whole history.
-use Rattle.std.proofs.Common.{true, ◌≡◌, ℕ, zero, suc, ◌+◌, inl, inr, List, [], ◌∷◌, ◌++◌, length, Option, Some, None}
+use Rattle.std.proofs.Common.{true, ◌≡◌, ℕ, ◌+◌, inl, inr, List, [], ◌∷◌, ◌++◌, length, Option, Some, None}
 use Rattle.std.proofs.Common.{refl, ap, sym, ◌∙◌, subst, arith, append_assoc, length-append}
 use Rattle.std.specs.Prelude.{slice_get, remove}
 use Rattle.std.specs.List.{AllByRecursion}
 use Rattle.std.proofs.lemmas.List.{length-map}
+use Rattle.list_laws.proofs.Each.{each_removed, each_weaker, each_at}
+use Rattle.list_laws.proofs.Lists.{cancel}
 use Rattle.rma_record.specs.declared.items.Item.{Item}
 use Rattle.rma_record.specs.declared.items.Item.TheVariants.{Entry}
 use Rattle.board_rules.specs.Entries.{Row}
@@ -12,7 +14,6 @@ use Rattle.lawful_runs.specs.Stages.{Stage, calls_at}
 use Rattle.rank_laws.proofs.DataPaths.{step_path}
 use Rattle.rank_laws.proofs.Histories.{most_same, most_join, put_rises, rows_joined}
 use Rattle.rank_laws.proofs.Inductions.{path_keeps, life_holds}
-use Rattle.rank_laws.proofs.Lists.{each_turned, each_at}
 use Rattle.rank_laws.proofs.Moves.{Point, point}
 use Rattle.rank_laws.proofs.Pendings.{IsUntouched}
 use Rattle.rank_laws.proofs.TouchLaws.{new_touches}
@@ -31,10 +32,6 @@ use Rattle.agreement_laws.proofs.MarkMoves.{marking_of, access_more, HasMarksAt,
 
 -- ---- a step at the board
 
-cancel : {X : Type 0} (xs ys zs : List X) → xs ++ ys ≡ xs ++ zs → ys ≡ zs
-cancel [] ys zs e = e
-cancel (x ∷ xs) ys zs e = cancel xs ys zs (cc e)
-
 -- the marks of entries that are put in one step
 entries_more : (m : Marking) (before puts : List Put) (items : List Item) (rows : List Row) (at : ℕ)
     (lows after : Lows) →
@@ -50,7 +47,7 @@ entries_more m before [] _ _ at lows after all long is (Quiet item plain other) 
       are = quiet.are;
       rising = quiet.rising;
       above = quiet.above;
-      below = each_turned (λ (mark : Mark). AreAtMost mark.out lows) (λ (mark : Mark). AreAtMost mark.out after)
+      below = each_weaker (λ (mark : Mark). AreAtMost mark.out lows) (λ (mark : Mark). AreAtMost mark.out after)
           (λ mark low. most_join mark.out lows after low put) quiet.marks quiet.below;
       right = quiet.right;
       rise = put;
@@ -66,22 +63,31 @@ entries_more m before (one ∷ []) _ _ at lows after all long is (Single row) pu
       above = (most_same lows, tt);
       below = (put.4, tt);
       right = (
-        record { before = before; put = one; rest = []; split = all; long = sym long; above = put.1; meets = put.3 },
+        record {
+          before = before;
+          put = one;
+          rest = [];
+          split = all;
+          long = sym long;
+          above = λ event edge.
+              (put.2 event edge).0;
+          meets = put.3;
+        },
         tt,
       );
       rise = put_rises m.ranks before lows (one ∷ []) after put;
     }
 entries_more m before (one ∷ two ∷ puts) _ _ at lows after all long is (Single row) put = absurd (cc is)
-entries_more m before [] _ _ at lows after all long is (Double first second next e) put = absurd (cc is)
-entries_more m before (one ∷ []) _ _ at lows after all long is (Double first second next e) put = absurd (cc is)
-entries_more m before (one ∷ two ∷ []) _ _ at lows after all long is (Double first second next e) put =
+entries_more m before [] _ _ at lows after all long is (Double first second next e leaves) put = absurd (cc is)
+entries_more m before (one ∷ []) _ _ at lows after all long is (Double first second next e leaves) put = absurd (cc is)
+entries_more m before (one ∷ two ∷ []) _ _ at lows after all long is (Double first second next e leaves) put =
     let later = put.4 in
     record {
       marks = record { item = Entry first.number at first.step; low = lows; out = put.0 }
           ∷ record { item = Entry second.number next second.step; low = put.0; out = later.0 } ∷ [];
       are = refl;
       rising = ((most_same put.0, tt), (tt, tt));
-      above = (most_same lows, (most_join lows one.front put.0 put.1 put.2, tt));
+      above = (most_same lows, (put.1, tt));
       below = (put_rises m.ranks (before ++ one ∷ []) put.0 (two ∷ []) after later, (later.4, tt));
       right = (
         record {
@@ -90,7 +96,7 @@ entries_more m before (one ∷ two ∷ []) _ _ at lows after all long is (Double
           rest = two ∷ [];
           split = all;
           long = sym long;
-          above = put.1;
+          above = λ event edge. (put.2 event edge).0;
           meets = put.3;
         },
         (
@@ -100,7 +106,7 @@ entries_more m before (one ∷ two ∷ []) _ _ at lows after all long is (Double
             rest = [];
             split = all ∙ sym (append_assoc before (one ∷ []) (two ∷ []));
             long = length-append before (one ∷ []) ∙ ap (λ n. n + 1) (sym long) ∙ sym e;
-            above = later.1;
+            above = λ event edge. (later.2 event edge).0;
             meets = later.3;
           },
           tt,
@@ -108,7 +114,7 @@ entries_more m before (one ∷ two ∷ []) _ _ at lows after all long is (Double
       );
       rise = put_rises m.ranks before lows (one ∷ two ∷ []) after put;
     }
-entries_more m before (one ∷ two ∷ three ∷ puts) _ _ at lows after all long is (Double first second next e) put =
+entries_more m before (one ∷ two ∷ three ∷ puts) _ _ at lows after all long is (Double first second next e leaves) put =
     absurd (cc is)
 
 looks_marked : (stage : Stage) (agent : Agent) (before puts : List Put) (lows after : Lows) →
@@ -170,12 +176,6 @@ AreIssued stage agent =
     AllByRecursion (λ (one : PendingAccess). issued_at (calls_at stage agent.rank) agent.log one.index ≡ Some one)
     agent.pending
 
-each_left : {X : Type 0} (P : X → Type 0) (xs : List X) (at : ℕ) → AllByRecursion P xs → AllByRecursion P (remove xs at)
-each_left P [] zero all = tt
-each_left P [] (suc at) all = tt
-each_left P (x ∷ xs) zero all = all.1
-each_left P (x ∷ xs) (suc at) all = (all.0, each_left P xs at all.1)
-
 drain_marked : (stage : Stage) (puts : List Put) (agent next : Agent) (lows after : Lows) (o : Option PendingAccess) →
     slice_get agent.pending 0 ≡ o →
     AreMarked (marking_of stage agent puts) lows → AreIssued stage agent → IsDelivered stage agent 0 o lows next after →
@@ -191,10 +191,10 @@ drain_marked stage puts agent next lows after (Some one) e marked issued (items,
       marked_more (marking_of stage agent puts) items lows after marked
           (access_more (marking_of stage agent puts) stage one lows after items refl its
           (transfer_at calls one.number) refl touches),
-      each_turned (λ (other : PendingAccess). issued_at calls agent.log other.index ≡ Some other)
+      each_weaker (λ (other : PendingAccess). issued_at calls agent.log other.index ≡ Some other)
           (λ (other : PendingAccess). issued_at calls (agent.log ++ items) other.index ≡ Some other)
           (λ other is. issued_still calls agent.log items other.index other is) (remove agent.pending 0)
-          (each_left (λ (other : PendingAccess). issued_at calls agent.log other.index ≡ Some other) agent.pending 0
+          (each_removed (λ (other : PendingAccess). issued_at calls agent.log other.index ≡ Some other) agent.pending 0
           issued),
     )
 
@@ -219,6 +219,6 @@ lived_marked stage seed rank puts agent lived =
     let touches = keeps_touches stage seed rank lived.stopped lived.known lived.lows lived.life in
     let calls = calls_at stage lived.stopped.rank in
     (drains_marked stage puts lived.stopped lived.lows all
-    (each_turned (IsUntouched calls lived.stopped.log)
+    (each_weaker (IsUntouched calls lived.stopped.log)
     (λ (one : PendingAccess). issued_at calls lived.stopped.log one.index ≡ Some one)
     (λ one is. is.0) lived.stopped.pending touches.has.waiting) agent lived.last lived.drains).0

@@ -1,25 +1,27 @@
 -- The lows of a rank at each item of its log.
-use Rattle.std.proofs.Common.{◌≡◌, ℕ, ◌≤◌, false, List, [], ◌∷◌, ◌++◌, length, None, refl, ap, sym, ◌∙◌, subst}
+use Rattle.std.proofs.Common.{◌≡◌, ℕ, ◌≤◌, true, false, List, [], ◌∷◌, ◌++◌, length, None, refl, ap, sym, ◌∙◌, subst}
 use Rattle.std.proofs.Common.{append_assoc}
 use Rattle.std.specs.Prelude.{map}
 use Rattle.std.specs.List.{AllByRecursion}
 use Rattle.std.specs.Option.{option_map_or}
 use Rattle.std.proofs.lemmas.List.{map-append}
+use Rattle.list_laws.proofs.Each.{each_weaker, each_append}
 use Rattle.rma_types.specs.declared.accesses.Step.{Step}
 use Rattle.rma_types.specs.declared.calls.Call.{Call}
 use Rattle.rma_types.specs.declared.scripts.Layout.{Layout}
 use Rattle.rma_record.specs.declared.items.Item.{Item}
 use Rattle.rma_record.specs.declared.items.Item.TheVariants.{Issue, Null, Touch, Flush, Request, Entry, Tested, Refused}
 use Rattle.rma_record.specs.declared.items.Item.TheVariants.{Ended}
+use Rattle.board_rules.specs.Edges.{Event, is_edge}
 use Rattle.lawful_runs.specs.Accesses.{change_made, issued_at, EachPair}
 use Rattle.lawful_runs.specs.Items.{is_touch, is_entry}
+use Rattle.lawful_runs.proofs.PairLaws.{pair_joined}
 use Rattle.rank_laws.proofs.Histories.{most_same, most_join}
-use Rattle.rank_laws.proofs.Lists.{each_turned, each_append, pair_joined}
 use Rattle.rank_laws.specs.Deliveries.{place_after}
-use Rattle.rank_laws.specs.Fronts.{Lows, AreAtMost, Put, MeetsEdges}
+use Rattle.rank_laws.specs.Fronts.{Lows, AreAtMost, Put, rows_put, event_after, MeetsEdges}
 
--- an item of a log: a touch with the lows before and after it; an entry with lows at or below its front, and lows
--- that meet the edges to it
+-- an item of a log: a touch with the lows before and after it; an entry with lows at or below its front, where an edge
+-- leads from it, and lows that meet the edges to it
 pub record Mark : Type 0 where
   pub item : Item
   pub low : Lows
@@ -44,7 +46,8 @@ pub record IsEntryMark (ranks : ℕ) (puts : List Put) (number place : ℕ) (ste
   pub rest : List Put
   pub split : puts ≡ before ++ put ∷ rest
   pub long : length before ≡ place
-  pub above : AreAtMost low put.front
+  pub above : (later : Event) → is_edge (event_after ranks (rows_put before) put.row) later ≡ true →
+      AreAtMost low put.front
   pub meets : MeetsEdges ranks before put.row out
 
 -- where the marks are made: the memory, the ranks, the calls of the rank, its log and the entries that it knows
@@ -117,7 +120,7 @@ marked_rises m lows after rise marked = record {
   marks = marked.marks;
   items = marked.items;
   rising = marked.rising;
-  below = each_turned (λ (mark : Mark). AreAtMost mark.out lows) (λ (mark : Mark). AreAtMost mark.out after)
+  below = each_weaker (λ (mark : Mark). AreAtMost mark.out lows) (λ (mark : Mark). AreAtMost mark.out after)
       (λ mark low. most_join mark.out lows after low rise) marked.marks marked.below;
   right = marked.right;
 }
@@ -130,7 +133,7 @@ marked_learns m more lows marked = record {
   items = marked.items;
   rising = marked.rising;
   below = marked.below;
-  right = each_turned (IsRight m) (IsRight (record m { puts = m.puts ++ more }))
+  right = each_weaker (IsRight m) (IsRight (record m { puts = m.puts ++ more }))
       (λ mark is. more_puts m more mark.item mark.low mark.out is) marked.marks marked.right;
 }
 
@@ -151,15 +154,15 @@ marked_more m items lows after marked more = record {
   marks = marked.marks ++ more.marks;
   items = (λ i. marked.items i ++ more.are i) ∙ sym (map-append (λ (mark : Mark). mark.item) marked.marks more.marks);
   rising = pair_joined AreRising marked.marks more.marks marked.rising more.rising
-      (each_turned (λ (mark : Mark). AreAtMost mark.out lows)
+      (each_weaker (λ (mark : Mark). AreAtMost mark.out lows)
       (λ (mark : Mark). AllByRecursion (AreRising mark) more.marks)
-      (λ mark low. each_turned (λ (other : Mark). AreAtMost lows other.low) (AreRising mark)
+      (λ mark low. each_weaker (λ (other : Mark). AreAtMost lows other.low) (AreRising mark)
       (λ other up. most_join mark.out lows other.low low up) more.marks more.above) marked.marks marked.below);
   below = each_append (λ (mark : Mark). AreAtMost mark.out after) marked.marks more.marks
-      (each_turned (λ (mark : Mark). AreAtMost mark.out lows) (λ (mark : Mark). AreAtMost mark.out after)
+      (each_weaker (λ (mark : Mark). AreAtMost mark.out lows) (λ (mark : Mark). AreAtMost mark.out after)
       (λ mark low. most_join mark.out lows after low more.rise) marked.marks marked.below) more.below;
   right = each_append (IsRight (record m { log = m.log ++ items })) marked.marks more.marks
-      (each_turned (IsRight m) (IsRight (record m { log = m.log ++ items }))
+      (each_weaker (IsRight m) (IsRight (record m { log = m.log ++ items }))
       (λ mark is. more_log m items mark.item mark.low mark.out is) marked.marks marked.right) more.right;
 }
 

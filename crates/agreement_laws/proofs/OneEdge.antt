@@ -4,18 +4,21 @@ use Rattle.std.specs.Prelude.{◌&&◌, ◌||◌}
 use Rattle.std.specs.List.{list_any}
 use Rattle.std.specs.Option.{option_map_or}
 use Rattle.std.proofs.lemmas.Bool.{and_parts, or_cases}
+use Rattle.list_laws.proofs.Members.{In, any_in}
+use Rattle.list_laws.proofs.Options.{some_of}
 use Rattle.rma_types.specs.declared.accesses.Step.{Step}
 use Rattle.rma_types.specs.declared.accesses.Step.TheVariants.{Arrive, Leave, One}
-use Rattle.call_rules.specs.Actions.{Synchronisation, Fences, Posts, Starts, Completes, Waits, Locks, Unlocks, Flushes}
-use Rattle.call_rules.specs.Actions.{Syncs, synchronisation_of}
+use Rattle.rma_types.specs.declared.actions.Synchronisation.{Synchronisation}
+use Rattle.rma_types.specs.declared.actions.Synchronisation.TheVariants.{Fences, Posts, Starts, Completes, Waits, Locks}
+use Rattle.rma_types.specs.declared.actions.Synchronisation.TheVariants.{Unlocks, Flushes, Syncs}
+use Rattle.rma_types.specs.Actions.{synchronisation_of}
 use Rattle.board_rules.specs.Edges.{Event, are_on_one_window, is_arrive_to_leave, are_of_one_round, is_started_by}
 use Rattle.board_rules.specs.Edges.{is_waited_for_by, is_locked_after, is_edge_by, is_matched_one, is_edge}
 use Rattle.board_rules.specs.Locks.{lock_of, unlock_of}
 use Rattle.board_rules.specs.Posts.{group_of_post, group_of_start, is_complete, is_wait}
-use Rattle.order_laws.proofs.Members.{In, any_in, some_of}
 
 -- a post, a complete or an unlock
-abbrev releases_by : Synchronisation → Bool
+abbrev pub releases_by : Synchronisation → Bool
 releases_by (Fences asserts) = false
 releases_by (Posts group asserts) = true
 releases_by (Starts group asserts) = false
@@ -27,7 +30,7 @@ releases_by (Flushes target local) = false
 releases_by Syncs = false
 
 -- a start, a wait or a lock
-abbrev acquires_by : Synchronisation → Bool
+abbrev pub acquires_by : Synchronisation → Bool
 acquires_by (Fences asserts) = false
 acquires_by (Posts group asserts) = false
 acquires_by (Starts group asserts) = true
@@ -144,11 +147,11 @@ edge_kinds a b first second h =
     ]
 
 -- a step with its synchronisation, which may release or acquire
-abbrev Releases : Event → Type 0
+abbrev pub Releases : Event → Type 0
 Releases e = (e.step ≡ Arrive) ⊎ ((e.step ≡ One) × (s : Synchronisation) × (synchronisation_of e.asked.call ≡ Some s)
     × (releases_by s ≡ true))
 
-abbrev Acquires : Event → Type 0
+abbrev pub Acquires : Event → Type 0
 Acquires e = (e.step ≡ Leave) ⊎ ((e.step ≡ One) × (s : Synchronisation) × (synchronisation_of e.asked.call ≡ Some s)
     × (acquires_by s ≡ true))
 
@@ -169,7 +172,7 @@ matched a b One Leave h = absurd (cc h)
 matched a b Arrive t h = absurd (cc h)
 matched a b Leave t h = absurd (cc h)
 
-edge_ends : (a b : Event) → is_edge a b ≡ true → Releases a × Acquires b
+pub edge_ends : (a b : Event) → is_edge a b ≡ true → Releases a × Acquires b
 edge_ends a b h =
     let parts = and_parts (are_on_one_window a b)
     ((is_arrive_to_leave a.step b.step && are_of_one_round a b) || is_matched_one a b a.step b.step) h in

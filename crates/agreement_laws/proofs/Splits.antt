@@ -2,20 +2,15 @@
 use Rattle.std.proofs.Common.{◌≡◌, ℕ, zero, suc, ◌<◌, ◌≤◌, true, List, [], ◌∷◌, ◌++◌, length, Option, Some, None, refl}
 use Rattle.std.proofs.Common.{ap, sym, subst, arith, append_assoc, append-nil}
 use Rattle.std.specs.Prelude.{map, slice_get}
-use Rattle.std.specs.List.{AllByRecursion}
+use Rattle.list_laws.proofs.Each.{each_at}
 use Rattle.board_rules.specs.Edges.{Event, is_edge}
 use Rattle.call_rules.specs.declared.elements.Change.{Change}
 use Rattle.lawful_runs.specs.Accesses.{Touching, EachPair}
 use Rattle.lawful_runs.specs.Cells.{KeepsOrder}
-use Rattle.order_laws.proofs.Events.{each_in, get_in}
 use Rattle.rank_laws.specs.Deliveries.{place_after}
 use Rattle.rank_laws.specs.Fronts.{Lows, AreAtMost, Put, rows_put, event_after, AreMetFrom}
 
 -- ---- lists
-
-pub each_got : {X : Type 0} (P : X → Type 0) (xs : List X) (k : ℕ) (x : X) → AllByRecursion P xs →
-    slice_get xs k ≡ Some x → P x
-each_got P xs k x all e = each_in P xs all (get_in xs k x e)
 
 pub pair_got : {X : Type 0} (R : X → X → Type 0) (xs : List X) (i j : ℕ) (x y : X) → EachPair R xs →
     slice_get xs i ≡ Some x →
@@ -24,7 +19,7 @@ pair_got R [] i j x y all e f below = absurd (cc e)
 pair_got R (z ∷ zs) zero zero x y all e f below = absurd (omega arith)
 pair_got R (z ∷ zs) (suc i) zero x y all e f below = absurd (omega arith)
 pair_got R (z ∷ zs) zero (suc j) x y all e f below =
-    let same : z ≡ x = cc e in subst (λ w. R w y) same (each_got (R z) zs j y all.0 f)
+    let same : z ≡ x = cc e in subst (λ w. R w y) same (each_at (R z) zs j y all.0 f)
 pair_got R (z ∷ zs) (suc i) (suc j) x y all e f below = pair_got R zs i j x y all.1 e f (omega (arith, below))
 
 pub mapped_got : {X Y : Type 0} (f : X → Y) (xs : List X) (k : ℕ) (y : Y) → slice_get (map f xs) k ≡ Some y →

@@ -1,8 +1,9 @@
 -- Lists whose numbers rise are equal where they have the same elements.
 use Rattle.std.proofs.Common.{◌≡◌, ℕ, ◌<◌, inl, inr, Bool, true, false, cond, List, [], ◌∷◌, refl, sym, ◌∙◌, ap, arith}
 use Rattle.std.specs.List.{AllByRecursion, filter}
+use Rattle.list_laws.proofs.Members.{Among}
 use Rattle.lawful_runs.specs.Accesses.{EachPair}
-use Rattle.rank_laws.proofs.Lists.{Among, among_each}
+use Rattle.rank_laws.proofs.Lists.{among_each}
 
 -- the element is the first of both, since each list has nothing lower
 same_first : {X : Type 0} (number : X → ℕ) (x y : X) (xs ys : List X) → AllByRecursion (λ z. number x < number z) xs →

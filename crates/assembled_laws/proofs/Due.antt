@@ -8,11 +8,12 @@ use Rattle.std.specs.List.{AllByRecursion, filter, list_any}
 use Rattle.std.specs.Option.{option_map_or}
 use Rattle.std.proofs.Math.Seq.{drop-append-add, take-append_seam}
 use Rattle.std.proofs.lemmas.List.{take-append-le, drop-append-le}
-use Rattle.std.proofs.lemmas.Bool.Decides.{eqb_tells}
 use Rattle.std.proofs.lemmas.Option.{slice_get_within}
+use Rattle.list_laws.proofs.Each.{each_back, each_at, each_drop}
 use Rattle.rma_types.specs.declared.calls.Call.{Call}
 use Rattle.rma_record.specs.declared.items.Item.{Item}
 use Rattle.rma_record.specs.declared.items.Item.TheVariants.{Touch}
+use Rattle.call_rules.proofs.NumbersFrom.{some_number}
 use Rattle.assembled_laws.proofs.NextItems.{next_after_none, next_stays, next_within, next_touches, next_plain}
 use Rattle.board_rules.specs.Entries.{Row}
 use Rattle.call_rules.specs.Pieces.{numbers_from}
@@ -23,7 +24,7 @@ use Rattle.lawful_runs.specs.Items.{is_touch}
 use Rattle.lawful_runs.specs.Stages.{Stage, RankOfRun, calls_here}
 use Rattle.lawful_runs.specs.TouchLaw.{issued_in, is_local, is_awaiting, issue_touched, issues_touched}
 use Rattle.rank_laws.proofs.Awaiting.{rank_of}
-use Rattle.rank_laws.proofs.Lists.{each_back, each_at, each_drop, place_in, get_front, get_rest}
+use Rattle.rank_laws.proofs.Lists.{place_in, get_front, get_rest}
 use Rattle.rank_laws.proofs.Touching.{IsTouchOf, issued_front, issued_before_touches}
 use Rattle.rank_rules.specs.Knowledge.{Knowledge, own_class}
 use Rattle.rank_rules.specs.Pending.{must_wait}
@@ -132,36 +133,18 @@ due_stays here log more index issue next inside e =
     within = rises next index (length (drop index log)) (length log) (next_within index next (drop index log) e)
         (length-drop index log) inside
 
--- a test that a number passes
-any_at_number : (test : ℕ → Bool) (first count n : ℕ) → test n ≡ true → first ≤ n → n < first + count →
-    list_any test (numbers_from first count) ≡ true
-any_at_number test first zero n e low high = absurd (omega arith)
-any_at_number test first (suc count) n e low high = elim (eqb_tells n first) [
-  | inl same ↦ ap (λ b. b || list_any test (numbers_from (first + 1) count)) (ap test (sym same.1) ∙ e)
-  | inr apart ↦ let other = apart.1 in
-      or_right (test first) (list_any test (numbers_from (first + 1) count))
-      (any_at_number test (first + 1) count n e (above n first low other) (omega arith))
-]
-  where
-    above : (n first : ℕ) → first ≤ n → (n ≡ first → ⊥) → first + 1 ≤ n
-    above n first low other = omega (arith, other)
-
-    or_right : (a b : Bool) → b ≡ true → (a || b) ≡ true
-    or_right true b e = refl
-    or_right false b e = e
-
 -- the item for which a touch is owed pays for it
 owed_is_due : (here : RankOfRun) (log : List Item) (item : Item) (pending : List PendingAccess) (at issue : ℕ)
     (one : PendingAccess) → slice_get pending at ≡ Some one →
     (one.index == issue || gives_way_to pending at issue) ≡ true → is_awaiting here log one item ≡ true →
     is_owed here log (Some item) pending issue ≡ true
 owed_is_due here log item pending at issue one there leads waits =
-    any_at_number (λ n. option_map_or (λ (x : PendingAccess). is_awaiting here log x item
+    some_number (λ n. option_map_or (λ (x : PendingAccess). is_awaiting here log x item
     && (x.index == issue || gives_way_to pending n issue)) (slice_get pending n) false) 0 (length pending) at
+    (omega arith) (let less = slice_get_within pending at one there in omega arith)
     (ap (λ (o : Option PendingAccess). option_map_or (λ (x : PendingAccess). is_awaiting here log x item
     && (x.index == issue || gives_way_to pending at issue)) o false) there
     ∙ ap (λ b. b && (one.index == issue || gives_way_to pending at issue)) waits ∙ leads)
-    (omega arith) (let less = slice_get_within pending at one there in omega arith)
 
 -- ---- one more item that is no touch
 

@@ -1,5 +1,5 @@
 -- What is delivered is owed: a call that waits for it, or the end, comes next.
-use Rattle.std.proofs.Common.{◌≡◌, ℕ, zero, suc, ◌+◌, ◌<◌, ◌≤◌, Bool, true, false, not, ◌||◌, List, [], ◌∷◌, ◌++◌}
+use Rattle.std.proofs.Common.{◌≡◌, ℕ, ◌+◌, ◌<◌, ◌≤◌, true, false, not, ◌||◌, List, [], ◌∷◌, ◌++◌}
 use Rattle.std.proofs.Common.{length, take, Option, Some, None, refl, sym, ◌∙◌, ap, arith, get_or}
 use Rattle.std.specs.Prelude.{slice_get, ◌==◌}
 use Rattle.std.specs.List.{filter, position}
@@ -8,6 +8,9 @@ use Rattle.std.proofs.Math.Seq.{take-append-add}
 use Rattle.std.proofs.lemmas.Bool.{eq-eqb}
 use Rattle.std.proofs.lemmas.List.Quantifiers.{position-Some}
 use Rattle.std.proofs.lemmas.Option.{slice_get-get_or}
+use Rattle.list_laws.proofs.Each.{each_removed, each_take}
+use Rattle.list_laws.proofs.Lists.{length_taken}
+use Rattle.list_laws.proofs.Truths.{or_first, or_second}
 use Rattle.rma_types.specs.declared.accesses.Access.{Access}
 use Rattle.rma_types.specs.declared.calls.Call.{Call}
 use Rattle.rma_types.specs.declared.schedules.Delay.{Delay}
@@ -17,7 +20,7 @@ use Rattle.rma_record.specs.declared.items.Item.TheVariants.{Issue}
 use Rattle.assembled_laws.proofs.Due.{ForCall, ForEnd, IsOwed, due_touches, owed_touches, remote_before}
 use Rattle.assembled_laws.proofs.DueMoves.{HasDue, begun_push, begun_touches, all_later, pushed, issue_pays}
 use Rattle.assembled_laws.proofs.Unfinished.{HasElements, pending_between}
-use Rattle.call_rules.specs.Actions.{Transfer}
+use Rattle.rma_types.specs.declared.actions.Transfer.{Transfer}
 use Rattle.call_rules.specs.Pieces.{pieces}
 use Rattle.lawful_runs.specs.Accesses.{transfer_at, issued_by}
 use Rattle.lawful_runs.specs.DelayLaw.{pending_at, gives_way_to, is_unfinished, is_remote}
@@ -26,7 +29,7 @@ use Rattle.lawful_runs.specs.TouchLaw.{issued_in, is_local}
 use Rattle.rank_laws.proofs.Awaiting.{rank_of}
 use Rattle.rank_laws.proofs.AwaitMoves.{KeepsAwaited}
 use Rattle.rank_laws.proofs.DirectMoves.{touches_count}
-use Rattle.rank_laws.proofs.Lists.{each_left, each_take, get_rest}
+use Rattle.rank_laws.proofs.Lists.{get_rest}
 use Rattle.rank_laws.proofs.Moves.{Issuing, Reason, IsDrawn, IsAwaited, IsAtEnd, IsDrained, IsDue, issued_whole}
 use Rattle.rank_laws.proofs.Touching.{IsTouchOf, touches_own, touches_of_own}
 use Rattle.rank_laws.proofs.TouchMoves.{made_is}
@@ -38,11 +41,6 @@ use Rattle.step_runs.specs.Agents.{Agent, next_call, awaited_by, is_seeded}
 use Rattle.step_runs.specs.DataSteps.{is_at_once}
 
 -- ---- what is pending between the touches of an access
-
-take_most : {X : Type 0} (n : ℕ) (xs : List X) → length (take n xs) ≤ n
-take_most zero xs = omega arith
-take_most (suc n) [] = omega arith
-take_most (suc n) (x ∷ xs) = let h = take_most n xs in omega arith
 
 touches_many : (stage : Stage) (calls : List Call) (one : PendingAccess) (o : Option Transfer) (lows : Lows)
     (items : List Item) (after : Lows) → AreTouchesOf stage one o lows items after →
@@ -62,7 +60,7 @@ still_pending stage agent at one items lows after awaited h there touches past i
     ∙ pending_between stage agent.rank [] agent.log (take past items) agent.pending at one awaited.touches.has
     h.elements there (each_take (IsTouchOf one.index) past items
     (touches_of_own stage one _ lows items after touches))
-    (fewer (length (take past items)) past (length items) _ (take_most past items) inside
+    (fewer (length (take past items)) past (length items) _ (length_taken past items) inside
     (touches_many stage (calls_at stage agent.rank) one (transfer_at (calls_at stage agent.rank) one.number) lows items
     after touches))
   where
@@ -70,14 +68,6 @@ still_pending stage agent at one items lows after awaited h there touches past i
     fewer a b c d h k e = omega arith
 
 -- ---- why it is delivered
-
-or_first : (a b : Bool) → a ≡ true → (a || b) ≡ true
-or_first true b e = refl
-or_first false b e = absurd (cc e)
-
-or_second : (a b : Bool) → b ≡ true → (a || b) ≡ true
-or_second true b e = refl
-or_second false b e = e
 
 -- the access that a call waits for, and where its way ends
 awaited_way : (agent : Agent) (call : Call) (at : ℕ) → awaited_by agent call ≡ Some at →
@@ -134,7 +124,7 @@ delivered_due stage agent at one items lows after end awaited h there due touche
     let own = touches_of_own stage one _ lows items after touches in record {
       begun = begun_touches (agent.at + 1) one.index agent.log items own h.begun;
       unbegun = λ new. begun_touches agent.at one.index agent.log items own (h.unbegun new);
-      elements = each_left (HasElements stage.layout (calls_at stage agent.rank)) agent.pending at h.elements;
+      elements = each_removed (HasElements stage.layout (calls_at stage agent.rank)) agent.pending at h.elements;
       due = due_touches stage agent.rank one.index agent.log items own h.due;
       owed = owed_touches stage agent.rank one.index agent.log items (next_call stage agent) agent.entered agent.known
           own h.owed (λ past inside remote.

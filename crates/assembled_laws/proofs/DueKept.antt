@@ -1,6 +1,7 @@
 -- Every move of a rank that makes steps keeps that its touches are made when they are due, where the delay is end.
 use Rattle.std.proofs.Common.{◌≡◌, ◌+◌, true, false, [], ◌∷◌, ◌++◌, length, refl}
 use Rattle.std.specs.Prelude.{nat_lt}
+use Rattle.list_laws.proofs.Each.{each_append}
 use Rattle.rma_types.specs.declared.schedules.Delay.TheVariants.{End as EndDelay}
 use Rattle.rma_record.specs.declared.items.Item.TheVariants.{Issue, Tested, Refused, Ended}
 use Rattle.assembled_laws.proofs.DueDeliveries.{delivered_due, issued_due}
@@ -13,7 +14,6 @@ use Rattle.call_laws.proofs.KnownMoves.{known_kept}
 use Rattle.lawful_runs.specs.Stages.{Stage, calls_at, shapes_in}
 use Rattle.rank_laws.proofs.AwaitMoves.{KeepsAwaited, awaited_kept}
 use Rattle.rank_laws.proofs.Inductions.{KeepsIn}
-use Rattle.rank_laws.proofs.Lists.{each_append}
 use Rattle.rank_laws.proofs.Moves.{Point, course_at, Move, move_weaker, Learns, Rises, Ends, RefusesAlone, IsRefused}
 use Rattle.rank_laws.proofs.Moves.{Tests, Passes, Enters, Issues, IssuesWhole, Draws, Delivers}
 use Rattle.rank_laws.proofs.TouchMoves.{plain_by_course}

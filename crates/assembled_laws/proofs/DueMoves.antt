@@ -5,6 +5,7 @@ use Rattle.std.specs.Prelude.{slice_get, ◌==◌, IfSome}
 use Rattle.std.specs.List.{AllByRecursion, list_any}
 use Rattle.std.specs.Option.{option_map_or}
 use Rattle.std.proofs.lemmas.Bool.{ne_eqb}
+use Rattle.list_laws.proofs.Each.{each_weaker, each_append}
 use Rattle.rma_types.specs.declared.accesses.Access.{Access}
 use Rattle.rma_types.specs.declared.accesses.Step.{Step}
 use Rattle.rma_types.specs.declared.accesses.Step.TheVariants.{Arrive, Leave, One}
@@ -17,13 +18,12 @@ use Rattle.rma_record.specs.declared.items.Item.TheVariants.{Ended}
 use Rattle.assembled_laws.proofs.Due.{AreDue, ForCall, ForEnd, AreOwed, Pays, due_push, owed_push}
 use Rattle.assembled_laws.proofs.Unfinished.{HasElements}
 use Rattle.call_laws.proofs.KnownMoves.{KnowsLog}
-use Rattle.call_rules.specs.Actions.{Transfer}
+use Rattle.rma_types.specs.declared.actions.Transfer.{Transfer}
 use Rattle.lawful_runs.specs.Items.{is_touch, is_ended, is_own_refusal, number_in, belongs_to}
 use Rattle.lawful_runs.specs.Stages.{Stage, calls_at, calls_here, known_at}
 use Rattle.lawful_runs.specs.TouchLaw.{begins_awaiting}
 use Rattle.rank_laws.proofs.Awaiting.{rank_of}
 use Rattle.rank_laws.proofs.AwaitMoves.{KeepsAwaited}
-use Rattle.rank_laws.proofs.Lists.{each_turned, each_append}
 use Rattle.rank_laws.proofs.Moves.{Point, course_at, Begins, Entering, OnlyEntry, LookUp, Arriving, Leaving}
 use Rattle.rank_laws.proofs.Moves.{IsPlainItem, Issuing}
 use Rattle.rank_laws.proofs.Touching.{IsTouchOf}
@@ -64,7 +64,7 @@ before_later few many h item before = by (number_in item) before
 
 pub all_later : (few many : ℕ) → few ≤ many → (log : List Item) → AllByRecursion (IsBefore few) log →
     AllByRecursion (IsBefore many) log
-all_later few many h log all = each_turned (IsBefore few) (IsBefore many) (before_later few many h) log all
+all_later few many h log all = each_weaker (IsBefore few) (IsBefore many) (before_later few many h) log all
 
 -- an item of the call
 its_number : (number : ℕ) (item : Item) → number_in item ≡ Some number → IsBefore (number + 1) item
@@ -89,7 +89,7 @@ touch_is_before number issue Ended is = absurd is
 pub begun_touches : (number issue : ℕ) (log items : List Item) → AllByRecursion (IsTouchOf issue) items →
     AllByRecursion (IsBefore number) log → AllByRecursion (IsBefore number) (log ++ items)
 begun_touches number issue log items own all = each_append (IsBefore number) log items all
-    (each_turned (IsTouchOf issue) (IsBefore number) (touch_is_before number issue) items own)
+    (each_weaker (IsTouchOf issue) (IsBefore number) (touch_is_before number issue) items own)
 
 none_belongs : (number : ℕ) (log : List Item) → AllByRecursion (IsBefore number) log →
     list_any (belongs_to number) log ≡ false

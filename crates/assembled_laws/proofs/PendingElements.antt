@@ -1,5 +1,5 @@
 -- A pending access has an element: an access without bytes is never pending.
-use Rattle.std.proofs.Common.{◌≡◌, ℕ, zero, suc, ◌+◌, ◌*◌, ◌<◌, Bool, true, false, cond, [], ◌∷◌, length, Option, Some}
+use Rattle.std.proofs.Common.{◌≡◌, ℕ, ◌*◌, ◌<◌, Bool, true, false, cond, [], ◌∷◌, Option, Some}
 use Rattle.std.proofs.Common.{None, refl, sym, ◌∙◌, ap, subst, arith}
 use Rattle.std.specs.Prelude.{nat_lt, ◌/◌}
 use Rattle.std.specs.List.{AllByRecursion}
@@ -11,8 +11,10 @@ use Rattle.rma_types.specs.declared.calls.Call.{Call}
 use Rattle.rma_types.specs.declared.dtypes.Dtype.{Dtype}
 use Rattle.rma_types.specs.declared.dtypes.Dtype.TheVariants.{Int8, Int16, Int32, Uint8, Uint16, Uint32, Byte}
 use Rattle.rma_types.specs.Datatypes.{size_of}
+use Rattle.call_rules.proofs.NumbersFrom.{numbers_length}
 use Rattle.assembled_laws.proofs.Unfinished.{HasElements}
-use Rattle.call_rules.specs.Actions.{Transfer, transfer_of}
+use Rattle.rma_types.specs.declared.actions.Transfer.{Transfer}
+use Rattle.rma_types.specs.Actions.{transfer_of}
 use Rattle.call_rules.specs.Pieces.{numbers_from, piece_at, element_address}
 use Rattle.call_rules.specs.Ranks.{natural}
 use Rattle.call_rules.specs.Transfers.{bytes_of}
@@ -25,10 +27,6 @@ use Rattle.rank_rules.specs.Windows.{Window, RankWindows, window_of_name}
 use Rattle.step_runs.specs.Agents.{Agent}
 
 -- ---- how many elements
-
-numbers_count : (first count : ℕ) → length (numbers_from first count) ≡ count
-numbers_count first zero = refl
-numbers_count first (suc count) = ap suc (numbers_count (first + 1) count)
 
 some_left : (dtype : Dtype) (count : ℕ) → 0 < count * size_of dtype → 0 < count * size_of dtype / size_of dtype
 some_left Int8 count h = omega arith
@@ -71,6 +69,6 @@ made_has_elements stage agent call t access issuing true e =
     let count = made_count stage agent call t access issuing
     ∙ length-map (numbers_from 0 (access.len / size_of t.dtype))
     (λ element. piece_at stage.layout access.target (element_address access t.dtype element))
-    ∙ numbers_count 0 (access.len / size_of t.dtype)
+    ∙ numbers_length 0 (access.len / size_of t.dtype)
     ∙ ap (λ n. n / size_of t.dtype) bytes in
     (subst (λ n. 0 < n) (sym count) left, tt)

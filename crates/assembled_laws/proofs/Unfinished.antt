@@ -6,9 +6,12 @@ use Rattle.std.specs.List.{AllByRecursion, filter}
 use Rattle.std.specs.Option.{option_map_or}
 use Rattle.std.proofs.lemmas.Bool.{lt-ltb, ltb-true}
 use Rattle.std.proofs.lemmas.Bool.Decides.{eqb_tells}
+use Rattle.list_laws.proofs.Each.{each_weaker, each_at}
+use Rattle.list_laws.proofs.Members.{among_right, Among}
 use Rattle.rma_types.specs.declared.calls.Call.{Call}
 use Rattle.rma_types.specs.declared.scripts.Layout.{Layout}
 use Rattle.rma_record.specs.declared.items.Item.{Item}
+use Rattle.lawful_runs.proofs.TouchLaws.{touched_most, elements_count, touched_joined}
 use Rattle.assembled_laws.proofs.Ascending.{filter_is}
 use Rattle.board_rules.specs.Entries.{Row}
 use Rattle.lawful_runs.specs.Accesses.{issued_by, issued_at, issued_from, pieces_of, EachPair}
@@ -16,10 +19,9 @@ use Rattle.lawful_runs.specs.DelayLaw.{is_unfinished}
 use Rattle.lawful_runs.specs.Stages.{Stage, calls_at}
 use Rattle.lawful_runs.specs.TouchLaw.{touched_by, issued_in}
 use Rattle.rank_laws.proofs.Awaiting.{rank_of}
-use Rattle.rank_laws.proofs.DirectMoves.{touched_few, elements_count}
-use Rattle.rank_laws.proofs.Lists.{each_turned, each_at, Among, among_left, among_each}
+use Rattle.rank_laws.proofs.Lists.{among_left, among_each}
 use Rattle.rank_laws.proofs.Pendings.{IsSettled, IsUntouched, HasTouches}
-use Rattle.rank_laws.proofs.Touching.{IsTouchOf, touched_by_other, touched_joined, touch_issues_nothing, made_at}
+use Rattle.rank_laws.proofs.Touching.{IsTouchOf, touched_by_other, touch_issues_nothing, made_at}
 use Rattle.rank_laws.proofs.Touching.{issued_inside, issued_still, issued_before_touches, each_issued}
 use Rattle.rank_rules.specs.declared.pending.PendingAccess.{PendingAccess}
 
@@ -28,10 +30,6 @@ abbrev pub HasElements : Layout → List Call → PendingAccess → Type 0
 HasElements memory calls one = 0 < length (pieces_of memory calls one)
 
 -- ---- the accesses of a log
-
-among_after : {X : Type 0} (x : X) (xs ys : List X) → Among x ys → Among x (xs ++ ys)
-among_after x [] ys h = h
-among_after x (y ∷ xs) ys h = inr (among_after x xs ys h)
 
 -- an access of the log stands at its index
 pub issued_among : (calls : List Call) (log : List Item) (one : PendingAccess) → Among one (issued_from calls 0 log) →
@@ -57,7 +55,7 @@ among_issued calls log index one e = from 0 log index
         (subst (λ (o : Option PendingAccess). Among one (option_map_or (λ (x : PendingAccess). x ∷ []) o []))
         (sym (subst (λ n. issued_by calls n item ≡ Some one) (omega arith) k)) (inl refl))
     from first (item ∷ items) (suc at) k =
-        among_after one (option_map_or (λ (x : PendingAccess). x ∷ []) (issued_by calls first item) [])
+        among_right one (option_map_or (λ (x : PendingAccess). x ∷ []) (issued_by calls first item) [])
         (issued_from calls (first + 1) items)
         (from (first + 1) items at
         (subst (λ n. option_map_or (issued_by calls n) (slice_get items at) None ≡ Some one) (omega arith) k))
@@ -80,20 +78,20 @@ issued_rise calls first (item ∷ items) =
         (option_map_or (λ (x : PendingAccess). x ∷ []) o [] ++ issued_from calls (first + 1) items)
     with_first rest None e = (
       rest.0,
-      each_turned (λ (one : PendingAccess). first + 1 ≤ one.index) (λ (one : PendingAccess). first ≤ one.index)
+      each_weaker (λ (one : PendingAccess). first + 1 ≤ one.index) (λ (one : PendingAccess). first ≤ one.index)
           (λ one h. omega arith) (issued_from calls (first + 1) items) rest.1,
     )
     with_first rest (Some x) e =
         let at = made_at calls first item x e in (
           (
-            each_turned (λ (one : PendingAccess). first + 1 ≤ one.index)
+            each_weaker (λ (one : PendingAccess). first + 1 ≤ one.index)
                 (λ (one : PendingAccess). x.index < one.index) (λ one h. omega arith)
                 (issued_from calls (first + 1) items) rest.1,
             rest.0,
           ),
           (
             omega arith,
-            each_turned (λ (one : PendingAccess). first + 1 ≤ one.index)
+            each_weaker (λ (one : PendingAccess). first + 1 ≤ one.index)
                 (λ (one : PendingAccess). first ≤ one.index) (λ one h. omega arith)
                 (issued_from calls (first + 1) items) rest.1,
           ),
@@ -147,7 +145,7 @@ pending_between stage rank rows log items pending at one has elements there own 
           | inl same ↦
               let is : one ≡ x = let back : Some one ≡ Some x = sym here.0
               ∙ subst (λ n. issued_at (calls_at stage rank) log n ≡ Some x) (sym same.1) issued in cc back in
-              let all = touched_few x.index items in
+              let all = touched_most x.index items in
               let count = ap length joined in
               let enough = ap (λ (i : PendingAccess). length (pieces_of stage.layout (calls_at stage rank) i)) is in
               omega arith

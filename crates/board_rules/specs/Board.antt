@@ -6,9 +6,13 @@ use Rattle.rma_types.specs.declared.accesses.Step.TheVariants.{Arrive, Leave, On
 use Rattle.rma_types.specs.declared.classes.Class.{Class}
 use Rattle.rma_types.specs.declared.classes.Class.TheVariants.{Flavor as FlavorClass, Assert as AssertClass}
 use Rattle.rma_types.specs.declared.classes.Class.TheVariants.{Sync as SyncClass, Range as RangeClass}
-use Rattle.call_rules.specs.Actions.{Action, Creates, Frees, Attaches, Detaches, Synchronises, Meets, Moves}
-use Rattle.call_rules.specs.Actions.{EndsRequest, Synchronisation, Fences, Posts, Starts, Completes, Waits, Locks}
-use Rattle.call_rules.specs.Actions.{Unlocks, Flushes, Syncs, action_of}
+use Rattle.rma_types.specs.declared.actions.Action.{Action}
+use Rattle.rma_types.specs.declared.actions.Action.TheVariants.{Creates, Frees, Attaches, Detaches, Synchronises, Meets}
+use Rattle.rma_types.specs.declared.actions.Action.TheVariants.{Moves, EndsRequest}
+use Rattle.rma_types.specs.declared.actions.Synchronisation.{Synchronisation}
+use Rattle.rma_types.specs.declared.actions.Synchronisation.TheVariants.{Fences, Posts, Starts, Completes, Waits, Locks}
+use Rattle.rma_types.specs.declared.actions.Synchronisation.TheVariants.{Unlocks, Flushes, Syncs}
+use Rattle.rma_types.specs.Actions.{action_of}
 use Rattle.call_rules.specs.Pieces.{numbers_from}
 use Rattle.call_rules.specs.Ranks.{members_of, natural}
 use Rattle.board_rules.specs.AttachedRanges.{reaches_unattached}

@@ -7,7 +7,8 @@ use Rattle.std.specs.Option.{option_map_or}
 use Rattle.rma_types.specs.declared.accesses.Step.{Step}
 use Rattle.rma_types.specs.declared.accesses.Step.TheVariants.{Arrive, Leave, One}
 use Rattle.rma_types.specs.declared.calls.Lock.{Lock}
-use Rattle.call_rules.specs.Actions.{Synchronisation, synchronisation_of}
+use Rattle.rma_types.specs.declared.actions.Synchronisation.{Synchronisation}
+use Rattle.rma_types.specs.Actions.{synchronisation_of}
 use Rattle.call_rules.specs.Ranks.{is_member}
 use Rattle.board_rules.specs.Entries.{Row, collective_of, is_collective}
 use Rattle.board_rules.specs.Locks.{Held, held_here, locks_asked, is_given_back, do_clash, lock_of, unlock_of}

@@ -1,8 +1,9 @@
 -- Posts, starts, completes and waits: MPI 3.1, section 11.5.2. They are counted for each window.
 use Rattle.std.specs.Prelude.{ℕ, Bool, true, false, ◌==◌, nat_lt, List, [], ◌∷◌, length, take, reverse, slice_index_or}
 use Rattle.std.specs.List.{count_by, flat_map, list_all}
-use Rattle.call_rules.specs.Actions.{Synchronisation, Fences, Posts as PostsTo, Starts, Completes, Waits, Locks}
-use Rattle.call_rules.specs.Actions.{Unlocks, Flushes, Syncs}
+use Rattle.rma_types.specs.declared.actions.Synchronisation.{Synchronisation}
+use Rattle.rma_types.specs.declared.actions.Synchronisation.TheVariants.{Fences, Posts as PostsTo, Starts, Completes}
+use Rattle.rma_types.specs.declared.actions.Synchronisation.TheVariants.{Waits, Locks, Unlocks, Flushes, Syncs}
 use Rattle.call_rules.specs.Ranks.{members_of, is_member}
 use Rattle.board_rules.specs.Entries.{synchronisations}
 use Rattle.board_rules.specs.Questions.{Question}

@@ -6,8 +6,11 @@ use Rattle.std.specs.Option.{option_map_or}
 use Rattle.rma_types.specs.declared.calls.Asserts.{Asserts}
 use Rattle.rma_types.specs.declared.calls.Call.{Call}
 use Rattle.rma_types.specs.declared.calls.Flavor.{Flavor}
-use Rattle.call_rules.specs.Actions.{Creation, Synchronisation, Fences, Posts, Starts, Completes, Waits, Locks, Unlocks}
-use Rattle.call_rules.specs.Actions.{Flushes, Syncs, creation_of, synchronisation_of}
+use Rattle.rma_types.specs.declared.actions.Creation.{Creation}
+use Rattle.rma_types.specs.declared.actions.Synchronisation.{Synchronisation}
+use Rattle.rma_types.specs.declared.actions.Synchronisation.TheVariants.{Fences, Posts, Starts, Completes, Waits, Locks}
+use Rattle.rma_types.specs.declared.actions.Synchronisation.TheVariants.{Unlocks, Flushes, Syncs}
+use Rattle.rma_types.specs.Actions.{creation_of, synchronisation_of}
 use Rattle.call_rules.specs.Pieces.{numbers_from}
 use Rattle.rank_rules.specs.Windows.{is_same_flavor}
 use Rattle.board_rules.specs.Entries.{collective_of, arrivals}

@@ -8,7 +8,8 @@ use Rattle.rma_types.specs.declared.calls.Flavor.TheVariants.{Allocate, Create, 
 use Rattle.rma_types.specs.declared.scripts.CallBase.{CallBase}
 use Rattle.rma_types.specs.declared.scripts.Layout.{Layout}
 use Rattle.rma_types.specs.declared.scripts.Part.{Part}
-use Rattle.call_rules.specs.Actions.{Creation, creation_of}
+use Rattle.rma_types.specs.declared.actions.Creation.{Creation}
+use Rattle.rma_types.specs.Actions.{creation_of}
 use Rattle.call_rules.specs.Pieces.{numbers_from}
 use Rattle.call_rules.specs.Ranks.{natural}
 use Rattle.rank_rules.specs.Windows.{no_part}

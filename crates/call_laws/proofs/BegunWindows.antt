@@ -8,18 +8,22 @@ use Rattle.std.proofs.lemmas.Bool.{ne_eqb, eq-eqb}
 use Rattle.std.proofs.lemmas.List.{append-nil, map-append}
 use Rattle.std.proofs.lemmas.List.Elements.{filter-append}
 use Rattle.std.proofs.lemmas.List.Sums.{sum_by-append, sum_by-cons}
+use Rattle.list_laws.proofs.Truths.{false_inside, and_three}
 use Rattle.rma_types.specs.declared.accesses.Step.TheVariants.{Arrive, Leave, One}
 use Rattle.rma_types.specs.declared.calls.Call.{Call}
 use Rattle.rma_types.specs.declared.scripts.Part.{Part}
+use Rattle.rma_types.proofs.ActionLaws.{creates_it, name_made, none_made, transfer_makes_none}
 use Rattle.rma_record.specs.declared.items.Item.{Item}
 use Rattle.rma_record.specs.declared.items.Item.TheVariants.{Entry}
+use Rattle.rank_rules.proofs.WindowLaws.{created_grows}
 use Rattle.board_rules.specs.Entries.{Row, Act, acts, acts_after, window_of, round_of, is_arrive, is_creation}
-use Rattle.board_rules.specs.Entries.{names_window, begins_window, creations, is_by_on, Collective}
+use Rattle.board_rules.specs.Entries.{names_window, begins_window, creations, Collective}
 use Rattle.board_rules.specs.Entries.{Creation as CreationRound, is_collective, arrivals}
-use Rattle.call_rules.specs.Actions.{Action, Creates, Frees, Attaches, Detaches, Synchronises, Meets, Moves}
-use Rattle.call_rules.specs.Actions.{EndsRequest, Creation, action_of, creation_in, creation_of, window_in_action}
-use Rattle.call_laws.proofs.Teaching.{name_made, no_name, created_grows, learns_call, IsPlain, plain_created}
-use Rattle.call_laws.proofs.Teaching.{arrive_is_plain, look_up_is_plain, leave_ends, look_up_moves, transfer_makes_none}
+use Rattle.rma_types.specs.declared.actions.Creation.{Creation}
+use Rattle.rma_types.specs.Actions.{creation_of, window_in_action}
+use Rattle.board_rules.proofs.EntryLaws.{begins_by, names_it, is_arrival, new_number}
+use Rattle.call_laws.proofs.Teaching.{learns_call, IsPlain, plain_created}
+use Rattle.call_laws.proofs.Teaching.{arrive_is_plain, look_up_is_plain, leave_ends, look_up_moves}
 use Rattle.lawful_runs.specs.Stages.{Stage, calls_at}
 use Rattle.rank_laws.proofs.Moves.{course_at, Begins}
 use Rattle.rank_laws.proofs.Shapes.{acts_joined, creation_is_collective}
@@ -30,9 +34,6 @@ use Rattle.step_runs.specs.Agents.{Agent, next_call, keep_item, end_call, enter_
 use Rattle.step_runs.specs.BoardSteps.{next_row}
 
 -- ---- the creations of a rank
-
-abbrev pub begins_by : ℕ → ℕ → Row → Bool
-begins_by rank win row = row.rank == rank && begins_window row && names_window win row.call
 
 abbrev pub is_named : ℕ → ℕ → Bool
 is_named win name = name == win
@@ -75,10 +76,6 @@ creations_push rows row rank win = sums (creations (rows ++ row ∷ []) rank win
     sums : (a b c d : ℕ) → a ≡ b + c → c ≡ d + 0 → a ≡ b + d
     sums a b c d e g = omega arith
 
-no_begin : (x y z : Bool) → (x && (false && y) && z) ≡ false
-no_begin true y z = refl
-no_begin false y z = refl
-
 -- an entry that is no Arrive creates nothing
 pub later_creates_none : (rows : List Row) (row : Row) (rank win : ℕ) → is_arrive row.step ≡ false →
     creations (rows ++ row ∷ []) rank win ≡ creations rows rank win
@@ -86,32 +83,13 @@ later_creates_none rows row rank win e =
     plus_none (creations (rows ++ row ∷ []) rank win) (creations rows rank win)
     (cond {A = ℕ} (begins_by rank win row) 1 0) (creations_push rows row rank win)
     (ap (λ b. cond {A = ℕ} (row.rank == rank && (b && is_creation row.call) && names_window win row.call) 1 0) e
-    ∙ ap (λ b. cond {A = ℕ} b 1 0) (no_begin (row.rank == rank) (is_creation row.call) (names_window win row.call)))
+    ∙ ap (λ b. cond {A = ℕ} b 1 0) (false_inside (row.rank == rank) (is_creation row.call) (names_window win row.call)))
 
 -- ---- names
 
 count_names : (win : ℕ) (xs ys : List ℕ) →
     count_by (is_named win) (xs ++ ys) ≡ count_by (is_named win) xs + count_by (is_named win) ys
 count_names win xs ys = sum_by-append (λ name. cond {A = ℕ} (name == win) 1 0) xs ys
-
-creates_in : (action : Action) (creation : Creation) → creation_in action ≡ Some creation → action ≡ Creates creation
-creates_in (Creates c) creation e = let is : c ≡ creation = cc e in ap Creates is
-creates_in (Frees win) creation e = absurd (cc e)
-creates_in (Attaches win base bytes) creation e = absurd (cc e)
-creates_in (Detaches win base) creation e = absurd (cc e)
-creates_in (Synchronises win s) creation e = absurd (cc e)
-creates_in Meets creation e = absurd (cc e)
-creates_in (Moves t) creation e = absurd (cc e)
-creates_in (EndsRequest req) creation e = absurd (cc e)
-
-pub creates_it : (call : Call) (creation : Creation) → creation_of call ≡ Some creation →
-    action_of call ≡ Creates creation
-creates_it call creation e = creates_in (action_of call) creation e
-
-names_it : (call : Call) (creation : Creation) (win : ℕ) → creation_of call ≡ Some creation →
-    names_window win call ≡ (creation.win == win)
-names_it call creation win makes = ap (λ a. option_map_or (λ name. name == win) (window_in_action a) false)
-    (creates_it call creation makes)
 
 -- a call that begins to make a window of the name counts once
 count_made : (call : Call) (mine : Bool) (win : ℕ) → mine ≡ true →
@@ -133,10 +111,6 @@ count_made call true win e = by_creation (creation_of call) refl
     by_creation (Some creation) makes = ap (λ b. cond {A = ℕ} b 1 0) (names_it call creation win makes) ∙ one creation
 
 -- ---- arrivals
-
-abbrev is_arrival : Collective → ℕ → ℕ → Act → Bool
-is_arrival collective rank window act =
-    is_by_on rank window act && is_arrive act.row.step && is_collective collective act.row.call
 
 arrivals_joined : (rows more : List Row) (collective : Collective) (rank window : ℕ) →
     arrivals (acts (rows ++ more)) collective rank window ≡
@@ -178,22 +152,6 @@ arrival_new rows row collective rank window passes =
     sums : (a c : ℕ) → c ≡ a + 1 → 1 ≤ c
     sums a c e = omega arith
 
-and_three : (a b c : Bool) → a ≡ true → b ≡ true → c ≡ true → (a && b && c) ≡ true
-and_three true true true e f g = refl
-and_three false b c e f g = e
-and_three true false c e f g = f
-and_three true true false e f g = g
-
--- the number of the window that an entry begins to make
-new_number : (rows : List Row) (row : Row) (creation : Creation) → begins_window row ≡ true →
-    creation_of row.call ≡ Some creation →
-    window_of rows row ≡ window_number (creations rows row.rank creation.win) creation.win
-new_number rows row creation begins makes =
-    ap (λ a. option_map_or (λ win. window_number (round_of rows row win) win) (window_in_action a) 0)
-    (creates_it row.call creation makes)
-    ∙ ap (λ b. window_number
-    (cond b (creations rows row.rank creation.win) (creations rows row.rank creation.win - 1)) creation.win) begins
-
 -- ---- ranks
 
 -- a rank that has arrived at the creation of a window, if its call is one
@@ -232,7 +190,7 @@ numbers_at stage agent rows call h here none win = by agent.entered refl
         creations rows agent.rank win ≡ count_by (is_named win) agent.known.windows.created
     by false new = h.outside new win
     by true entered = (h.inside entered call here).numbers win
-        ∙ ap (λ (names : List ℕ). count_by (is_named win) (agent.known.windows.created ++ names)) (no_name call none)
+        ∙ ap (λ (names : List ℕ). count_by (is_named win) (agent.known.windows.created ++ names)) (none_made call none)
         ∙ ap (count_by (is_named win)) (append-nil agent.known.windows.created)
 
 -- an item that makes no window ends the call
@@ -286,7 +244,7 @@ begun_looking_up stage agent rows call shapes place begins course h =
           ∙ h.outside begins.new win
           ∙ ap (count_by (is_named win)) (sym (append-nil agent.known.windows.created))
           ∙ ap (λ (names : List ℕ). count_by (is_named win) (agent.known.windows.created ++ names))
-          (sym (no_name call none));
+          (sym (none_made call none));
       arrived = λ creation makes. absurd (cc (sym none ∙ makes));
     })
   where

@@ -17,7 +17,8 @@ use Rattle.call_laws.proofs.Standing.{untouched_push, untouched_touches, knows_u
 use Rattle.call_laws.proofs.Standing.{Standing, standing_longer, outside_of, inside_of, accepted, view_after, one_item}
 use Rattle.call_laws.proofs.Standing.{second_item, first_item, past_all}
 use Rattle.call_laws.proofs.Teaching.{nothing_learnt, arrive_accepts, look_up_accepts, look_up_moves}
-use Rattle.call_rules.specs.Actions.{Transfer, transfer_of}
+use Rattle.rma_types.specs.declared.actions.Transfer.{Transfer}
+use Rattle.rma_types.specs.Actions.{transfer_of}
 use Rattle.lawful_runs.specs.CallItems.{other_items, AreItemsBy, AreItemsOfCourse, IsBoardRefusal}
 use Rattle.lawful_runs.specs.Items.{is_touch}
 use Rattle.lawful_runs.specs.Stages.{Stage, calls_at, shapes_in}

@@ -16,9 +16,16 @@ use Rattle.board_rules.specs.Posts.{is_posted}
 use Rattle.board_rules.specs.Questions.{Question}
 use Rattle.board_rules.specs.Rounds.{arrivals_of, rounds_begun, round_arrivals, is_differing_creation}
 use Rattle.board_rules.specs.Rounds.{is_differing_fence}
-use Rattle.call_rules.specs.Actions.{Action, Creates, Frees, Attaches, Detaches, Synchronises, Meets, Moves}
-use Rattle.call_rules.specs.Actions.{EndsRequest, Synchronisation, Fences, Posts, Starts, Completes, Waits, Locks}
-use Rattle.call_rules.specs.Actions.{Unlocks, Flushes, Syncs, Transfer, Target, Own, Null, Named, action_of}
+use Rattle.rma_types.specs.declared.actions.Action.{Action}
+use Rattle.rma_types.specs.declared.actions.Action.TheVariants.{Creates, Frees, Attaches, Detaches, Synchronises, Meets}
+use Rattle.rma_types.specs.declared.actions.Action.TheVariants.{Moves, EndsRequest}
+use Rattle.rma_types.specs.declared.actions.Synchronisation.{Synchronisation}
+use Rattle.rma_types.specs.declared.actions.Synchronisation.TheVariants.{Fences, Posts, Starts, Completes, Waits, Locks}
+use Rattle.rma_types.specs.declared.actions.Synchronisation.TheVariants.{Unlocks, Flushes, Syncs}
+use Rattle.rma_types.specs.declared.actions.Target.{Target}
+use Rattle.rma_types.specs.declared.actions.Transfer.{Transfer}
+use Rattle.rma_types.specs.declared.actions.Target.TheVariants.{Own, Null, Named}
+use Rattle.rma_types.specs.Actions.{action_of}
 use Rattle.call_rules.specs.Pieces.{numbers_from}
 use Rattle.rank_laws.proofs.Moves.{step_by}
 use Rattle.rank_rules.specs.Courses.{OneIssue, LookUpAndIssue, has_entry, is_dynamic, course_of, course_of_action}

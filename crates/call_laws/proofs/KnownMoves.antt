@@ -6,6 +6,7 @@ use Rattle.rma_types.specs.declared.accesses.Step.{Step}
 use Rattle.rma_types.specs.declared.accesses.Step.TheVariants.{Arrive, Leave, One}
 use Rattle.rma_types.specs.declared.calls.Call.{Call}
 use Rattle.rma_types.specs.declared.scripts.Part.{Part}
+use Rattle.rma_types.proofs.ActionLaws.{transfer_makes_none}
 use Rattle.rma_record.specs.declared.items.Item.{Item}
 use Rattle.rma_record.specs.declared.items.Item.TheVariants.{Issue, Entry, Tested, Refused, Ended}
 use Rattle.board_rules.specs.Board.{Allow, decide}
@@ -15,8 +16,8 @@ use Rattle.call_laws.proofs.BegunWindows.{begun_leaving, begun_looking_up, begun
 use Rattle.call_laws.proofs.LeavingCreations.{parts_stay}
 use Rattle.call_laws.proofs.Teaching.{IsPlain, TeachesNothing, plain_alike, plain_unmade, call_alike, learns_call}
 use Rattle.call_laws.proofs.Teaching.{passing_is_plain, issue_is_plain, arrive_is_plain, look_up_is_plain}
-use Rattle.call_laws.proofs.Teaching.{only_is_plain, leave_ends, transfer_makes_none}
-use Rattle.call_rules.specs.Actions.{creation_of}
+use Rattle.call_laws.proofs.Teaching.{only_is_plain, leave_ends}
+use Rattle.rma_types.specs.Actions.{creation_of}
 use Rattle.lawful_runs.specs.Stages.{Stage, calls_at, known_at, shapes_in}
 use Rattle.rank_laws.proofs.Awaiting.{rank_of, known_push, touches_teach_nothing}
 use Rattle.rank_laws.proofs.Inductions.{Keeps}

@@ -1,41 +1,25 @@
 -- A rank leaves the creation of a window when all ranks have arrived there: from then on its parts stay as they are.
-use Rattle.std.proofs.Common.{◌≡◌, ℕ, zero, suc, ◌+◌, ◌<◌, ◌≤◌, inl, inr, Bool, true, false, cond, List, [], ◌∷◌, ◌++◌}
+use Rattle.std.proofs.Common.{◌≡◌, ℕ, ◌<◌, ◌≤◌, Bool, true, false, cond, List, [], ◌∷◌, ◌++◌}
 use Rattle.std.proofs.Common.{length, Option, Some, refl, sym, ◌∙◌, ap, subst, arith, append_assoc}
 use Rattle.std.specs.Prelude.{nat_le}
-use Rattle.std.specs.List.{list_all}
 use Rattle.std.specs.Option.{option_map_or}
 use Rattle.std.proofs.lemmas.Bool.{leb-true}
-use Rattle.std.proofs.lemmas.Bool.Decides.{eqb_tells}
 use Rattle.rma_types.specs.declared.accesses.Step.TheVariants.{Leave}
 use Rattle.rma_types.specs.declared.calls.Call.{Call}
+use Rattle.rma_types.proofs.ActionLaws.{creates_it}
+use Rattle.call_rules.proofs.NumbersFrom.{all_at_number}
 use Rattle.board_rules.specs.Board.{Allow, NotYet, decide}
 use Rattle.board_rules.specs.Entries.{Row, acts, Collective, Creation as CreationRound, collective_in, arrivals}
 use Rattle.board_rules.specs.Questions.{Question, question}
 use Rattle.board_rules.specs.Rounds.{arrivals_of, rounds_begun, all_arrived}
-use Rattle.call_laws.proofs.BegunWindows.{IsOpen, creates_it, leaving_number}
-use Rattle.call_rules.specs.Actions.{Creation, creation_of}
-use Rattle.call_rules.specs.Pieces.{numbers_from}
+use Rattle.call_laws.proofs.BegunWindows.{IsOpen, leaving_number}
+use Rattle.rma_types.specs.declared.actions.Creation.{Creation}
+use Rattle.rma_types.specs.Actions.{creation_of}
 use Rattle.lawful_runs.specs.Stages.{Stage, shapes_in}
-use Rattle.rank_laws.proofs.Histories.{both_left, both_right}
 use Rattle.rank_laws.proofs.Shapes.{HasBegun, shapes_stay, arrived_has_begun}
 use Rattle.rank_rules.specs.Windows.{next_number}
 use Rattle.step_runs.specs.Agents.{Agent}
 use Rattle.step_runs.specs.BoardSteps.{next_row}
-
--- a test that all numbers pass
-all_at_number : (test : ℕ → Bool) (first count n : ℕ) → list_all test (numbers_from first count) ≡ true → first ≤ n →
-    n < first + count → test n ≡ true
-all_at_number test first zero n e low high = absurd (omega arith)
-all_at_number test first (suc count) n e low high = elim (eqb_tells n first) [
-  | inl same ↦ let is : first ≡ n = sym same.1 in
-      subst (λ m. test m ≡ true) is (both_left (test first) (list_all test (numbers_from (first + 1) count)) e)
-  | inr apart ↦ let other = apart.1 in all_at_number test (first + 1) count n
-      (both_right (test first) (list_all test (numbers_from (first + 1) count)) e)
-      (above n first low other) (omega arith)
-]
-  where
-    above : (n first : ℕ) → first ≤ n → (n ≡ first → ⊥) → first + 1 ≤ n
-    above n first low other = omega (arith, other)
 
 allowed_if : (b : Bool) → cond b Allow NotYet ≡ Allow → b ≡ true
 allowed_if true e = refl

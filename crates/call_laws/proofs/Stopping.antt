@@ -3,17 +3,18 @@ use Rattle.std.proofs.Common.{◌≡◌, ℕ, ◌+◌, Bool, true, false, cond, 
 use Rattle.std.proofs.Common.{Some, None, IsTrue, refl, sym, ◌∙◌, ap, arith, length-append}
 use Rattle.std.specs.Prelude.{is_none}
 use Rattle.std.specs.Option.{option_map_or}
+use Rattle.list_laws.proofs.Truths.{both_left, both_right}
 use Rattle.rma_types.specs.declared.accesses.Step.{Step}
 use Rattle.rma_types.specs.declared.accesses.Step.TheVariants.{Arrive, Leave, One}
 use Rattle.rma_types.specs.declared.calls.Call.{Call}
 use Rattle.board_rules.specs.Board.{Decision, Refuse, Allow, NotYet, decide}
 use Rattle.board_rules.specs.Entries.{Row}
-use Rattle.call_rules.specs.Actions.{transfer_of}
+use Rattle.rma_types.specs.Actions.{transfer_of}
 use Rattle.lawful_runs.specs.BoardLaw.{first_row}
 use Rattle.lawful_runs.specs.CallItems.{may_stand}
 use Rattle.lawful_runs.specs.Stages.{Stage}
 use Rattle.rank_laws.proofs.CallKinds.{first_step_is}
-use Rattle.rank_laws.proofs.Histories.{both_left, both_right, is_none_of}
+use Rattle.rank_laws.proofs.Histories.{is_none_of}
 use Rattle.rank_laws.proofs.Moves.{course_at, step_by}
 use Rattle.rank_rules.specs.Courses.{Course, OneNull, OneIssue, LookUpAndIssue, OneFlush, OneRequest, ArriveAndLeave}
 use Rattle.rank_rules.specs.Courses.{EntryOrTested, OneEntry, has_entry}

@@ -9,11 +9,16 @@ use Rattle.rma_types.specs.declared.accesses.Access.{Access}
 use Rattle.rma_types.specs.declared.accesses.Step.TheVariants.{Arrive, Leave, One}
 use Rattle.rma_types.specs.declared.calls.Call.{Call}
 use Rattle.rma_types.specs.declared.scripts.Part.{Part}
+use Rattle.rma_types.proofs.ActionLaws.{transfer_makes_none, none_made}
 use Rattle.rma_record.specs.declared.items.Item.{Item}
 use Rattle.rma_record.specs.declared.items.Item.TheVariants.{Issue, Entry}
-use Rattle.call_rules.specs.Actions.{Action, Creates, Frees, Attaches, Detaches, Synchronises, Meets, Moves}
-use Rattle.call_rules.specs.Actions.{EndsRequest, Creation, Transfer, action_of, creation_in, creation_of, transfer_in}
-use Rattle.call_rules.specs.Actions.{transfer_of}
+use Rattle.rma_types.specs.declared.actions.Action.{Action}
+use Rattle.rma_types.specs.declared.actions.Action.TheVariants.{Creates, Frees, Attaches, Detaches, Synchronises, Meets}
+use Rattle.rma_types.specs.declared.actions.Action.TheVariants.{Moves, EndsRequest}
+use Rattle.rma_types.specs.declared.actions.Creation.{Creation}
+use Rattle.rma_types.specs.declared.actions.Transfer.{Transfer}
+use Rattle.rma_types.specs.Actions.{action_of, creation_in, creation_of, transfer_in, transfer_of}
+use Rattle.rank_rules.proofs.WindowLaws.{created_grows}
 use Rattle.lawful_runs.specs.Stages.{Stage, calls_at}
 use Rattle.rank_laws.proofs.CallKinds.{is_transfers, course_tells_transfer, moves_nothing}
 use Rattle.rank_laws.proofs.Moves.{course_at, Begins, IsPlainItem, Issuing}
@@ -51,10 +56,6 @@ moving_makes_none Meets t e = refl
 moving_makes_none (Moves transfer) t e = refl
 moving_makes_none (EndsRequest req) t e = refl
 
--- nor does one that moves data
-pub transfer_makes_none : (call : Call) (t : Transfer) → transfer_of call ≡ Some t → creation_of call ≡ None
-transfer_makes_none call t moves = moving_makes_none (action_of call) t moves
-
 -- a look-up is of a call that moves data
 pub look_up_moves : (known : RankWindows) (call : Call) → course_of known call ≡ LookUpAndIssue →
     (t : Transfer) × (transfer_of call ≡ Some t)
@@ -64,13 +65,6 @@ look_up_moves known call course = found (transfer_of call)
     found : (o : Option Transfer) → is_some o ≡ true → (t : Transfer) × (o ≡ Some t)
     found None e = absurd (cc e)
     found (Some t) e = (t, refl)
-
--- the window that a call makes
-abbrev pub name_made : Call → List ℕ
-name_made call = option_map_or (λ (creation : Creation). creation.win ∷ []) (creation_of call) []
-
-pub no_name : (call : Call) → creation_of call ≡ None → name_made call ≡ []
-no_name call none = ap (λ (o : Option Creation). option_map_or (λ (creation : Creation). creation.win ∷ []) o []) none
 
 -- ---- what an accepted call teaches
 
@@ -107,10 +101,6 @@ created_by s known (Synchronises win synchronisation) = sym (append-nil known.cr
 created_by s known Meets = sym (append-nil known.created)
 created_by s known (Moves t) = sym (append-nil known.created)
 created_by s known (EndsRequest req) = sym (append-nil known.created)
-
-pub created_grows : (s : ℕ → List Part) (known : RankWindows) (call : Call) →
-    (windows_after s known (action_of call)).created ≡ known.created ++ name_made call
-created_grows s known call = created_by s known (action_of call)
 
 still_none : (s : ℕ → List Part) (known : RankWindows) (action : Action) → creation_in action ≡ None →
     known.windows ≡ [] → (windows_after s known action).windows ≡ []
@@ -160,7 +150,7 @@ plain_created s calls known item (TeachesNothing none) =
 plain_created s calls known item (TeachesCall number call accepted here none) =
     ap (λ (k : Knowledge). k.windows.created) (learns_call s calls known item number call accepted here)
     ∙ created_grows s known.windows call
-    ∙ ap (λ (names : List ℕ). known.windows.created ++ names) (no_name call none)
+    ∙ ap (λ (names : List ℕ). known.windows.created ++ names) (none_made call none)
     ∙ append-nil known.windows.created
 
 pub plain_unmade : (s : ℕ → List Part) (calls : List Call) (known : Knowledge) (item : Item) →

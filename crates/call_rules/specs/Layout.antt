@@ -9,7 +9,8 @@ use Rattle.rma_types.specs.declared.scripts.Script.{Script}
 use Rattle.rma_types.specs.declared.scripts.Layout.{Layout}
 use Rattle.rma_types.specs.declared.scripts.MemoryPart.{MemoryPart}
 use Rattle.rma_types.specs.declared.scripts.CallBase.{CallBase}
-use Rattle.call_rules.specs.Actions.{Creation, creation_of}
+use Rattle.rma_types.specs.declared.actions.Creation.{Creation}
+use Rattle.rma_types.specs.Actions.{creation_of}
 use Rattle.call_rules.specs.Ranks.{natural}
 
 -- up to a multiple of 8

@@ -1,5 +1,4 @@
--- What each call is, the memory that a script asks for, and what a transfer does to an element of it.
-pub mod Actions
+-- The memory that a script asks for, and what a transfer does to an element of it.
 pub mod Elements
 pub mod Layout
 pub mod Numbers

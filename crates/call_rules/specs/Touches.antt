@@ -6,7 +6,7 @@ use Rattle.rma_record.specs.declared.items.Item.TheVariants.{Touch}
 use Rattle.call_rules.specs.declared.cells.Cell.{Cell}
 use Rattle.call_rules.specs.declared.elements.Change.{Change}
 use Rattle.call_rules.specs.declared.elements.Piece.{Piece}
-use Rattle.call_rules.specs.Actions.{Transfer}
+use Rattle.rma_types.specs.declared.actions.Transfer.{Transfer}
 use Rattle.call_rules.specs.Elements.{next}
 use Rattle.call_rules.specs.Transfers.{change_of}
 

@@ -7,7 +7,9 @@ use Rattle.rma_types.specs.declared.ops.Op.TheVariants.{Replace, NoOp, Max, Min,
 use Rattle.rma_types.specs.declared.ops.Op.TheVariants.{Bxor}
 use Rattle.rma_types.specs.Datatypes.{size_of}
 use Rattle.call_rules.specs.declared.elements.Change.{Change}
-use Rattle.call_rules.specs.Actions.{Transfer, Target, Own, Null, Named}
+use Rattle.rma_types.specs.declared.actions.Target.{Target}
+use Rattle.rma_types.specs.declared.actions.Transfer.{Transfer}
+use Rattle.rma_types.specs.declared.actions.Target.TheVariants.{Own, Null, Named}
 use Rattle.call_rules.specs.Ranks.{natural}
 
 abbrev pub is_no_op : Op → Bool

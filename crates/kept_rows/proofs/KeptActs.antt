@@ -7,8 +7,11 @@ use Rattle.std.proofs.lemmas.List.{map-append}
 use Rattle.rma_types.specs.declared.calls.Call.{Call}
 use Rattle.rma_types.specs.declared.calls.Call.TheVariants.{Put, Acc, GetAcc, Store}
 use Rattle.rma_types.specs.declared.scripts.Layout.{Layout}
-use Rattle.call_rules.specs.Actions.{Action, Moves, Transfer, action_of, creation_in, creation_of, synchronisation_in}
-use Rattle.call_rules.specs.Actions.{synchronisation_of, window_in_action, window_of_call}
+use Rattle.rma_types.specs.declared.actions.Action.{Action}
+use Rattle.rma_types.specs.declared.actions.Transfer.{Transfer}
+use Rattle.rma_types.specs.declared.actions.Action.TheVariants.{Moves}
+use Rattle.rma_types.specs.Actions.{action_of, creation_in, creation_of, synchronisation_in, synchronisation_of}
+use Rattle.rma_types.specs.Actions.{window_in_action, window_of_call}
 use Rattle.call_rules.specs.Pieces.{numbers_from}
 use Rattle.rank_rules.specs.Ranges.{Range}
 use Rattle.rank_rules.specs.Windows.{no_part, window_number}
@@ -18,7 +21,8 @@ use Rattle.board_rules.specs.Entries.{collective_of, creations, is_arrive, is_by
 use Rattle.board_rules.specs.Entries.{names_window, round_of, synchronisations, window_of}
 use Rattle.board_rules.specs.Locks.{held_after, held_after_entry, held_locks}
 use Rattle.board_rules.specs.Shapes.{part_brought, part_in, part_made, parts_of}
-use Rattle.kept_rows.specs.KeptCalls.{kept_call, kept_row}
+use Rattle.rma_types.specs.KeptCalls.{kept_call}
+use Rattle.kept_rows.specs.KeptCalls.{kept_row}
 use Rattle.kept_rows.specs.KeptRowLaws.{kept_act, kept_acts, kept_rows}
 
 -- what does not look into a transfer beyond its window sees no difference
@@ -50,11 +54,6 @@ collective_whole collective (Acc req win target disp dtype op values) is = cc
 collective_whole collective (GetAcc req win target disp dtype op values) is = cc
 collective_whole collective (Store win disp dtype values) is = cc
 collective_whole collective call is = refl
-
--- a call that is kept twice
-pub kept_twice : (call : Call) → kept_call (kept_call call) ≡ kept_call call
-kept_twice (Put req win target disp dtype values) = refl
-kept_twice call = refl
 
 -- ---- lists
 

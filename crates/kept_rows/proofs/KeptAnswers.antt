@@ -1,15 +1,20 @@
 -- The board's answer after kept entries is its answer after the entries themselves.
-use Rattle.std.proofs.Common.{◌≡◌, ℕ, ◌==◌, Bool, not, List, [], ◌∷◌, length, take, reverse, refl, ap, ◌∙◌, Option}
+use Rattle.std.proofs.Common.{◌≡◌, ℕ, ◌==◌, not, List, [], ◌∷◌, length, take, reverse, refl, ap, ◌∙◌, Option}
 use Rattle.std.proofs.Common.{Some, None, ℤ}
 use Rattle.std.specs.List.{count_by, filter, flat_map, list_all, list_any}
 use Rattle.std.specs.Option.{option_map_or}
 use Rattle.std.specs.Prelude.{nat_le, nat_lt, slice_get, slice_index_or}
+use Rattle.list_laws.proofs.Tests.{any_alike, all_alike}
 use Rattle.rma_types.specs.declared.accesses.Step.{Step}
 use Rattle.rma_types.specs.declared.accesses.Step.TheVariants.{Arrive, Leave, One}
 use Rattle.rma_types.specs.declared.classes.Class.TheVariants.{Flavor as FlavorClass, Assert as AssertClass}
 use Rattle.rma_types.specs.declared.classes.Class.TheVariants.{Sync as SyncClass, Range as RangeClass}
-use Rattle.call_rules.specs.Actions.{Action, Creates, Synchronises, Moves, Synchronisation, Fences, Posts, Starts}
-use Rattle.call_rules.specs.Actions.{Waits, Locks, Transfer, action_of}
+use Rattle.rma_types.specs.declared.actions.Action.{Action}
+use Rattle.rma_types.specs.declared.actions.Synchronisation.{Synchronisation}
+use Rattle.rma_types.specs.declared.actions.Action.TheVariants.{Creates, Synchronises, Moves}
+use Rattle.rma_types.specs.declared.actions.Synchronisation.TheVariants.{Fences, Posts, Starts, Waits, Locks}
+use Rattle.rma_types.specs.declared.actions.Transfer.{Transfer}
+use Rattle.rma_types.specs.Actions.{action_of}
 use Rattle.call_rules.specs.Pieces.{numbers_from}
 use Rattle.call_rules.specs.Ranks.{members_of, natural}
 use Rattle.call_rules.specs.Transfers.{rank_reached, bytes_of}
@@ -39,14 +44,6 @@ pub question_kept : (ranks : ℕ) (rows : List Row) (row : Row) →
 question_kept ranks rows row = rw (acts_kept rows, window_kept rows row) refl
 
 -- ---- lists of ranks
-
-all_same : (p q : ℕ → Bool) → ((k : ℕ) → p k ≡ q k) → (ks : List ℕ) → list_all p ks ≡ list_all q ks
-all_same p q same [] = refl
-all_same p q same (k ∷ ks) = rw (same k, all_same p q same ks) refl
-
-pub any_same : {X : Type 0} (p q : X → Bool) → ((x : X) → p x ≡ q x) → (xs : List X) → list_any p xs ≡ list_any q xs
-any_same p q same [] = refl
-any_same p q same (x ∷ xs) = rw (same x, any_same p q same xs) refl
 
 flat_same : {X : Type 0} (f g : ℕ → List X) → ((k : ℕ) → f k ≡ g k) → (ks : List ℕ) → flat_map f ks ≡ flat_map g ks
 flat_same f g same [] = refl
@@ -103,7 +100,7 @@ round_kept q = flat_same
     (numbers_from 0 q.ranks)
 
 arrived_all_kept : (q : Question) → all_arrived (after_kept q) ≡ all_arrived q
-arrived_all_kept q = all_same
+arrived_all_kept q = all_alike
     (λ rank. nat_le (rounds_begun (after_kept q)) (length (arrivals_of (after_kept q) rank)))
     (λ rank. nat_le (rounds_begun q) (length (arrivals_of q rank)))
     (λ rank. ap (λ n. nat_le n (length (arrivals_of (after_kept q) rank))) (begun_kept q)
@@ -111,7 +108,7 @@ arrived_all_kept q = all_same
     (numbers_from 0 q.ranks)
 
 meets_kept : (q : Question) (target : Option ℤ) → meets_post (after_kept q) target ≡ meets_post q target
-meets_kept q None = any_same (is_posted (after_kept q)) (is_posted q) (posted_kept q) (numbers_from 0 q.ranks)
+meets_kept q None = any_alike (is_posted (after_kept q)) (is_posted q) (posted_kept q) (numbers_from 0 q.ranks)
 meets_kept q (Some target) = posted_kept q (natural target)
 
 locked_kept : (q : Question) (rank : ℕ) → is_locked (after_kept q) rank ≡ is_locked q rank
@@ -125,7 +122,7 @@ reach_kept q t = ap (λ ranges. not (covers ranges (natural t.disp) (bytes_of t)
     (ranges_kept q.entries (rank_reached q.rank t.target) q.window)
 
 has_posts_kept : (q : Question) (group : List ℕ) → start_has_posts (after_kept q) group ≡ start_has_posts q group
-has_posts_kept q group = all_same
+has_posts_kept q group = all_alike
     (λ member. nat_lt (naming member (starts (after_kept q) q.rank)) (naming q.rank (posts (after_kept q) member)))
     (λ member. nat_lt (naming member (starts q q.rank)) (naming q.rank (posts q member)))
     (λ member. ap (λ groups. nat_lt (naming member groups) (naming q.rank (posts (after_kept q) member)))
@@ -136,7 +133,7 @@ has_completes_kept : (q : Question) → wait_has_completes (after_kept q) ≡ wa
 has_completes_kept q =
     ap (list_all (λ member. naming q.rank (completed_groups (after_kept q) member) == naming member
     (posts (after_kept q) q.rank))) (last_kept q)
-    ∙ all_same
+    ∙ all_alike
     (λ member. naming q.rank (completed_groups (after_kept q) member) == naming member (posts (after_kept q) q.rank))
     (λ member. naming q.rank (completed_groups q member) == naming member (posts q q.rank))
     (λ member. ap (λ groups. naming q.rank groups == naming member (posts (after_kept q) q.rank))

@@ -4,10 +4,12 @@ use Rattle.std.proofs.Common.{None, ℤ}
 use Rattle.std.specs.List.{filter, list_any}
 use Rattle.std.specs.Option.{option_map_or}
 use Rattle.std.specs.Prelude.{nat_lt, slice_index_or}
+use Rattle.list_laws.proofs.Tests.{any_alike}
 use Rattle.rma_types.specs.declared.accesses.Step.{Step}
 use Rattle.rma_types.specs.declared.accesses.Step.TheVariants.{Arrive, Leave, One}
 use Rattle.rma_types.specs.declared.calls.Lock.{Lock}
-use Rattle.call_rules.specs.Actions.{Synchronisation, synchronisation_of}
+use Rattle.rma_types.specs.declared.actions.Synchronisation.{Synchronisation}
+use Rattle.rma_types.specs.Actions.{synchronisation_of}
 use Rattle.call_rules.specs.Ranks.{is_member}
 use Rattle.board_rules.specs.Edges.{Event, are_of_one_round, are_on_one_window, group_completed, is_arrive_to_leave}
 use Rattle.board_rules.specs.Edges.{is_edge, is_edge_by, is_locked_after, is_matched_one, is_started_by}
@@ -19,7 +21,7 @@ use Rattle.board_rules.specs.Posts.{last_posted, naming, posts, starts}
 use Rattle.board_rules.specs.Rounds.{rounds_begun}
 use Rattle.kept_rows.specs.KeptRowLaws.{kept_acts, kept_event}
 use Rattle.kept_rows.proofs.KeptActs.{collective_kept, synchronisation_kept}
-use Rattle.kept_rows.proofs.KeptAnswers.{any_same, arrived_kept, completed_kept, completes_kept, here_kept, last_kept}
+use Rattle.kept_rows.proofs.KeptAnswers.{arrived_kept, completed_kept, completes_kept, here_kept, last_kept}
 use Rattle.kept_rows.proofs.KeptAnswers.{posts_kept, starts_kept}
 
 -- ---- rounds
@@ -122,9 +124,9 @@ parts_of_edge {p} {q} {r} {p'} {q'} {r'} e f g =
 edge_by_from : (a b : Event) (first second : Synchronisation) →
     is_edge_by (kept_event a) b first second ≡ is_edge_by a b first second
 edge_by_from a b first second = parts_of_edge
-    (any_same (λ posted. list_any (is_started_by (kept_event a) posted b) (group_of_start second))
+    (any_alike (λ posted. list_any (is_started_by (kept_event a) posted b) (group_of_start second))
     (λ posted. list_any (is_started_by a posted b) (group_of_start second))
-    (λ posted. any_same (is_started_by (kept_event a) posted b) (is_started_by a posted b) (started_from a b posted)
+    (λ posted. any_alike (is_started_by (kept_event a) posted b) (is_started_by a posted b) (started_from a b posted)
     (group_of_start second)) (group_of_post first))
     (ap (λ waited. is_complete first && is_wait second && waited) (waited_from a b))
     (locked_by_from a b (unlock_of first) (lock_of second))
@@ -132,9 +134,9 @@ edge_by_from a b first second = parts_of_edge
 edge_by_to : (a b : Event) (first second : Synchronisation) →
     is_edge_by a (kept_event b) first second ≡ is_edge_by a b first second
 edge_by_to a b first second = parts_of_edge
-    (any_same (λ posted. list_any (is_started_by a posted (kept_event b)) (group_of_start second))
+    (any_alike (λ posted. list_any (is_started_by a posted (kept_event b)) (group_of_start second))
     (λ posted. list_any (is_started_by a posted b) (group_of_start second))
-    (λ posted. any_same (is_started_by a posted (kept_event b)) (is_started_by a posted b) (started_to a b posted)
+    (λ posted. any_alike (is_started_by a posted (kept_event b)) (is_started_by a posted b) (started_to a b posted)
     (group_of_start second)) (group_of_post first))
     (ap (λ waited. is_complete first && is_wait second && waited) (waited_to a b))
     (locked_by_to a b (unlock_of first) (lock_of second))

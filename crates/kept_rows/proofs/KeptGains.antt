@@ -3,12 +3,13 @@ use Rattle.std.proofs.Common.{◌≡◌, ℕ, ◌+◌, if◌then◌else◌, List
 use Rattle.std.specs.List.{flat_map, zip}
 use Rattle.std.specs.Option.{option_map_or}
 use Rattle.std.proofs.lemmas.List.{map-append, length-map}
+use Rattle.rma_types.proofs.CallLaws.{call_kept_again}
 use Rattle.board_rules.specs.Edges.{Event, events_after, events_of, is_edge}
 use Rattle.board_rules.specs.Entries.{Row, Act, acts, window_of}
 use Rattle.kept_rows.specs.Gifts.{Given, gained_by, gained_of, gift_to, next_event, rows_given}
 use Rattle.kept_rows.specs.KeptCalls.{kept_row}
 use Rattle.kept_rows.specs.KeptRowLaws.{kept_acts, kept_event, kept_given, kept_rows}
-use Rattle.kept_rows.proofs.KeptActs.{acts_kept, kept_twice, window_kept, window_of_kept}
+use Rattle.kept_rows.proofs.KeptActs.{acts_kept, window_kept, window_of_kept}
 use Rattle.kept_rows.proofs.KeptEdges.{edge_from, edge_to}
 
 events_after_kept : (ranks place : ℕ) (before rows : List Row) →
@@ -29,9 +30,9 @@ pub events_kept : (ranks : ℕ) (rows : List Row) →
     events_of ranks (kept_rows rows) ≡ map kept_event (events_of ranks rows)
 events_kept ranks rows = events_after_kept ranks 0 [] rows
 
-acts_twice : (entries : List Act) → kept_acts (kept_acts entries) ≡ kept_acts entries
+pub acts_twice : (entries : List Act) → kept_acts (kept_acts entries) ≡ kept_acts entries
 acts_twice [] = refl
-acts_twice (act ∷ entries) = rw (kept_twice act.row.call, acts_twice entries) refl
+acts_twice (act ∷ entries) = rw (call_kept_again act.row.call, acts_twice entries) refl
 
 next_whole : (ranks : ℕ) (rows : List Row) (row : Row) →
     kept_event (next_event ranks (kept_rows rows) row) ≡ kept_event (next_event ranks rows row)

@@ -8,7 +8,8 @@ use Rattle.board_rules.specs.Edges.{Event, events_of, is_edge}
 use Rattle.board_rules.specs.Entries.{Row, Act, acts, window_of}
 use Rattle.board_rules.specs.Shapes.{parts_of}
 use Rattle.kept_rows.specs.Gifts.{Given, gained_by, next_event}
-use Rattle.kept_rows.specs.KeptCalls.{kept_call, kept_row}
+use Rattle.rma_types.specs.KeptCalls.{kept_call}
+use Rattle.kept_rows.specs.KeptCalls.{kept_row}
 
 abbrev pub kept_rows : List Row → List Row
 kept_rows rows = map kept_row rows

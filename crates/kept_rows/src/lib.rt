@@ -2,12 +2,8 @@
 //! it (MPI 3.1, sections 11.5 and 11.7, in this project's profile).
 #![tactic(auto)]
 
-mod calls;
-
 ghost use Rattle.kept_rows.specs.KeptRowLaws.{DecisionsNeedNoValues, WindowsNeedNoValues, PartsNeedNoValues};
 ghost use Rattle.kept_rows.specs.KeptRowLaws.{EventsAreKept, EdgesNeedNoValues, GainsNeedNoValues};
-
-pub use calls::kept_call;
 
 /// After entries without their values the board answers the next entry, which is asked with its own, as after the
 /// entries themselves: the numbers and the parts of windows, the edges between entries and what a next entry gains are

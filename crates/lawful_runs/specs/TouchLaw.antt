@@ -10,7 +10,7 @@ use Rattle.rma_types.specs.declared.calls.Call.{Call}
 use Rattle.rma_record.specs.declared.items.Item.{Item}
 use Rattle.rma_record.specs.declared.items.Item.TheVariants.{Touch, Entry}
 use Rattle.call_rules.specs.declared.elements.Piece.{Piece}
-use Rattle.call_rules.specs.Actions.{transfer_of}
+use Rattle.rma_types.specs.Actions.{transfer_of}
 use Rattle.lawful_runs.specs.Accesses.{issued_at, issued_from, pieces_of}
 use Rattle.lawful_runs.specs.Items.{is_ended, is_own_refusal, number_in, belongs_to}
 use Rattle.lawful_runs.specs.Stages.{RankOfRun, calls_here, known_at}

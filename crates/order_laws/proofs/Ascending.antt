@@ -4,6 +4,7 @@ use Rattle.std.proofs.Common.{refl, ap, ◌∙◌, arith}
 use Rattle.std.specs.Prelude.{map}
 use Rattle.std.specs.List.{flat_map, AllByRecursion}
 use Rattle.std.specs.Option.{option_map_or}
+use Rattle.list_laws.proofs.Each.{each_append, each_weaker}
 use Rattle.rma_types.specs.declared.accesses.Access.{Access}
 use Rattle.rma_types.specs.declared.calls.Call.{Call}
 use Rattle.rma_record.specs.declared.items.Item.{Item}
@@ -11,11 +12,12 @@ use Rattle.rma_record.specs.declared.items.Item.TheVariants.{Issue, Null, Touch,
 use Rattle.rma_record.specs.declared.items.Item.TheVariants.{Ended}
 use Rattle.rma_types.specs.declared.scripts.Script.{Script}
 use Rattle.rma_record.specs.declared.runs.Run.{Run}
-use Rattle.call_rules.specs.Actions.{Transfer}
+use Rattle.rma_types.specs.declared.actions.Transfer.{Transfer}
 use Rattle.call_rules.specs.Pieces.{numbers_from}
 use Rattle.rank_rules.specs.declared.pending.PendingAccess.{PendingAccess}
 use Rattle.lawful_runs.specs.Accesses.{EachPair, transfer_at, issued_by, issued_from}
 use Rattle.lawful_runs.specs.Logs.{log_of, calls_of}
+use Rattle.lawful_runs.proofs.PairLaws.{pair_joined, pair_turned}
 use Rattle.order_rules.specs.CallSteps.{IssuedAccess, issued_access, accesses_of, accesses_in}
 use Rattle.order_rules.specs.DonePoints.{timeline_of}
 use Rattle.order_rules.specs.Findings.{judged_access}
@@ -24,36 +26,15 @@ use Rattle.order_laws.specs.FindingLaws.{IsSmaller, AccessesAscend}
 
 -- ---- lists
 
-each_joined : {X : Type 0} (P : X → Type 0) (xs ys : List X) → AllByRecursion P xs → AllByRecursion P ys →
-    AllByRecursion P (xs ++ ys)
-each_joined P [] ys first second = second
-each_joined P (x ∷ xs) ys first second = (first.0, each_joined P xs ys first.1 second)
-
-each_turned : {X : Type 0} (P Q : X → Type 0) → ((x : X) → P x → Q x) → (xs : List X) → AllByRecursion P xs →
-    AllByRecursion Q xs
-each_turned P Q turn [] all = tt
-each_turned P Q turn (x ∷ xs) all = (turn x all.0, each_turned P Q turn xs all.1)
-
 each_mapped : {X Y : Type 0} (P : Y → Type 0) (f : X → Y) (xs : List X) → AllByRecursion (λ x. P (f x)) xs →
     AllByRecursion P (map f xs)
 each_mapped P f [] all = tt
 each_mapped P f (x ∷ xs) all = (all.0, each_mapped P f xs all.1)
 
-pair_joined : {X : Type 0} (R : X → X → Type 0) (xs ys : List X) → EachPair R xs → EachPair R ys →
-    AllByRecursion (λ x. AllByRecursion (R x) ys) xs → EachPair R (xs ++ ys)
-pair_joined R [] ys first second both = second
-pair_joined R (x ∷ xs) ys first second both =
-    (each_joined (R x) xs ys first.0 both.0, pair_joined R xs ys first.1 second both.1)
-
 pair_mapped : {X Y : Type 0} (R : Y → Y → Type 0) (f : X → Y) (xs : List X) → EachPair (λ x y. R (f x) (f y)) xs →
     EachPair R (map f xs)
 pair_mapped R f [] all = tt
 pair_mapped R f (x ∷ xs) all = (each_mapped (R (f x)) f xs all.0, pair_mapped R f xs all.1)
-
-pair_turned : {X : Type 0} (R S : X → X → Type 0) → ((x y : X) → R x y → S x y) → (xs : List X) → EachPair R xs →
-    EachPair S xs
-pair_turned R S turn [] all = tt
-pair_turned R S turn (x ∷ xs) all = (each_turned (R x) (S x) (turn x) xs all.0, pair_turned R S turn xs all.1)
 
 -- ---- the accesses of a log
 
@@ -90,7 +71,7 @@ one_more : (index : ℕ) (rest : List PendingAccess) (o : Option PendingAccess) 
     AreFrom index (option_map_or (λ one. one ∷ []) o [] ++ rest)
 unfolding AreFrom
 one_more index rest None all kind = (
-  each_turned (λ (one : PendingAccess). index + 1 ≤ one.index)
+  each_weaker (λ (one : PendingAccess). index + 1 ≤ one.index)
       (λ (one : PendingAccess). index ≤ one.index) (λ one low. omega (arith, low)) rest all.0,
   all.1,
 )
@@ -100,11 +81,11 @@ one_more index rest (Some x) all (inr some) =
     let at : x.index ≡ index = ap (λ (one : PendingAccess). one.index) same ∙ some.2 in (
       (
         omega (arith, at),
-        each_turned (λ (one : PendingAccess). index + 1 ≤ one.index)
+        each_weaker (λ (one : PendingAccess). index + 1 ≤ one.index)
             (λ (one : PendingAccess). index ≤ one.index) (λ one low. omega (arith, low)) rest all.0,
       ),
       (
-        each_turned (λ (one : PendingAccess). index + 1 ≤ one.index) (λ (one : PendingAccess). x.index < one.index)
+        each_weaker (λ (one : PendingAccess). index + 1 ≤ one.index) (λ (one : PendingAccess). x.index < one.index)
             (λ one low. omega (arith, low, at)) rest all.0,
         all.1,
       ),
@@ -136,12 +117,12 @@ module _ (script : Script) (run : Run) where
   above_rank : (first count : ℕ) → AllByRecursion (λ (a : IssuedAccess). first ≤ a.id.rank)
       (flat_map (accesses_of script run) (numbers_from first count))
   above_rank first zero = tt
-  above_rank first (suc count) = each_joined (λ (a : IssuedAccess). first ≤ a.id.rank) (accesses_of script run first)
+  above_rank first (suc count) = each_append (λ (a : IssuedAccess). first ≤ a.id.rank) (accesses_of script run first)
       (flat_map (accesses_of script run) (numbers_from (first + 1) count))
-      (each_turned (λ (a : IssuedAccess). a.id.rank ≡ first) (λ (a : IssuedAccess). first ≤ a.id.rank)
+      (each_weaker (λ (a : IssuedAccess). a.id.rank ≡ first) (λ (a : IssuedAccess). first ≤ a.id.rank)
       (λ a is. omega (arith, is)) (accesses_of script run first)
       (of_rank first (issued_from (calls_of script first) 0 (log_of run first))))
-      (each_turned (λ (a : IssuedAccess). first + 1 ≤ a.id.rank) (λ (a : IssuedAccess). first ≤ a.id.rank)
+      (each_weaker (λ (a : IssuedAccess). first + 1 ≤ a.id.rank) (λ (a : IssuedAccess). first ≤ a.id.rank)
       (λ a low. omega (arith, low)) (flat_map (accesses_of script run) (numbers_from (first + 1) count))
       (above_rank (first + 1) count))
 
@@ -155,9 +136,9 @@ module _ (script : Script) (run : Run) where
       pair_joined (λ (a b : IssuedAccess). IsSmaller a.id b.id) (accesses_of script run first) rest
       (in_one first log (issued_ascend (calls_of script first) 0 (log_of run first)).1)
       (ranks_ascend (first + 1) count)
-      (each_turned (λ (a : IssuedAccess). a.id.rank ≡ first)
+      (each_weaker (λ (a : IssuedAccess). a.id.rank ≡ first)
       (λ (a : IssuedAccess). AllByRecursion (λ (b : IssuedAccess). IsSmaller a.id b.id) rest)
-      (λ a is. each_turned (λ (b : IssuedAccess). first + 1 ≤ b.id.rank) (λ (b : IssuedAccess). IsSmaller a.id b.id)
+      (λ a is. each_weaker (λ (b : IssuedAccess). first + 1 ≤ b.id.rank) (λ (b : IssuedAccess). IsSmaller a.id b.id)
       (λ b low. inl (omega (arith, low, is))) rest (above_rank (first + 1) count))
       (accesses_of script run first) (of_rank first log))
 

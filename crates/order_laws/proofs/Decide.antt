@@ -4,6 +4,7 @@ use Rattle.std.specs.Prelude.{◌&&◌, ◌==◌, nat_lt, nat_le}
 use Rattle.std.specs.List.{list_any}
 use Rattle.std.proofs.lemmas.Bool.{and_parts, and_from, or_cases, or_left, or_right, cases_lt, eqb-true, eq-eqb}
 use Rattle.std.proofs.lemmas.Bool.{ltb-true, lt-ltb, leb-true, le-leb}
+use Rattle.list_laws.proofs.Members.{In, any_in, in_any, in_map, map_in, contains_in, in_contains}
 use Rattle.rma_types.specs.declared.accesses.Id.{Id}
 use Rattle.rma_types.specs.declared.schedules.Delay.{Delay}
 use Rattle.rma_types.specs.declared.scripts.Script.{Script}
@@ -12,7 +13,6 @@ use Rattle.lawful_runs.specs.LawfulRun.{IsLawful}
 use Rattle.order_rules.specs.Before.{NamedEvent, events_in, is_edge_between, StandsBefore, Before, Same, InLog, Across}
 use Rattle.clock_rules.specs.Clocks.{Stamp, count_in, stands_before, precedes, is_counted_by, is_counted, KeepClockLaws}
 use Rattle.order_laws.specs.ClockLaws.{ClocksDecide}
-use Rattle.order_laws.proofs.Members.{In, any_in, in_any, in_map, map_in, contains_in, in_contains}
 use Rattle.order_laws.proofs.Order.{edge_between, edge_from, edge_ascends, log_ascends, log_before, same_event}
 use Rattle.order_laws.proofs.Order.{same_place}
 

@@ -1,6 +1,6 @@
 -- An edge leads to an entry of a greater place: each entry that is allowed came after those that it waits for.
 use Rattle.std.proofs.Common.{◌≡◌, ℕ, zero, suc, ◌+◌, ◌-◌, ◌<◌, ◌≤◌, inl, inr, Bool, true, false, List, [], ◌∷◌, ◌++◌}
-use Rattle.std.proofs.Common.{length, take, Option, Some, None, refl, ap, sym, subst, ◌∙◌, arith, length-append}
+use Rattle.std.proofs.Common.{length, take, Some, None, refl, ap, sym, subst, ◌∙◌, arith, length-append}
 use Rattle.std.specs.Prelude.{◌&&◌, ◌==◌, cond, nat_le, nat_lt, ℤ}
 use Rattle.std.specs.List.{list_any, filter, flat_map, count_by}
 use Rattle.std.specs.Option.{option_map_or}
@@ -9,26 +9,33 @@ use Rattle.std.proofs.lemmas.Grind.{flat_map-append}
 use Rattle.std.proofs.lemmas.List.{length-map}
 use Rattle.std.proofs.lemmas.List.Elements.{filter-append}
 use Rattle.std.proofs.lemmas.List.Sums.{sum_by-append, sum_by-cons}
+use Rattle.list_laws.proofs.Members.{In, here, there, any_in, all_in}
+use Rattle.list_laws.proofs.Options.{some_of}
 use Rattle.rma_types.specs.declared.accesses.Step.{Step}
 use Rattle.rma_types.specs.declared.accesses.Step.TheVariants.{Arrive, Leave, One}
 use Rattle.rma_types.specs.declared.calls.Asserts.{Asserts}
 use Rattle.rma_types.specs.declared.calls.Call.{Call}
-use Rattle.rma_types.specs.declared.classes.Class.{Class}
-use Rattle.call_rules.specs.Actions.{Action, Creates, Frees, Attaches, Detaches, Synchronises, Meets, Moves}
-use Rattle.call_rules.specs.Actions.{EndsRequest, Synchronisation, Fences, Posts, Starts, Completes, Waits, Locks}
-use Rattle.call_rules.specs.Actions.{Unlocks, Flushes, Syncs, action_of, synchronisation_of, synchronisation_in}
+use Rattle.rma_types.specs.declared.actions.Synchronisation.{Synchronisation}
+use Rattle.rma_types.specs.declared.actions.Synchronisation.TheVariants.{Fences, Posts, Starts, Completes, Waits, Locks}
+use Rattle.rma_types.specs.declared.actions.Synchronisation.TheVariants.{Unlocks, Flushes, Syncs}
+use Rattle.rma_types.specs.Actions.{action_of, synchronisation_of}
+use Rattle.rma_types.proofs.ActionLaws.{is_synchronising}
 use Rattle.call_rules.specs.Ranks.{members_of, is_member}
-use Rattle.board_rules.specs.Board.{Allow, decision, decision_by, refusal, may_enter_now, may_synchronise_now}
+use Rattle.call_rules.proofs.NumbersFrom.{in_numbers}
+use Rattle.call_rules.proofs.RankLaws.{member_in}
+use Rattle.board_rules.specs.Board.{Allow, decision, refusal, may_enter_now, may_synchronise_now}
 use Rattle.board_rules.specs.Edges.{Event, is_edge, is_arrive_to_leave, are_of_one_round, is_matched_one, is_edge_by}
 use Rattle.board_rules.specs.Edges.{is_started_by, is_waited_for_by, is_locked_after, group_completed}
-use Rattle.board_rules.specs.Entries.{Act, Collective, Creation, Freeing, Fence, Barrier, collective_of, is_collective}
+use Rattle.board_rules.specs.Entries.{Act, Collective, collective_of, is_collective}
 use Rattle.board_rules.specs.Entries.{is_same_collective, arrivals, is_by_on, is_arrive, synchronisations}
 use Rattle.board_rules.specs.Locks.{lock_of, unlock_of}
 use Rattle.board_rules.specs.Posts.{group_of_post, group_of_start, is_complete, is_wait, naming, posts, starts}
 use Rattle.board_rules.specs.Posts.{completed_groups, last_posted, start_has_posts, wait_has_completes}
 use Rattle.board_rules.specs.Questions.{Question}
 use Rattle.board_rules.specs.Rounds.{arrivals_of, rounds_begun, all_arrived}
-use Rattle.order_laws.proofs.Members.{In, here, there, any_in, all_in, in_numbers, some_of}
+use Rattle.board_rules.proofs.CollectiveLaws.{same_collective}
+use Rattle.board_rules.proofs.DecisionLaws.{allowed_now}
+use Rattle.board_rules.proofs.PostLaws.{may_wait}
 
 -- ---- counts over more entries
 
@@ -119,22 +126,6 @@ completed_grows xs ys rank window named =
 
 -- ---- what an entry that is allowed says
 
-allowed_now : (class : Option Class) (now : Bool) → decision_by class now ≡ Allow → now ≡ true
-allowed_now None true h = refl
-allowed_now None false h = absurd (cc h)
-allowed_now (Some class) now h = absurd (cc h)
-
-is_synchronising : (action : Action) (s : Synchronisation) → synchronisation_in action ≡ Some s → (win : ℕ)
-    × (action ≡ Synchronises win s)
-is_synchronising (Creates creation) s h = absurd (cc h)
-is_synchronising (Frees win) s h = absurd (cc h)
-is_synchronising (Attaches win base bytes) s h = absurd (cc h)
-is_synchronising (Detaches win base) s h = absurd (cc h)
-is_synchronising (Synchronises win other) s h = (win, cc h)
-is_synchronising Meets s h = absurd (cc h)
-is_synchronising (Moves transfer) s h = absurd (cc h)
-is_synchronising (EndsRequest req) s h = absurd (cc h)
-
 may_now : (q : Question) (s : Synchronisation) → decision q One ≡ Allow → synchronisation_of q.call ≡ Some s →
     may_synchronise_now q s ≡ true
 may_now q s h e =
@@ -144,24 +135,6 @@ may_now q s h e =
     subst (λ action. may_enter_now q action ≡ true) found.1 now
 
 -- ---- collective calls
-
-same_collective : (a b : Collective) → is_same_collective a b ≡ true → a ≡ b
-same_collective Creation Creation h = refl
-same_collective Creation Freeing h = absurd (false≢true h)
-same_collective Creation Fence h = absurd (false≢true h)
-same_collective Creation Barrier h = absurd (false≢true h)
-same_collective Freeing Creation h = absurd (false≢true h)
-same_collective Freeing Freeing h = refl
-same_collective Freeing Fence h = absurd (false≢true h)
-same_collective Freeing Barrier h = absurd (false≢true h)
-same_collective Fence Creation h = absurd (false≢true h)
-same_collective Fence Freeing h = absurd (false≢true h)
-same_collective Fence Fence h = refl
-same_collective Fence Barrier h = absurd (false≢true h)
-same_collective Barrier Creation h = absurd (false≢true h)
-same_collective Barrier Freeing h = absurd (false≢true h)
-same_collective Barrier Fence h = absurd (false≢true h)
-same_collective Barrier Barrier h = refl
 
 leaves_after : (a b : Step) → is_arrive_to_leave a b ≡ true → b ≡ Leave
 leaves_after Arrive Arrive h = absurd (false≢true h)
@@ -200,11 +173,6 @@ collective_ascends qa qb more pa pb sa sb entries within allowed h =
 
 -- ---- posts and starts, completes and waits
 
-member_in : (rank : ℕ) (group : List ℕ) → is_member rank group ≡ true → In rank group
-member_in rank group h =
-    let found = any_in (λ other. other == rank) group h in
-    subst (λ n. In n group) (eqb-true _ _ found.2) found.1
-
 start_of : (s : Synchronisation) (group : List ℕ) → In group (group_of_start s) → (ranks : List ℤ) × (asserts : Asserts)
     × (s ≡ Starts ranks asserts) × (group ≡ members_of ranks)
 start_of (Fences asserts) group m = elim m [ ]
@@ -220,17 +188,6 @@ start_of (Locks kind target asserts) group m = elim m [ ]
 start_of (Unlocks target) group m = elim m [ ]
 start_of (Flushes target local) group m = elim m [ ]
 start_of Syncs group m = elim m [ ]
-
-wait_of : (s : Synchronisation) → is_wait s ≡ true → (tests : Bool) × (s ≡ Waits tests)
-wait_of (Fences asserts) h = absurd (false≢true h)
-wait_of (Posts ranks asserts) h = absurd (false≢true h)
-wait_of (Starts ranks asserts) h = absurd (false≢true h)
-wait_of Completes h = absurd (false≢true h)
-wait_of (Waits tests) h = (tests, refl)
-wait_of (Locks kind target asserts) h = absurd (false≢true h)
-wait_of (Unlocks target) h = absurd (false≢true h)
-wait_of (Flushes target local) h = absurd (false≢true h)
-wait_of Syncs h = absurd (false≢true h)
 
 started_ascends : (qa qb : Question) (more : List Act) (pa pb : ℕ) (posted group : List ℕ) →
     qa.entries ≡ qb.entries ++ more → qa.window ≡ qb.window → start_has_posts qb group ≡ true →
@@ -298,7 +255,7 @@ module _ (qa qb : Question) (more : List Act) (pa pb : ℕ) (first second : Sync
   waits_after : (is_complete first && is_wait second && is_waited_for_by first_event second_event) ≡ true → ⊥
   waits_after waited =
       let two = and_parts (is_complete first && is_wait second) (is_waited_for_by first_event second_event) waited in
-      let is = wait_of second (and_parts (is_complete first) (is_wait second) two.0).1 in
+      let is = may_wait second (and_parts (is_complete first) (is_wait second) two.0).1 in
       let has : wait_has_completes qb ≡ true = subst (λ s. may_synchronise_now qb s ≡ true) is.1 may in
       waited_ascends qa qb more pa pb entries window has two.1
 

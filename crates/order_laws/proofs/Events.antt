@@ -6,8 +6,10 @@ use Rattle.std.specs.List.{find, flat_map, count_by, zip, AllByRecursion}
 use Rattle.std.specs.Option.{option_map_or}
 use Rattle.std.proofs.lemmas.Bool.{false≢true, cases_Bool, eqb-true, cond-true, cond-false, lt-ltb}
 use Rattle.std.proofs.lemmas.List.Sums.{sum_by-cons}
+use Rattle.list_laws.proofs.Each.{AllFrom}
+use Rattle.list_laws.proofs.Lists.{some_within}
+use Rattle.list_laws.proofs.Members.{each_in, In, here, there, append_in, in_append_right}
 use Rattle.rma_types.specs.declared.accesses.Step.{Step}
-use Rattle.rma_types.specs.declared.calls.Call.{Call}
 use Rattle.rma_types.specs.declared.schedules.Delay.{Delay}
 use Rattle.rma_types.specs.declared.scripts.Script.{Script}
 use Rattle.rma_record.specs.declared.items.Item.{Item}
@@ -15,46 +17,19 @@ use Rattle.rma_record.specs.declared.items.Item.TheVariants.{Issue, Null, Touch,
 use Rattle.rma_record.specs.declared.items.Item.TheVariants.{Ended}
 use Rattle.rma_record.specs.declared.runs.Run.{Run}
 use Rattle.call_rules.specs.Pieces.{numbers_from}
-use Rattle.board_rules.specs.Board.{Allow, decide}
 use Rattle.board_rules.specs.Edges.{events_after}
 use Rattle.board_rules.specs.Entries.{Row}
-use Rattle.board_rules.specs.Questions.{question}
 use Rattle.lawful_runs.specs.Accesses.{EachPair}
 use Rattle.lawful_runs.specs.BoardLaw.{AreAllowed, HasEntries, HasLawfulBoard, NamesItsCall, NamesCallOf, EntryAt}
 use Rattle.lawful_runs.specs.BoardLaw.{IsBefore, moment_by, moments_in}
 use Rattle.lawful_runs.specs.LawfulRun.{IsLawful}
 use Rattle.lawful_runs.specs.Logs.{Named, log_of, calls_of, named_from, named_in, named_logs, named_items, is_entry_at}
-use Rattle.lawful_runs.specs.Logs.{is_named_entry_at, is_some_entry, entry_at, entries_of, row_by, row_of, rows_of}
-use Rattle.order_rules.specs.Before.{NamedEvent, named_event, events_in}
-use Rattle.order_laws.proofs.Members.{In, here, there, append_in, in_append_right}
+use Rattle.lawful_runs.specs.Logs.{is_named_entry_at, is_some_entry, entry_at, entries_of, row_of, rows_of}
+use Rattle.lawful_runs.proofs.LogLaws.{row_is, IsEntryOf}
+use Rattle.order_rules.specs.Before.{named_event, events_in}
+use Rattle.order_rules.proofs.EventLaws.{IsEventAt}
 
 -- ---- lists
-
--- what holds of each element and its place, where the first has this place
-unfoldable pub AllFrom : {X : Type 0} → (ℕ → X → Type 0) → ℕ → List X → Type 0
-AllFrom P at [] = Unit {0}
-AllFrom P at (x ∷ xs) = P at x × AllFrom P (at + 1) xs
-
--- an element has a place
-pub from_in : {X : Type 0} (P : ℕ → X → Type 0) (at : ℕ) (xs : List X) {x : X} → AllFrom P at xs → In x xs → (k : ℕ)
-    × P (at + k) x × (slice_get xs k ≡ Some x)
-unfolding AllFrom
-from_in P at [] all m = elim m [ ]
-from_in P at (x ∷ xs) all here = let same : at ≡ at + 0 = omega arith in (0, subst (λ n. P n x) same all.0, refl)
-from_in P at (y ∷ xs) {x} all (there m) =
-    let rest = from_in P (at + 1) xs all.1 m in
-    let same : at + 1 + rest.0 ≡ at + suc rest.0 = omega arith in
-    (suc rest.0, subst (λ n. P n x) same rest.1, rest.2)
-
-pub each_in : {X : Type 0} (P : X → Type 0) (xs : List X) {x : X} → AllByRecursion P xs → In x xs → P x
-each_in P [] all m = elim m [ ]
-each_in P (x ∷ xs) all here = all.0
-each_in P (y ∷ xs) all (there m) = each_in P xs all.1 m
-
-pub get_below : {X : Type 0} (xs : List X) (k : ℕ) → k < length xs → (x : X) × (slice_get xs k ≡ Some x)
-get_below [] k below = absurd (omega arith)
-get_below (x ∷ xs) zero below = (x, refl)
-get_below (x ∷ xs) (suc k) below = get_below xs k (omega (arith, below))
 
 pub get_in : {X : Type 0} (xs : List X) (k : ℕ) (x : X) → slice_get xs k ≡ Some x → In x xs
 get_in [] k x e = absurd (cc e)
@@ -109,16 +84,6 @@ named_item_in run {x} m =
 
 -- ---- entries
 
--- the item is the entry at the place, of a call of its rank
-pub record IsEntryOf (script : Script) (run : Run) (place : ℕ) (x : Named) : Type 0 where
-  pub number : ℕ
-  pub step : Step
-  pub call : Call
-  pub is : x.item ≡ Entry number place step
-  pub of_rank : slice_get (calls_of script x.id.rank) number ≡ Some call
-  pub within : x.id.rank < script.ranks
-  pub logged : slice_get (log_of run x.id.rank) x.id.index ≡ Some x.item
-
 entry_is : (place : ℕ) (item : Item) → is_entry_at place item ≡ true → (number : ℕ) × (step : Step)
     × (item ≡ Entry number place step)
 entry_is place (Issue number access) h = absurd (false≢true h)
@@ -139,7 +104,7 @@ entry_of script run ranks calls place x m h =
     let stands = named_item_in run m in
     let named : NamesCallOf script x.id.rank x.item = each_in (NamesItsCall script) (named_items run) calls m in
     let below : item.0 < length (calls_of script x.id.rank) = subst (NamesCallOf script x.id.rank) item.2 named in
-    let call = get_below (calls_of script x.id.rank) item.0 below in
+    let call = some_within (calls_of script x.id.rank) item.0 below in
     record {
       number = item.0;
       step = item.1;
@@ -178,27 +143,6 @@ entries_placed script run ranks has =
     omega (arith, one))
 
 -- ---- events
-
--- the event at a place of the board
-pub record IsEventAt (script : Script) (run : Run) (rows : List Row) (place : ℕ) (x : NamedEvent) : Type 0 where
-  pub number : ℕ
-  pub logged : slice_get (log_of run x.id.rank) x.id.index ≡ Some (Entry number place x.event.step)
-  pub within : x.id.rank < script.ranks
-  pub before : List Row
-  pub row : Row
-  pub rest : List Row
-  pub rank : row.rank ≡ x.id.rank
-  pub split : rows ≡ before ++ row ∷ rest
-  pub long : length before ≡ place
-  pub event : x.event ≡ record { place = place; step = row.step; asked = question script.ranks before row }
-  pub allowed : decide script.ranks before row ≡ Allow
-
-row_is : (script : Script) (run : Run) (place : ℕ) (x : Named) (e : IsEntryOf script run place x) →
-    row_of script x ≡ record { rank = x.id.rank; number = e.number; call = e.call; step = e.step } ∷ []
-row_is script run place x e =
-    ap (row_by script x.id.rank) e.is
-    ∙ ap (λ o. option_map_or (λ call. record { rank = x.id.rank; number = e.number; call = call; step = e.step } ∷ []) o
-    []) e.of_rank
 
 -- one more event
 one_zipped : (script : Script) (run : Run) (rows before : List Row) (place : ℕ) (x : Named) (es : List Named)

@@ -4,7 +4,6 @@ pub mod Decide
 pub mod Delays
 pub mod Edges
 pub mod Events
-pub mod Members
 pub mod OneList
 pub mod Order
 pub mod Pairs

@@ -1,6 +1,6 @@
 -- A lawful run has one list of findings.
-use Rattle.std.proofs.Common.{◌≡◌, Bool, true, false, refl, ap, ◌∙◌}
-use Rattle.std.proofs.lemmas.Bool.{false≢true}
+use Rattle.std.proofs.Common.{◌≡◌, Bool, refl, ap, ◌∙◌}
+use Rattle.list_laws.proofs.Truths.{same_truth}
 use Rattle.rma_types.specs.declared.accesses.Id.{Id}
 use Rattle.rma_types.specs.declared.scripts.Script.{Script}
 use Rattle.rma_record.specs.declared.runs.Run.{Run}
@@ -10,12 +10,6 @@ use Rattle.clock_rules.specs.Clocks.{stamps_in, is_counted}
 use Rattle.order_laws.specs.FindingLaws.{FindingsAreOneList}
 use Rattle.order_laws.proofs.Decide.{clocks_decide}
 use Rattle.order_laws.proofs.Stamps.{keep_laws}
-
-same_truth : (x y : Bool) → (x ≡ true → y ≡ true) → (y ≡ true → x ≡ true) → x ≡ y
-same_truth true true there back = refl
-same_truth true false there back = absurd (false≢true (there refl))
-same_truth false true there back = absurd (false≢true (back refl))
-same_truth false false there back = refl
 
 -- two tests that decide one order are one
 same_order : (script : Script) (run : Run) (one other : Id → Id → Bool) → IsOrder script run one →

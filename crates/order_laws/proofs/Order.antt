@@ -4,6 +4,8 @@ use Rattle.std.proofs.Common.{subst, ◌∙◌, arith}
 use Rattle.std.specs.Prelude.{◌==◌, slice_get}
 use Rattle.std.specs.List.{list_any}
 use Rattle.std.proofs.lemmas.Bool.{and_parts, and_from, cases_lt, eqb-true, eq-eqb}
+use Rattle.list_laws.proofs.Each.{AllFrom}
+use Rattle.list_laws.proofs.Members.{from_in, In, any_in, in_any, in_filter, filter_in, contains_in}
 use Rattle.rma_types.specs.declared.accesses.Id.{Id}
 use Rattle.rma_types.specs.declared.schedules.Delay.{Delay}
 use Rattle.rma_types.specs.declared.scripts.Script.{Script}
@@ -17,10 +19,10 @@ use Rattle.lawful_runs.specs.LawfulRun.{IsLawful}
 use Rattle.lawful_runs.specs.Logs.{log_of, rows_of}
 use Rattle.order_rules.specs.Before.{NamedEvent, events_in, is_same_id, events_named, is_edge_between, leads_to, Before}
 use Rattle.order_rules.specs.Before.{Same, InLog, Across}
+use Rattle.order_rules.proofs.EventLaws.{IsEventAt}
 use Rattle.order_laws.specs.OrderLaws.{IsTransitive, AgreesWithLogs, EdgesAscend}
 use Rattle.order_laws.proofs.Edges.{no_edge_back}
-use Rattle.order_laws.proofs.Events.{AllFrom, from_in, IsEventAt, events_on_board, places_ascend}
-use Rattle.order_laws.proofs.Members.{In, any_in, in_any, in_filter, filter_in, contains_in}
+use Rattle.order_laws.proofs.Events.{events_on_board, places_ascend}
 
 -- ---- transitive
 

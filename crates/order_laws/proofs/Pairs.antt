@@ -6,6 +6,8 @@ use Rattle.std.specs.List.{AllByRecursion}
 use Rattle.std.specs.Option.{option_map_or}
 use Rattle.std.proofs.lemmas.Bool.{false≢true}
 use Rattle.std.proofs.lemmas.List.{append-nil}
+use Rattle.list_laws.proofs.Members.{In, here, there, append_in, in_append_left, in_append_right, contains_in}
+use Rattle.list_laws.proofs.Members.{in_contains}
 use Rattle.rma_types.specs.declared.accesses.Id.{Id}
 use Rattle.rma_types.specs.declared.findings.Finding.{Finding}
 use Rattle.rma_types.specs.declared.findings.Model.{Model}
@@ -16,8 +18,6 @@ use Rattle.order_rules.specs.Ordered.{JudgedAccess, role_in}
 use Rattle.order_rules.specs.Roles.{Role, RmaUpdate, RmaRead, Store, Load}
 use Rattle.order_rules.specs.Rules.{Pair, rule_for, forbidden_kind}
 use Rattle.order_laws.specs.FindingLaws.{is_update, ReadsAreNoPair, IsFirstPair, PartnersAreLeast, EachPairIsFound}
-use Rattle.order_laws.proofs.Members.{In, here, there, append_in, in_append_left, in_append_right, contains_in}
-use Rattle.order_laws.proofs.Members.{in_contains}
 
 true≢false : true ≡ false → ⊥
 true≢false h = false≢true (sym h)

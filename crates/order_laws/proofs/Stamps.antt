@@ -4,20 +4,22 @@ use Rattle.std.proofs.Common.{length, refl, ap, sym, subst, ◌∙◌, arith, ap
 use Rattle.std.specs.Prelude.{max, map, replicate, slice_index, if◌then◌else◌}
 use Rattle.std.proofs.lemmas.Bool.{cases_eq, cases_lt}
 use Rattle.std.proofs.lemmas.List.{append-nil, map-append, get_or-set_same, get_or-set_other, length-replicate}
+use Rattle.list_laws.proofs.Each.{AllFrom}
+use Rattle.list_laws.proofs.Lists.{zeros}
+use Rattle.list_laws.proofs.Members.{In, here, there, append_in, in_append_left, in_map, contains_in, in_contains}
 use Rattle.rma_types.specs.declared.accesses.Id.{Id}
 use Rattle.rma_types.specs.declared.schedules.Delay.{Delay}
 use Rattle.rma_types.specs.declared.scripts.Script.{Script}
 use Rattle.rma_record.specs.declared.runs.Run.{Run}
-use Rattle.board_rules.specs.Edges.{Event}
 use Rattle.lawful_runs.specs.LawfulRun.{IsLawful}
 use Rattle.lawful_runs.specs.Logs.{rows_of}
 use Rattle.order_rules.specs.Before.{NamedEvent, events_in}
+use Rattle.order_rules.proofs.EventLaws.{later_place, IsEventAt}
 use Rattle.clock_rules.specs.Clocks.{Stamp, count_in, precedes, join_counts, own_counts, joined_with, stamp_after}
 use Rattle.clock_rules.specs.Clocks.{stamps_after, stamps_in, IsCountedFrom}
 use Rattle.order_laws.specs.ClockLaws.{StampsKeepLaws}
 use Rattle.order_laws.proofs.Decide.{precedes_ascends}
-use Rattle.order_laws.proofs.Events.{AllFrom, from_in, IsEventAt, events_placed}
-use Rattle.order_laws.proofs.Members.{In, here, there, append_in, in_append_left, in_map, contains_in, in_contains}
+use Rattle.order_laws.proofs.Events.{events_placed}
 use Rattle.order_laws.proofs.Order.{event_at}
 
 -- ---- joins
@@ -82,11 +84,6 @@ own_at ranks id within =
     let long : length (replicate {A = ℕ} ranks 0) ≡ ranks = length-replicate {A = ℕ} ranks 0 in
     get_or-set_same (replicate {A = ℕ} ranks 0) id.rank (id.index + 1) 0 (omega (arith, long, within))
 
-none_at : (ranks rank : ℕ) → slice_index (replicate ranks 0) rank ≡ 0
-none_at zero rank = refl
-none_at (suc ranks) zero = refl
-none_at (suc ranks) (suc rank) = none_at ranks rank
-
 own_from : (ranks : ℕ) (id : Id) (rank n : ℕ) → id.rank < ranks → n < slice_index (own_counts ranks id) rank →
     (rank ≡ id.rank) × (n ≤ id.index)
 own_from ranks id rank n within below = elim (cases_eq rank id.rank) [
@@ -96,7 +93,7 @@ own_from ranks id rank n within below = elim (cases_eq rank id.rank) [
       (same, omega arith)
   | inr other ↦
       let at : slice_index (own_counts ranks id) rank ≡ 0 = get_or-set_other (replicate ranks 0) id.rank rank
-      (id.index + 1) 0 other ∙ none_at ranks rank in
+      (id.index + 1) 0 other ∙ zeros ranks rank in
       absurd (omega arith)
 ]
 
@@ -154,17 +151,6 @@ each_stamped ranks stamps (entry ∷ entries) t m =
     ]
 
 -- ---- places
-
-later_place : (script : Script) (run : Run) (at : ℕ) (xs : List NamedEvent) (y : NamedEvent) (ys : List NamedEvent)
-    (z : NamedEvent) →
-    AllFrom (IsEventAt script run (rows_of script run)) at (xs ++ y ∷ ys) → In z ys → y.event.place < z.event.place
-unfolding AllFrom
-later_place script run at [] y ys z all m =
-    let one = from_in (IsEventAt script run (rows_of script run)) (at + 1) ys all.1 m in
-    let first : y.event.place ≡ at = ap (λ (e : Event). e.place) all.0.event in
-    let second : z.event.place ≡ at + 1 + one.0 = ap (λ (e : Event). e.place) one.1.event in
-    omega arith
-later_place script run at (x ∷ xs) y ys z all m = later_place script run (at + 1) xs y ys z all.1 m
 
 module _ (script : Script) (delay : Delay) (run : Run) (lawful : IsLawful script delay run) where
   stamps : List Stamp

@@ -10,7 +10,7 @@ use Rattle.rma_types.specs.declared.dtypes.Dtype.{Dtype}
 use Rattle.rma_types.specs.declared.scripts.Script.{Script}
 use Rattle.rma_record.specs.declared.runs.Run.{Run}
 use Rattle.call_rules.specs.declared.elements.Piece.{Piece}
-use Rattle.call_rules.specs.Actions.{Transfer}
+use Rattle.rma_types.specs.declared.actions.Transfer.{Transfer}
 use Rattle.call_rules.specs.Elements.{element_in}
 use Rattle.call_rules.specs.Layout.{layout}
 use Rattle.lawful_runs.specs.Accesses.{Touching, touches_of, all_touches, on_cell, updates_in, transfer_at, pieces_of}

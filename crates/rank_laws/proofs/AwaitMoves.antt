@@ -6,6 +6,8 @@ use Rattle.std.specs.List.{AllByRecursion, list_any, position}
 use Rattle.std.specs.Option.{option_map_or}
 use Rattle.std.proofs.lemmas.Bool.Decides.{eqb_tells}
 use Rattle.std.proofs.lemmas.List.Folds.{list_any-append}
+use Rattle.list_laws.proofs.Members.{Among}
+use Rattle.list_laws.proofs.Truths.{both_right, both_left}
 use Rattle.rma_types.specs.declared.accesses.Step.{Step}
 use Rattle.rma_types.specs.declared.accesses.Step.TheVariants.{Arrive, Leave, One}
 use Rattle.rma_types.specs.declared.calls.Call.{Call}
@@ -20,7 +22,7 @@ use Rattle.lawful_runs.specs.TouchLaw.{IsTouchedWhole, is_awaiting, begins_await
 use Rattle.rank_laws.proofs.Awaiting.{rank_of, KnowsRequests, requests_push, touches_teach_nothing, AreAwaited}
 use Rattle.rank_laws.proofs.Awaiting.{awaited_push, awaited_touches}
 use Rattle.rank_laws.proofs.Inductions.{Keeps}
-use Rattle.rank_laws.proofs.Lists.{none_passes, Among, among_each}
+use Rattle.rank_laws.proofs.Lists.{none_passes, among_each}
 use Rattle.rank_laws.proofs.Moves.{course_at, Begins, Entering, OnlyEntry, LookUp, Arriving, Leaving, IsPlainItem}
 use Rattle.rank_laws.proofs.Moves.{Issuing, Learns, Rises, Ends, RefusesAlone, IsRefused, Tests, Passes, Enters, Issues}
 use Rattle.rank_laws.proofs.Moves.{IssuesWhole, Draws, Delivers}
@@ -60,14 +62,6 @@ whole_or_pending stage agent one rows keeps e none = by (keeps.has.each one.inde
     by (inl whole) = whole
     by (inr waits) = absurd (none waits.1)
 
-and_right : (a b : Bool) → (a && b) ≡ true → b ≡ true
-and_right true b e = e
-and_right false b e = absurd (cc e)
-
-and_left : (a b : Bool) → (a && b) ≡ true → a ≡ true
-and_left true b e = refl
-and_left false b e = absurd (cc e)
-
 -- what an item of a call that begins now waits for is touched
 begins_awaited : (stage : Stage) (agent : Agent) (call : Call) (item : Item) → Begins stage agent call →
     KeepsAwaited stage agent → is_ended item ≡ false → number_in item ≡ Some agent.at →
@@ -89,7 +83,7 @@ begins_awaited stage agent call item begins h ended number rows one e waits =
     at_call : must_wait (known_at here agent.log).requests call one ≡ true
     at_call = ap (λ (o : Option Call). option_map_or (λ c. must_wait
         (known_at here agent.log).requests c one) o false) (sym begins.here)
-        ∙ and_right (not (is_own_refusal item) && not (list_any (belongs_to agent.at) agent.log))
+        ∙ both_right (not (is_own_refusal item) && not (list_any (belongs_to agent.at) agent.log))
         (option_map_or (λ c. must_wait (known_at here agent.log).requests c one)
         (slice_get (calls_here here) agent.at) false) awaits
 
@@ -112,8 +106,8 @@ second_awaits_nothing here log one at item there ended number waits =
     let awaits : begins_awaiting here log item one at ≡ true =
     ap (λ (o : Option ℕ). option_map_or (begins_awaiting here log item one) o false) (sym number)
     ∙ ap (λ b. b || option_map_or (begins_awaiting here log item one) (number_in item) false) (sym ended) ∙ waits in
-    let none = and_right (not (is_own_refusal item)) (not (list_any (belongs_to at) log))
-    (and_left (not (is_own_refusal item) && not (list_any (belongs_to at) log))
+    let none = both_right (not (is_own_refusal item)) (not (list_any (belongs_to at) log))
+    (both_left (not (is_own_refusal item) && not (list_any (belongs_to at) log))
     (option_map_or (λ c. must_wait (known_at here log).requests c one)
     (slice_get (calls_here here) at) false) awaits) in
     cc (sym none ∙ ap not there)

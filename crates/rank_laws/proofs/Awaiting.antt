@@ -14,7 +14,7 @@ use Rattle.rma_record.specs.declared.items.Item.{Item}
 use Rattle.rma_record.specs.declared.items.Item.TheVariants.{Issue, Null, Touch, Flush, Request, Entry, Tested, Refused}
 use Rattle.rma_record.specs.declared.items.Item.TheVariants.{Ended}
 use Rattle.board_rules.specs.Entries.{Row}
-use Rattle.call_rules.specs.Actions.{action_of}
+use Rattle.rma_types.specs.Actions.{action_of}
 use Rattle.lawful_runs.specs.Accesses.{issued_at}
 use Rattle.lawful_runs.specs.Stages.{Stage, RankOfRun, calls_at, calls_here, first_knowledge, known_at, shapes_in}
 use Rattle.lawful_runs.specs.TouchLaw.{IsTouchedWhole, issued_in, is_awaiting, waits_at, IsAwaitedWhole}

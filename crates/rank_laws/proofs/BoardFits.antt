@@ -9,6 +9,7 @@ use Rattle.std.proofs.lemmas.Grind.{flat_map-append}
 use Rattle.std.proofs.lemmas.List.{take-append-le}
 use Rattle.std.proofs.lemmas.List.Elements.{filter-append}
 use Rattle.std.proofs.lemmas.Option.{slice_get_past}
+use Rattle.list_laws.proofs.Each.{each_weaker, each_with, each_append}
 use Rattle.rma_types.specs.declared.calls.Call.{Call}
 use Rattle.rma_record.specs.declared.items.Item.{Item}
 use Rattle.rma_record.specs.declared.items.Item.TheVariants.{Issue, Null, Touch, Flush, Request, Entry, Tested, Refused}
@@ -20,7 +21,7 @@ use Rattle.lawful_runs.specs.BoardLaw.{IsLook, Moment, EntryAt, LookAfter, momen
 use Rattle.lawful_runs.specs.BoardLaw.{first_row}
 use Rattle.lawful_runs.specs.Items.{is_entry}
 use Rattle.lawful_runs.specs.Logs.{is_entry_at}
-use Rattle.rank_laws.proofs.Lists.{each_turned, each_with, each_append, pair_push, place_in, get_front, get_rest}
+use Rattle.rank_laws.proofs.Lists.{pair_push, place_in, get_front, get_rest}
 
 -- ---- entries
 
@@ -163,10 +164,10 @@ other_fits ranks calls rank rows row log other fits = record {
   named = fits.named;
   looks = each_with (IsLook ranks rows rank calls) (IsSeen (length rows)) (IsLook ranks (rows ++ row ∷ []) rank calls)
       (look_grows ranks calls rows (row ∷ []) rank) log fits.looks fits.seen;
-  seen = each_turned (IsSeen (length rows)) (IsSeen (length (rows ++ row ∷ [])))
+  seen = each_weaker (IsSeen (length rows)) (IsSeen (length (rows ++ row ∷ [])))
       (seen_grows (length rows) (length (rows ++ row ∷ [])) (longer rows row)) log fits.seen;
   moments = fits.moments;
-  within = each_turned (IsWithin (length rows)) (IsWithin (length (rows ++ row ∷ [])))
+  within = each_weaker (IsWithin (length rows)) (IsWithin (length (rows ++ row ∷ [])))
       (within_grows (length rows) (length (rows ++ row ∷ [])) (longer rows row)) (moments_in log) fits.within;
 }
   where
@@ -215,15 +216,15 @@ own_fits ranks calls rank rows row log mine answer call inside fits = record {
       (each_with (IsLook ranks rows rank calls) (IsSeen (length rows)) (IsLook ranks (rows ++ row ∷ []) rank calls)
       (look_grows ranks calls rows (row ∷ []) rank) log fits.looks fits.seen) (tt, tt);
   seen = each_append (IsSeen (length (rows ++ row ∷ []))) log (item ∷ [])
-      (each_turned (IsSeen (length rows)) (IsSeen (length (rows ++ row ∷ [])))
+      (each_weaker (IsSeen (length rows)) (IsSeen (length (rows ++ row ∷ [])))
       (seen_grows (length rows) (length (rows ++ row ∷ [])) (longer rows row)) log fits.seen) (tt, tt);
   moments = subst (EachPair IsBefore) (sym (moments_push log item))
       (pair_push IsBefore (moments_in log) (EntryAt (length rows)) fits.moments
-      (each_turned (IsWithin (length rows)) (λ m. IsBefore m (EntryAt (length rows))) entry_after
+      (each_weaker (IsWithin (length rows)) (λ m. IsBefore m (EntryAt (length rows))) entry_after
       (moments_in log) fits.within));
   within = subst (AllByRecursion (IsWithin (length (rows ++ row ∷ [])))) (sym (moments_push log item))
       (each_append (IsWithin (length (rows ++ row ∷ []))) (moments_in log) (EntryAt (length rows) ∷ [])
-      (each_turned (IsWithin (length rows)) (IsWithin (length (rows ++ row ∷ [])))
+      (each_weaker (IsWithin (length rows)) (IsWithin (length (rows ++ row ∷ [])))
       (within_grows (length rows) (length (rows ++ row ∷ [])) (longer rows row)) (moments_in log) fits.within)
       (omega (arith, length-append rows (row ∷ [])), tt));
 }
@@ -358,7 +359,7 @@ item_fits ranks calls rank rows log item adds fits = record {
         (subst (EachPair IsBefore) (sym (append-nil (moments_in log))) fits.moments)
     pairs (inr one) = subst (λ m. EachPair IsBefore (moments_in log ++ (m ++ []))) (sym one)
         (pair_push IsBefore (moments_in log) (LookAfter (length rows)) fits.moments
-        (each_turned (IsWithin (length rows)) (λ m. IsBefore m (LookAfter (length rows))) look_after
+        (each_weaker (IsWithin (length rows)) (λ m. IsBefore m (LookAfter (length rows))) look_after
         (moments_in log) fits.within))
 
     inside : ((moment_by item ≡ []) ⊎ (moment_by item ≡ LookAfter (length rows) ∷ [])) →

@@ -1,12 +1,13 @@
 -- The board of an assembled run is lawful.
 use Rattle.std.proofs.Common.{◌≡◌, ℕ, zero, suc, ◌<◌, Bool, true, false, cond, List, [], ◌∷◌, length, Option, Some}
 use Rattle.std.proofs.Common.{None, refl, sym, ◌∙◌, ap, subst, arith}
-use Rattle.std.specs.Prelude.{slice_get, slice_index_or, nat_lt}
+use Rattle.std.specs.Prelude.{slice_get, nat_lt}
 use Rattle.std.specs.List.{AllByRecursion, count_by, flat_map}
 use Rattle.std.proofs.lemmas.Bool.{ltb-true, ltb-false}
 use Rattle.std.proofs.lemmas.List.{length-map}
 use Rattle.std.proofs.lemmas.List.Sums.{length-filter}
 use Rattle.std.proofs.lemmas.Option.{slice_get_within}
+use Rattle.list_laws.proofs.Lists.{get_or_there}
 use Rattle.rma_types.specs.declared.schedules.Delay.{Delay}
 use Rattle.rma_types.specs.declared.scripts.Script.{Script}
 use Rattle.rma_record.specs.declared.items.Item.{Item}
@@ -48,11 +49,6 @@ pub logs_of_ranks : (script : Script) (delay : Delay) (seed : ℕ) (run : Run) �
     length run.logs ≡ script.ranks
 logs_of_ranks script delay seed run is = ap length is.logs ∙ length-map is.agents (λ (agent : Agent). agent.log)
     ∙ is.ranks
-
-get_or_there : {X : Type 0} (xs : List X) (at : ℕ) (x d : X) → slice_get xs at ≡ Some x → slice_index_or xs at d ≡ x
-get_or_there [] at x d e = absurd (cc e)
-get_or_there (y ∷ ys) zero x d e = cc e
-get_or_there (y ∷ ys) (suc at) x d e = get_or_there ys at x d e
 
 -- a log among those of the run is a rank's
 fits_at : (script : Script) (delay : Delay) (seed : ℕ) (run : Run) (is : IsAssembled script delay seed run) (at : ℕ)

@@ -4,6 +4,7 @@ use Rattle.std.proofs.Common.{Option, Some, None, refl, sym, ◌∙◌, ap, subs
 use Rattle.std.specs.Prelude.{slice_get}
 use Rattle.std.proofs.Math.Seq.{take-length}
 use Rattle.std.proofs.lemmas.Option.{slice_get_within}
+use Rattle.list_laws.proofs.Each.{each_weaker}
 use Rattle.rma_types.specs.declared.accesses.Step.{Step}
 use Rattle.rma_types.specs.declared.calls.Call.{Call}
 use Rattle.rma_types.specs.declared.classes.Class.{Class}
@@ -19,7 +20,6 @@ use Rattle.rank_laws.proofs.BoardFits.{FitsBoard, AddsLook, IsQuiet, others_fit,
 use Rattle.rank_laws.proofs.BoardFits.{quiet_items_fit}
 use Rattle.rank_laws.proofs.CallKinds.{first_step_is}
 use Rattle.rank_laws.proofs.Inductions.{Keeps}
-use Rattle.rank_laws.proofs.Lists.{each_turned}
 use Rattle.rank_laws.proofs.Moves.{Point, course_at, step_by, Entering, OnlyEntry, LookUp, Arriving, Leaving}
 use Rattle.rank_laws.proofs.Moves.{IsPlainItem, Learns, Rises, Ends, RefusesAlone, IsRefused, Tests, Passes, Enters}
 use Rattle.rank_laws.proofs.Moves.{Issues, IssuesWhole, Draws, Delivers}
@@ -167,12 +167,12 @@ fits_kept stage p _ h (Issues call t access issuing later) =
 fits_kept stage p _ h (IssuesWhole call t access items after issuing once touches) =
     quiet_items_fit stage.script.ranks (calls_at stage p.agent.rank) p.agent.rank p.rows items
     (p.agent.log ++ Issue p.agent.at access ∷ [])
-    (each_turned (IsTouchOf (length p.agent.log)) IsQuiet (touch_is_quiet (length p.agent.log)) items
+    (each_weaker (IsTouchOf (length p.agent.log)) IsQuiet (touch_is_quiet (length p.agent.log)) items
     (touches_own t (length p.agent.log) 0 _ p.lows items after touches))
     (quiet_fits stage.script.ranks (calls_at stage p.agent.rank) p.agent.rank p.rows p.agent.log
     (Issue p.agent.at access) tt h)
 fits_kept stage p _ h (Draws state new) = h
 fits_kept stage p _ h (Delivers at one items after there due touches) =
     quiet_items_fit stage.script.ranks (calls_at stage p.agent.rank) p.agent.rank p.rows items p.agent.log
-    (each_turned (IsTouchOf one.index) IsQuiet (touch_is_quiet one.index) items
+    (each_weaker (IsTouchOf one.index) IsQuiet (touch_is_quiet one.index) items
     (touches_of_own stage one _ p.lows items after touches)) h

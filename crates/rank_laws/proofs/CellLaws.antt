@@ -7,6 +7,7 @@ use Rattle.std.specs.Option.{option_map_or}
 use Rattle.std.proofs.lemmas.Bool.{ltb-false}
 use Rattle.std.proofs.lemmas.Bool.Decides.{eqb_tells}
 use Rattle.std.proofs.lemmas.List.Sums.{length-filter}
+use Rattle.list_laws.proofs.Each.{each_kept, found_has, each_weaker, each_with}
 use Rattle.rma_types.specs.declared.schedules.Delay.{Delay}
 use Rattle.rma_types.specs.declared.scripts.Script.{Script}
 use Rattle.rma_record.specs.declared.items.Item.{Item}
@@ -19,7 +20,6 @@ use Rattle.lawful_runs.specs.Logs.{named_in}
 use Rattle.lawful_runs.specs.Stages.{stage_of, calls_at}
 use Rattle.rank_laws.proofs.CellOrder.{KeepsOnCell, AreInOrder, SeenInOrder, KeepsOrderOfCells, order_kept}
 use Rattle.rank_laws.proofs.Inductions.{lived_holds, lived_rank}
-use Rattle.rank_laws.proofs.Lists.{each_turned, each_with}
 use Rattle.rank_laws.proofs.Runs.{rank_there, each_number, each_image}
 use Rattle.rank_laws.proofs.TouchLaws.{new_touches}
 use Rattle.rank_laws.specs.Assembled.{IsAssembled}
@@ -27,26 +27,6 @@ use Rattle.rank_laws.specs.CellHistories.{IsHistoryOf, ReadsValue, LeavesNext}
 use Rattle.rank_laws.specs.Lawful.{AssembledRunsHaveLawfulCells}
 
 -- ---- lists
-
-each_passing : {X : Type 0} (P : X → Type 0) (test : X → Bool) (xs : List X) → AllByRecursion P xs →
-    AllByRecursion P (filter test xs)
-each_passing P test [] h = tt
-each_passing {X} P test (x ∷ xs) h =
-    elim (test x) as (λ b. AllByRecursion P (cond b (x ∷ filter test xs) (filter test xs))) [
-      | true ↦
-          (h.0, each_passing P test xs h.1)
-      | false ↦ each_passing P test xs h.1
-    ]
-
--- what is found passes, and has what each element has
-found_has : {X : Type 0} (P : X → Type 0) (test : X → Bool) (xs : List X) (x : X) → AllByRecursion P xs →
-    find test xs ≡ Some x → P x × (test x ≡ true)
-found_has P test [] x all e = absurd (cc e)
-found_has {X} P test (y ∷ ys) x all e =
-    elim (test y) as (λ b. test y ≡ b → cond b (Some y) (find test ys) ≡ Some x → P x × (test x ≡ true)) [
-      | true ↦ λ t k. let same : y ≡ x = cc k in (subst P same all.0, ap test (sym same) ∙ t)
-      | false ↦ λ t k. found_has P test ys x all.1 k
-    ] refl e
 
 -- where nothing is found nothing passes
 nothing_found : {X : Type 0} (test : X → Bool) (xs : List X) → find test xs ≡ None → filter test xs ≡ []
@@ -114,7 +94,7 @@ state_is values touches final history (suc k) h =
           each_with (LeavesNext values) (ReadsValue values (length updates))
           (λ (u : Touching). LeavesNext values u × ReadsValue values (length updates) u)
           (λ u a b. (a, b)) updates history.changes
-          (each_passing (ReadsValue values (length updates)) is_update touches history.reads) in
+          (each_kept (ReadsValue values (length updates)) is_update touches history.reads) in
           let found = found_has (λ (u : Touching). LeavesNext values u × ReadsValue values (length updates) u)
           (has_place k) updates update both e in
           let at = place_is update found.1 in
@@ -146,7 +126,7 @@ cell_history script delay seed run is cell final history =
     let touches = on_cell cell (all_touches script run) in
     record {
       places = history.places;
-      states = each_turned (ReadsValue (is.values cell) (length (updates_in touches)))
+      states = each_weaker (ReadsValue (is.values cell) (length (updates_in touches)))
           (ReadsState (updates_in touches))
           (λ touch reads. record {
             within = reads.within;

@@ -5,6 +5,7 @@ use Rattle.std.specs.Prelude.{slice_get, is_some}
 use Rattle.std.specs.List.{AllByRecursion}
 use Rattle.std.specs.Option.{option_map_or}
 use Rattle.std.proofs.lemmas.Grind.{flat_map-append}
+use Rattle.list_laws.proofs.Each.{each_weaker, each_at, each_append}
 use Rattle.rma_types.specs.declared.calls.Call.{Call}
 use Rattle.rma_types.specs.declared.scripts.Layout.{Layout}
 use Rattle.rma_record.specs.declared.items.Item.{Item}
@@ -12,7 +13,7 @@ use Rattle.rma_record.specs.declared.items.Item.TheVariants.{Issue, Null, Touch,
 use Rattle.rma_record.specs.declared.items.Item.TheVariants.{Ended}
 use Rattle.call_rules.specs.declared.elements.Change.{Change}
 use Rattle.call_rules.specs.declared.elements.Piece.{Piece}
-use Rattle.call_rules.specs.Actions.{Transfer}
+use Rattle.rma_types.specs.declared.actions.Transfer.{Transfer}
 use Rattle.call_rules.specs.Pieces.{pieces}
 use Rattle.call_rules.specs.Transfers.{change_of}
 use Rattle.lawful_runs.specs.Accesses.{Touching, touches_among, touching_by, change_made, issued_at, issued_by}
@@ -21,10 +22,12 @@ use Rattle.lawful_runs.specs.Cells.{KeepsOrder}
 use Rattle.lawful_runs.specs.Items.{is_touch}
 use Rattle.lawful_runs.specs.Logs.{Named, named_from}
 use Rattle.lawful_runs.specs.Stages.{Stage, calls_at}
+use Rattle.lawful_runs.proofs.LogLaws.{named_joined}
+use Rattle.lawful_runs.proofs.PairLaws.{pair_joined}
 use Rattle.rank_laws.proofs.DataPaths.{its_transfer}
 use Rattle.rank_laws.proofs.Histories.{most_same, most_join}
 use Rattle.rank_laws.proofs.Inductions.{Keeps}
-use Rattle.rank_laws.proofs.Lists.{each_turned, each_at, each_append, pair_joined, get_rest}
+use Rattle.rank_laws.proofs.Lists.{get_rest}
 use Rattle.rank_laws.proofs.Moves.{Point, Entering, OnlyEntry, LookUp, Arriving, Leaving, Learns, Rises, Ends}
 use Rattle.rank_laws.proofs.Moves.{RefusesAlone, IsRefused, Tests, Passes, Enters, Issues, IssuesWhole, Draws, Delivers}
 use Rattle.rank_laws.proofs.Pendings.{IsUntouched}
@@ -70,11 +73,11 @@ in_order_joined : (lows after : Lows) (xs ys : List Touching) → AreAtMost lows
     AreInOrder after ys → AllByRecursion (IsAbove lows) ys → AreInOrder after (xs ++ ys)
 in_order_joined lows after xs ys rise first second above = record {
   order = pair_joined KeepsOnCell xs ys first.order second.order
-      (each_turned (IsPassed lows) (λ a. AllByRecursion (KeepsOnCell a) ys)
-      (λ a passed. each_turned (IsAbove lows) (KeepsOnCell a)
+      (each_weaker (IsPassed lows) (λ a. AllByRecursion (KeepsOnCell a) ys)
+      (λ a passed. each_weaker (IsAbove lows) (KeepsOnCell a)
       (λ b over. passed_before lows a b a.change refl passed over) ys above) xs first.passed);
   passed = each_append (IsPassed after) xs ys
-      (each_turned (IsPassed lows) (IsPassed after) (λ a passed. let h = rise a.cell in omega arith) xs first.passed)
+      (each_weaker (IsPassed lows) (IsPassed after) (λ a passed. let h = rise a.cell in omega arith) xs first.passed)
       second.passed;
 }
 
@@ -104,7 +107,7 @@ own_first memory calls log one t issued moves rank index element place bits piec
           (named_from rank (index + 1) others)) rest now later.order later.above;
       above = (
         above,
-        each_turned (IsAbove middle) (IsAbove lows) (λ u over. let more = rise u.cell in omega arith)
+        each_weaker (IsAbove middle) (IsAbove lows) (λ u over. let more = rise u.cell in omega arith)
             (touches_among memory calls log (named_from rank (index + 1) others)) later.above,
       );
     }
@@ -157,14 +160,6 @@ own_touches memory calls log one t issued moves rank index element (piece ∷ re
     (λ k. ap (slice_get (pieces memory one.access t.dtype)) (omega arith) ∙ at (suc k))))
 
 -- ---- a growing log
-
-pub named_joined : (rank index : ℕ) (xs ys : List Item) → named_from rank index (xs ++ ys) ≡ named_from rank index xs
-    ++ named_from rank (index + length xs) ys
-named_joined rank index [] ys = ap (λ n. named_from rank n ys) (omega arith)
-named_joined rank index (x ∷ xs) ys =
-    ap (λ rest. (let one : Named = record { id = record { rank = rank; index = index }; item = x } in one) ∷ rest)
-    (named_joined rank (index + 1) xs ys ∙ ap (λ n. named_from rank (index + 1) xs ++ named_from rank n ys)
-    (omega arith))
 
 -- the touches of a log, as a log sees them that goes on after it
 abbrev pub SeenInOrder : Stage → ℕ → ℕ → List Item → Lows → Type 0
@@ -252,7 +247,7 @@ seen_rises stage rank name log lows after rise h more =
     let old = h more in
     record {
       order = old.order;
-      passed = each_turned (IsPassed lows) (IsPassed after)
+      passed = each_weaker (IsPassed lows) (IsPassed after)
           (λ a passed. let low = rise a.cell in omega arith) (touches_among stage.layout (calls_at stage rank)
           (log ++ more) (named_from name 0 log)) old.passed;
     }

@@ -2,9 +2,11 @@
 use Rattle.std.proofs.Common.{◌≡◌, ℕ, suc, ◌⊎◌, inl, inr, Bool, true, false, not, ◌&&◌, cond, eqb, List, [], ◌∷◌, ◌++◌}
 use Rattle.std.proofs.Common.{length, Option, Some, None, refl, sym, ◌∙◌, ap, subst, arith, append-nil}
 use Rattle.std.specs.Prelude.{slice_get, nat_lt, ◌%◌, ◌/◌, ◌==◌}
-use Rattle.std.specs.List.{remove, position}
+use Rattle.std.specs.List.{position}
 use Rattle.std.specs.Option.{option_map_or}
 use Rattle.std.proofs.lemmas.Bool.{ltb-false, ne_eqb}
+use Rattle.list_laws.proofs.Lists.{get_last, last_removed}
+use Rattle.list_laws.proofs.Truths.{both_left}
 use Rattle.rma_types.specs.declared.accesses.Access.{Access}
 use Rattle.rma_types.specs.declared.calls.Call.{Call}
 use Rattle.rma_types.specs.declared.classes.Class.{Class}
@@ -14,11 +16,11 @@ use Rattle.rma_types.specs.Datatypes.{size_of}
 use Rattle.rma_record.specs.declared.items.Item.{Item}
 use Rattle.rma_record.specs.declared.items.Item.TheVariants.{Issue, Null, Flush, Request, Ended}
 use Rattle.board_rules.specs.Entries.{Row}
-use Rattle.call_rules.specs.Actions.{Transfer, transfer_of}
+use Rattle.rma_types.specs.declared.actions.Transfer.{Transfer}
+use Rattle.rma_types.specs.Actions.{transfer_of}
 use Rattle.call_rules.specs.Pieces.{pieces}
 use Rattle.lawful_runs.specs.Accesses.{transfer_at}
 use Rattle.lawful_runs.specs.Stages.{Stage, calls_at}
-use Rattle.rank_laws.proofs.Histories.{both_left}
 use Rattle.rank_laws.proofs.Moves.{point, course_at, Begins, IsPlainItem, Issuing, IsDrawn, IsAwaited, IsAtEnd}
 use Rattle.rank_laws.proofs.Moves.{IsClosed, IsDue, issued_whole, Move, Rises, Ends, RefusesAlone, Passes, Issues}
 use Rattle.rank_laws.proofs.Moves.{IssuesWhole, Draws, Delivers as DeliversOne, Path, one_move, paths_join}
@@ -127,17 +129,9 @@ pub no_pieces : (stage : Stage) (access : Access) (t : Transfer) → access.len 
     pieces stage.layout access t.dtype ≡ []
 no_pieces stage access t e = rw e (rw (no_elements t.dtype) refl)
 
-pub get_last : {X : Type 0} (xs : List X) (x : X) → slice_get (xs ++ x ∷ []) (length xs) ≡ Some x
-get_last [] x = refl
-get_last (y ∷ ys) x = get_last ys x
-
 get_none : {X : Type 0} (xs : List X) → slice_get (xs ++ []) (length xs) ≡ None
 get_none [] = refl
 get_none (y ∷ ys) = get_none ys
-
-pub remove_last : {X : Type 0} (xs : List X) (x : X) → remove (xs ++ x ∷ []) (length xs) ≡ xs
-remove_last [] x = refl
-remove_last (y ∷ ys) x = ap (λ rest. y ∷ rest) (remove_last ys x)
 
 -- the transfer of the rank's call
 pub its_transfer : (stage : Stage) (agent : Agent) (call : Call) (t : Transfer) → next_call stage agent ≡ Some call →
@@ -177,7 +171,7 @@ at_once_path drains stage agent next rows lows after call t access issuing once 
     (its_transfer stage agent call t issuing.here issuing.moves) is.1 in
     let same : next ≡ issued_whole stage agent access is.0 = is.2
     ∙ ap (λ (p : List PendingAccess). record (issued_whole stage agent access is.0) { pending = p })
-    (remove_last agent.pending one) in
+    (last_removed agent.pending one) in
     subst (λ (a : Agent). Path drains stage (point agent rows lows) (point a rows after)) (sym same)
     (one_move drains stage (point agent rows lows) _ (IssuesWhole call t access is.0 after issuing once touches))
 at_once_path drains stage agent next rows lows after call t access issuing once false e made =

@@ -1,5 +1,5 @@
 -- Touches stand after their Issue, and those that are made at once stand directly after it.
-use Rattle.std.proofs.Common.{◌≡◌, ℕ, zero, suc, ◌+◌, ◌<◌, ◌≤◌, inl, inr, Bool, true, false, cond, eqb, List, [], ◌∷◌}
+use Rattle.std.proofs.Common.{◌≡◌, ℕ, zero, suc, ◌+◌, ◌<◌, ◌≤◌, inl, inr, true, false, List, [], ◌∷◌}
 use Rattle.std.proofs.Common.{◌++◌, length, take, drop, Option, Some, None, refl, sym, ◌∙◌, ap, subst, arith}
 use Rattle.std.proofs.Common.{append_assoc, length-append}
 use Rattle.std.specs.Prelude.{slice_get, IsSome}
@@ -7,22 +7,23 @@ use Rattle.std.specs.List.{AllByRecursion}
 use Rattle.std.specs.Option.{option_map_or}
 use Rattle.std.proofs.Math.Seq.{drop-append-add, take-length}
 use Rattle.std.proofs.lemmas.List.{take-append-le, drop-append-le}
+use Rattle.list_laws.proofs.Each.{each_at}
 use Rattle.rma_types.specs.declared.accesses.Access.{Access}
 use Rattle.rma_types.specs.declared.calls.Call.{Call}
 use Rattle.rma_types.specs.declared.scripts.Layout.{Layout}
 use Rattle.rma_record.specs.declared.items.Item.{Item}
-use Rattle.rma_record.specs.declared.items.Item.TheVariants.{Issue, Null, Touch, Flush, Request, Entry, Tested, Refused}
-use Rattle.rma_record.specs.declared.items.Item.TheVariants.{Ended}
+use Rattle.rma_record.specs.declared.items.Item.TheVariants.{Issue, Touch}
 use Rattle.call_rules.specs.declared.elements.Piece.{Piece}
-use Rattle.call_rules.specs.Actions.{Transfer}
+use Rattle.rma_types.specs.declared.actions.Transfer.{Transfer}
 use Rattle.call_rules.specs.Pieces.{pieces}
 use Rattle.lawful_runs.specs.Accesses.{issued_by, issued_at, pieces_of}
 use Rattle.lawful_runs.specs.Items.{is_touch}
 use Rattle.lawful_runs.specs.Stages.{Stage, calls_at}
-use Rattle.lawful_runs.specs.TouchLaw.{touch_of, touched_by, elements_from}
+use Rattle.lawful_runs.specs.TouchLaw.{touched_by}
+use Rattle.lawful_runs.proofs.TouchLaws.{touched_most, elements_count}
 use Rattle.rank_laws.proofs.DataPaths.{its_transfer}
 use Rattle.rank_laws.proofs.Inductions.{Keeps}
-use Rattle.rank_laws.proofs.Lists.{each_at, place_in, get_front, get_rest}
+use Rattle.rank_laws.proofs.Lists.{place_in, get_front, get_rest}
 use Rattle.rank_laws.proofs.Moves.{Point, Entering, OnlyEntry, LookUp, Arriving, Leaving, Issuing, Learns, Rises, Ends}
 use Rattle.rank_laws.proofs.Moves.{RefusesAlone, IsRefused, Tests, Passes, Enters, Issues, IssuesWhole, Draws, Delivers}
 use Rattle.rank_laws.proofs.Pendings.{IsUntouched, elements_of}
@@ -91,27 +92,6 @@ touches_after calls log items issued inside some own h index issue element cell 
 
 -- ---- touches that follow
 
-few_of : (index : ℕ) (item : Item) → length (touch_of index item) ≤ 1
-few_of index (Touch issue element cell place bits) = at_most (eqb issue index)
-  where
-    at_most : (b : Bool) → length {A = ℕ × ℕ} (cond b ((element, cell) ∷ []) []) ≤ 1
-    at_most true = omega arith
-    at_most false = omega arith
-few_of index (Issue number access) = omega arith
-few_of index (Null number) = omega arith
-few_of index (Flush number) = omega arith
-few_of index (Request number) = omega arith
-few_of index (Entry number place step) = omega arith
-few_of index (Tested number seen) = omega arith
-few_of index (Refused number class seen) = omega arith
-few_of index Ended = omega arith
-
-pub touched_few : (index : ℕ) (items : List Item) → length (touched_by index items) ≤ length items
-touched_few index [] = omega arith
-touched_few index (item ∷ items) =
-    let one = few_of index item in let rest = touched_few index items in omega
-    (arith, length-append (touch_of index item) (touched_by index items))
-
 take_short : {X : Type 0} (n : ℕ) (xs : List X) → length (take n xs) ≤ length xs
 take_short zero xs = omega arith
 take_short (suc n) [] = omega arith
@@ -122,16 +102,12 @@ pub direct_still : (memory : Layout) (calls : List Call) (log more : List Item) 
 direct_still memory calls log more one less h =
     let count = length (pieces_of memory calls one) in
     let rest = drop (one.index + 1) log in
-    let few = touched_few one.index (take count rest) in
+    let few = touched_most one.index (take count rest) in
     let short = take_short count rest in
     let enough : count ≤ length rest = omega (arith, h) in
     let same : take count (drop (one.index + 1) (log ++ more)) ≡ take count rest =
     ap (take count) (drop-append-le (one.index + 1) log more (omega arith)) ∙ take-append-le count rest more enough in
     ap (λ items. length (touched_by one.index items)) same ∙ h
-
-pub elements_count : (element : ℕ) (places : List Piece) → length (elements_from element places) ≡ length places
-elements_count element [] = refl
-elements_count element (piece ∷ places) = ap suc (elements_count (element + 1) places)
 
 pub touches_count : (t : Transfer) (issue element : ℕ) (places : List Piece) (lows : Lows) (items : List Item)
     (after : Lows) → AreTouches t issue element places lows items after → length items ≡ length places

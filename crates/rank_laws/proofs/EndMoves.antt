@@ -1,9 +1,10 @@
 -- A rank has ended exactly where its log ends with Ended.
-use Rattle.std.proofs.Common.{◌≡◌, ℕ, suc, Bool, true, false, ◌&&◌, List, [], ◌∷◌, ◌++◌, length, Option, Some, refl}
+use Rattle.std.proofs.Common.{◌≡◌, ℕ, suc, false, ◌&&◌, List, [], ◌∷◌, ◌++◌, length, Option, Some, refl}
 use Rattle.std.proofs.Common.{sym, ◌∙◌, ap, arith, append-nil, append_assoc, length-append}
 use Rattle.std.specs.Prelude.{slice_get, map}
 use Rattle.std.specs.List.{AllByRecursion, list_all}
 use Rattle.std.specs.Option.{option_map_or}
+use Rattle.list_laws.proofs.Truths.{false_unless}
 use Rattle.rma_types.specs.declared.accesses.Step.{Step}
 use Rattle.rma_types.specs.declared.calls.Call.{Call}
 use Rattle.rma_record.specs.declared.items.Item.{Item}
@@ -55,14 +56,10 @@ pub record EndsAlike (stage : Stage) (p : Point) : Type 0 where
   pub over : EndsOver stage p
   pub alike : p.agent.ended ≡ has_ended p.agent.log
 
-going_if : (b : Bool) → (b ≡ true → ⊥) → b ≡ false
-going_if true h = absurd (h refl)
-going_if false h = refl
-
 -- a rank at a call has not ended
 going_at : (stage : Stage) (p : Point) (call : Call) → EndsAlike stage p → next_call stage p.agent ≡ Some call →
     p.agent.ended ≡ false
-going_at stage p call h here = going_if p.agent.ended (λ e. let past = (h.over e).past in cc (sym past ∙ here))
+going_at stage p call h here = false_unless p.agent.ended (λ e. let past = (h.over e).past in cc (sym past ∙ here))
 
 plain_is_no_end : (course : Course) (number : ℕ) (item : Item) → IsPlainItem course number item →
     is_ended item ≡ false
@@ -133,7 +130,7 @@ alike_kept stage p _ h (Draws state new) = record {
   alike = h.alike;
 }
 alike_kept stage p _ h (Delivers at one items after there due touches) =
-    let going = going_if p.agent.ended (λ e. let empty = (h.over e).empty in cc
+    let going = false_unless p.agent.ended (λ e. let empty = (h.over e).empty in cc
     (sym (ap (λ (pending : List PendingAccess). slice_get pending at) empty) ∙ there)) in
     record {
       over = over_kept stage p _ h.over (Delivers at one items after there due touches);

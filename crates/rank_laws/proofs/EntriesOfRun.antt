@@ -9,6 +9,7 @@ use Rattle.std.proofs.lemmas.Bool.{ne_eqb, eq-eqb}
 use Rattle.std.proofs.lemmas.Bool.Decides.{eqb_tells}
 use Rattle.std.proofs.lemmas.Grind.{flat_map-append}
 use Rattle.std.proofs.lemmas.List.Elements.{filter-append}
+use Rattle.list_laws.proofs.Each.{each_append}
 use Rattle.rma_types.specs.declared.calls.Call.{Call}
 use Rattle.rma_types.specs.declared.scripts.Script.{Script}
 use Rattle.rma_record.specs.declared.items.Item.{Item}
@@ -21,7 +22,6 @@ use Rattle.lawful_runs.specs.Items.{is_entry}
 use Rattle.lawful_runs.specs.Logs.{Named, named_from, named_in, named_logs, is_entry_at, is_named_entry_at}
 use Rattle.lawful_runs.specs.Logs.{is_some_entry, entry_at, row_by, row_of, calls_of}
 use Rattle.rank_laws.proofs.BoardFits.{entries_for, own_of, AreOwnAllowed, IsOfCall}
-use Rattle.rank_laws.proofs.Lists.{each_append}
 
 -- ---- the entry at a place
 

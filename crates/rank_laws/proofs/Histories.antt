@@ -5,13 +5,14 @@ use Rattle.std.specs.Prelude.{is_none, ◌≢◌}
 use Rattle.std.specs.List.{AllByRecursion}
 use Rattle.std.specs.Option.{option_map_or}
 use Rattle.std.proofs.lemmas.List.{map-append}
+use Rattle.list_laws.proofs.Truths.{both_right, both_left}
 use Rattle.rma_types.specs.declared.accesses.Step.TheVariants.{Arrive, Leave, One}
 use Rattle.rma_types.specs.declared.calls.Call.{Call}
 use Rattle.board_rules.specs.Board.{Decision, Refuse, Allow, NotYet, decide}
 use Rattle.board_rules.specs.Entries.{Row}
 use Rattle.board_rules.specs.Questions.{question}
 use Rattle.board_rules.specs.Rounds.{all_arrived}
-use Rattle.call_rules.specs.Actions.{transfer_of}
+use Rattle.rma_types.specs.Actions.{transfer_of}
 use Rattle.lawful_runs.specs.Stages.{Stage}
 use Rattle.rank_laws.proofs.CallKinds.{moves_nothing}
 use Rattle.rank_laws.proofs.Moves.{point, point_at, course_at, Begins, step_by, Entering, OnlyEntry, LookUp, Arriving}
@@ -31,15 +32,6 @@ use Rattle.step_runs.specs.BoardSteps.{first_entry, entry_of, board_step}
 leave_or_wait : (b : Bool) (class : _) → cond b Allow NotYet ≡ Refuse class → ⊥
 leave_or_wait true class e = cc e
 leave_or_wait false class e = cc e
-
--- what a conjunction says
-pub both_left : (a b : Bool) → (a && b) ≡ true → a ≡ true
-both_left true b e = refl
-both_left false b e = absurd (cc e)
-
-pub both_right : (a b : Bool) → (a && b) ≡ true → b ≡ true
-both_right true b e = e
-both_right false b e = absurd (cc e)
 
 pub is_none_of : {X : Type 0} (o : Option X) → is_none o ≡ true → o ≡ None
 is_none_of None e = refl
@@ -188,8 +180,7 @@ pub put_rises : (ranks : ℕ) (before : List Put) (lows : Lows) (puts : List Put
     ArePut ranks before lows puts after → AreAtMost lows after
 put_rises ranks before lows [] after h = h
 put_rises ranks before lows (put ∷ puts) after h =
-    most_join lows put.front after h.1 (most_join put.front h.0 after h.2
-    (put_rises ranks (before ++ put ∷ []) h.0 puts after h.4))
+    most_join lows h.0 after h.1 (put_rises ranks (before ++ put ∷ []) h.0 puts after h.4)
 
 pub others_rows : (rank : ℕ) (puts : List Put) → AreOthers rank puts →
     AllByRecursion (λ (row : Row). row.rank ≢ rank) (rows_put puts)

@@ -6,7 +6,7 @@ use Rattle.std.specs.List.{AllByRecursion}
 use Rattle.std.specs.Option.{option_map_or}
 use Rattle.rma_types.specs.declared.calls.Call.{Call}
 use Rattle.board_rules.specs.Entries.{Row}
-use Rattle.call_rules.specs.Actions.{transfer_of}
+use Rattle.rma_types.specs.Actions.{transfer_of}
 use Rattle.lawful_runs.specs.Stages.{Stage}
 use Rattle.rank_laws.proofs.DataPaths.{delivery_path, step_path}
 use Rattle.rank_laws.proofs.Histories.{is_none_of, look_path, put_rises, others_rows, rows_joined}
@@ -37,7 +37,7 @@ path_keeps drains stage P keeps p _ h (Goes q r path move) = keeps q r (path_kee
 
 -- ---- the rank
 
-abbrev IsOf : ℕ → Point → Type 0
+abbrev pub IsOf : ℕ → Point → Type 0
 IsOf rank p = p.agent.rank ≡ rank
 
 enters_same : (stage : Stage) (p : Point) (call : Call) (step : _) (after : Agent → Agent) (next : Agent) →
@@ -47,7 +47,7 @@ enters_same stage p call _ _ next (LookUp begins course) = refl
 enters_same stage p call _ _ next (Arriving begins course) = refl
 enters_same stage p call _ _ next (Leaving here inside none) = refl
 
-rank_kept : (drains : Bool) (stage : Stage) (rank : ℕ) → KeepsIn drains stage (IsOf rank)
+pub rank_kept : (drains : Bool) (stage : Stage) (rank : ℕ) → KeepsIn drains stage (IsOf rank)
 rank_kept drains stage rank p _ h (Learns more others) = h
 rank_kept drains stage rank p _ h (Rises after rise) = h
 rank_kept drains stage rank p _ h (Ends past empty going) = h

@@ -1,11 +1,14 @@
 -- Lists: facts of each element, of each pair, and at an index, where a list is followed by another.
 use Rattle.std.proofs.Common.{◌≡◌, ℕ, zero, suc, ◌+◌, ◌<◌, ◌≤◌, ◌⊎◌, inl, inr, Bool, true, false, cond, List, [], ◌∷◌}
-use Rattle.std.proofs.Common.{◌++◌, length, take, drop, Some, None, refl, ap, subst, sym, ◌∙◌, arith}
+use Rattle.std.proofs.Common.{◌++◌, length, take, Some, None, refl, ap, subst, sym, ◌∙◌, arith}
 use Rattle.std.specs.Prelude.{slice_get, nat_lt}
 use Rattle.std.specs.List.{AllByRecursion, position, position_or_len, remove}
 use Rattle.std.proofs.lemmas.Bool.{ltb-false}
+use Rattle.list_laws.proofs.Each.{each_weaker, each_with, each_at, each_removed}
+use Rattle.list_laws.proofs.Members.{Among}
 use Rattle.call_rules.specs.Pieces.{numbers_from}
 use Rattle.lawful_runs.specs.Accesses.{EachPair}
+use Rattle.lawful_runs.proofs.PairLaws.{pair_joined}
 
 -- ---- each element
 
@@ -13,55 +16,6 @@ use Rattle.lawful_runs.specs.Accesses.{EachPair}
 pub each_of : {X : Type 0} (P : X → Type 0) → ((x : X) → P x) → (xs : List X) → AllByRecursion P xs
 each_of P h [] = tt
 each_of P h (x ∷ xs) = (h x, each_of P h xs)
-
--- one fact of each element follows from another
-pub each_turned : {X : Type 0} (P Q : X → Type 0) → ((x : X) → P x → Q x) → (xs : List X) → AllByRecursion P xs →
-    AllByRecursion Q xs
-each_turned P Q h [] all = tt
-each_turned P Q h (x ∷ xs) all = (h x all.0, each_turned P Q h xs all.1)
-
--- one fact of each element follows from two others
-pub each_with : {X : Type 0} (P Q R : X → Type 0) → ((x : X) → P x → Q x → R x) → (xs : List X) →
-    AllByRecursion P xs → AllByRecursion Q xs → AllByRecursion R xs
-each_with P Q R h [] all both = tt
-each_with P Q R h (x ∷ xs) all both = (h x all.0 both.0, each_with P Q R h xs all.1 both.1)
-
--- the element at an index has what each element has
-pub each_at : {X : Type 0} (P : X → Type 0) (xs : List X) (at : ℕ) (x : X) → AllByRecursion P xs →
-    slice_get xs at ≡ Some x → P x
-each_at P [] at x all e = absurd (cc e)
-each_at P (y ∷ ys) zero x all e = let same : y ≡ x = cc e in subst P same all.0
-each_at P (y ∷ ys) (suc at) x all e = each_at P ys at x all.1 e
-
-pub each_append : {X : Type 0} (P : X → Type 0) (xs ys : List X) → AllByRecursion P xs → AllByRecursion P ys →
-    AllByRecursion P (xs ++ ys)
-each_append P [] ys h k = k
-each_append P (x ∷ xs) ys h k = (h.0, each_append P xs ys h.1 k)
-
-pub each_front : {X : Type 0} (P : X → Type 0) (xs ys : List X) → AllByRecursion P (xs ++ ys) → AllByRecursion P xs
-each_front P [] ys h = tt
-each_front P (x ∷ xs) ys h = (h.0, each_front P xs ys h.1)
-
-pub each_back : {X : Type 0} (P : X → Type 0) (xs ys : List X) → AllByRecursion P (xs ++ ys) → AllByRecursion P ys
-each_back P [] ys h = h
-each_back P (x ∷ xs) ys h = each_back P xs ys h.1
-
-pub each_take : {X : Type 0} (P : X → Type 0) (n : ℕ) (xs : List X) → AllByRecursion P xs →
-    AllByRecursion P (take n xs)
-each_take P zero xs h = tt
-each_take P (suc n) [] h = tt
-each_take P (suc n) (x ∷ xs) h = (h.0, each_take P n xs h.1)
-
-pub each_drop : {X : Type 0} (P : X → Type 0) (n : ℕ) (xs : List X) → AllByRecursion P xs →
-    AllByRecursion P (drop n xs)
-each_drop P zero xs h = h
-each_drop P (suc n) [] h = tt
-each_drop P (suc n) (x ∷ xs) h = each_drop P n xs h.1
-
--- what is left after one is removed
-pub each_left : {X : Type 0} (P : X → Type 0) (xs : List X) (at : ℕ) → AllByRecursion P xs →
-    AllByRecursion P (remove xs at)
-each_left P xs at h = each_append P (take at xs) (drop (suc at) xs) (each_take P at xs h) (each_drop P (suc at) xs h)
 
 -- no place of a list passes where its position is none
 pub none_passes : {X : Type 0} (test : X → Bool) (xs : List X) → position test xs ≡ None →
@@ -86,38 +40,23 @@ none_passes {X} test xs e =
 
 -- ---- each pair
 
--- one relation of each pair follows from another
-pub pair_turned : {X : Type 0} (R S : X → X → Type 0) → ((x y : X) → R x y → S x y) → (xs : List X) → EachPair R xs →
-    EachPair S xs
-pair_turned R S h [] all = tt
-pair_turned R S h (x ∷ xs) all = (each_turned (R x) (S x) (h x) xs all.0, pair_turned R S h xs all.1)
-
--- a relation of each pair of two lists, and of each element of the first with each of the second
-pub pair_joined : {X : Type 0} (R : X → X → Type 0) (xs ys : List X) → EachPair R xs → EachPair R ys →
-    AllByRecursion (λ x. AllByRecursion (R x) ys) xs → EachPair R (xs ++ ys)
-pair_joined R [] ys first second both = second
-pair_joined R (x ∷ xs) ys first second both = (
-  each_append (R x) xs ys first.0 both.0,
-  pair_joined R xs ys first.1 second both.1,
-)
-
 pub pair_push : {X : Type 0} (R : X → X → Type 0) (xs : List X) (y : X) → EachPair R xs →
     AllByRecursion (λ x. R x y) xs → EachPair R (xs ++ y ∷ [])
-pair_push R xs y h k = pair_joined R xs (y ∷ []) h (tt, tt) (each_turned (λ x. R x y)
+pair_push R xs y h k = pair_joined R xs (y ∷ []) h (tt, tt) (each_weaker (λ x. R x y)
     (λ x. AllByRecursion (R x) (y ∷ [])) (λ x r. (r, tt)) xs k)
 
 -- a relation that holds of all elements of a kind
 pub pair_alike : {X : Type 0} (P : X → Type 0) (R : X → X → Type 0) → ((x y : X) → P x → P y → R x y) →
     (xs : List X) → AllByRecursion P xs → EachPair R xs
 pair_alike P R h [] all = tt
-pair_alike P R h (x ∷ xs) all = (each_turned P (R x) (λ y p. h x y all.0 p) xs all.1, pair_alike P R h xs all.1)
+pair_alike P R h (x ∷ xs) all = (each_weaker P (R x) (λ y p. h x y all.0 p) xs all.1, pair_alike P R h xs all.1)
 
 -- what is left of a list with a relation, after one is removed
 pub pair_left : {X : Type 0} (R : X → X → Type 0) (xs : List X) (at : ℕ) → EachPair R xs → EachPair R (remove xs at)
 pair_left R [] zero h = tt
 pair_left R [] (suc at) h = tt
 pair_left R (x ∷ xs) zero h = h.1
-pair_left R (x ∷ xs) (suc at) h = (each_left (R x) xs at h.0, pair_left R xs at h.1)
+pair_left R (x ∷ xs) (suc at) h = (each_removed (R x) xs at h.0, pair_left R xs at h.1)
 
 -- ---- at an index
 
@@ -158,11 +97,6 @@ numbers_each P h first count = each_of P h (numbers_from first count)
 
 -- ---- membership
 
--- the element is one of the list
-abbrev pub Among : {X : Type 0} → X → List X → Type 0
-Among x [] = ⊥
-Among x (y ∷ ys) = (y ≡ x) ⊎ Among x ys
-
 pub among_left : {X : Type 0} (x : X) (xs ys : List X) → Among x xs → Among x (xs ++ ys)
 among_left x [] ys h = absurd h
 among_left x (y ∷ xs) ys (inl e) = inl e
@@ -193,7 +127,7 @@ pub others_apart : {X : Type 0} (number : X → ℕ) (xs : List X) (at : ℕ) (x
 others_apart number [] at x h e = absurd (cc e)
 others_apart {X} number (y ∷ xs) zero x h e =
     let same : y ≡ x = cc e in
-    each_turned (λ z. number y < number z) (λ z. number z ≡ number x → ⊥)
+    each_weaker (λ z. number y < number z) (λ z. number z ≡ number x → ⊥)
     (λ z less k. let k2 = ap number same in absurd (omega arith)) xs h.0
 others_apart {X} number (y ∷ xs) (suc at) x h e =
     let less = each_at (λ z. number y < number z) xs at x h.0 e in
@@ -206,7 +140,7 @@ pub smaller_before : {X : Type 0} (number : X → ℕ) (P : X → Type 0) (xs : 
 smaller_before number P [] at x h e k = absurd (cc e)
 smaller_before number P (y ∷ xs) zero x h e k =
     let same : y ≡ x = cc e in
-    each_turned (λ z. number y < number z) (λ z. number z < number x → P z)
+    each_weaker (λ z. number y < number z) (λ z. number z < number x → P z)
     (λ z more less. let k2 = ap number same in absurd (omega arith)) xs h.0
 smaller_before number P (y ∷ xs) (suc at) x h e k = (λ less. k.0, smaller_before number P xs at x h.1 e k.1)
 

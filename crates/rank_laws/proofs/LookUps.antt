@@ -5,6 +5,7 @@ use Rattle.std.specs.Prelude.{slice_get, IsSome, IfSome}
 use Rattle.std.specs.List.{AllByRecursion}
 use Rattle.std.proofs.lemmas.Bool.Decides.{eqb_tells}
 use Rattle.std.proofs.lemmas.Option.{slice_get_within}
+use Rattle.list_laws.proofs.Each.{each_at}
 use Rattle.rma_types.specs.declared.accesses.Step.{Step}
 use Rattle.rma_types.specs.declared.accesses.Step.TheVariants.{Arrive, Leave, One}
 use Rattle.rma_types.specs.declared.calls.Call.{Call}
@@ -12,7 +13,7 @@ use Rattle.rma_record.specs.declared.items.Item.{Item}
 use Rattle.rma_record.specs.declared.items.Item.TheVariants.{Issue, Null, Touch, Flush, Request, Entry, Tested, Refused}
 use Rattle.rma_record.specs.declared.items.Item.TheVariants.{Ended}
 use Rattle.board_rules.specs.Entries.{Row}
-use Rattle.call_rules.specs.Actions.{transfer_of}
+use Rattle.rma_types.specs.Actions.{transfer_of}
 use Rattle.call_rules.specs.Pieces.{numbers_from}
 use Rattle.lawful_runs.specs.Items.{belongs_to, is_entry}
 use Rattle.lawful_runs.specs.Stages.{Stage, RankOfRun, calls_at, calls_here}
@@ -20,7 +21,7 @@ use Rattle.lawful_runs.specs.TouchLaw.{IsLookUpFollowed, IsFollowedByCall}
 use Rattle.rank_laws.proofs.Awaiting.{rank_of}
 use Rattle.rank_laws.proofs.CallKinds.{moves_nothing}
 use Rattle.rank_laws.proofs.Inductions.{Keeps, lived_holds}
-use Rattle.rank_laws.proofs.Lists.{each_at, place_in, get_front, get_rest, numbers_each}
+use Rattle.rank_laws.proofs.Lists.{place_in, get_front, get_rest, numbers_each}
 use Rattle.rank_laws.proofs.Moves.{course_at, Entering, OnlyEntry, LookUp, Arriving, Leaving, IsClosed, IsPlainItem}
 use Rattle.rank_laws.proofs.Moves.{Learns, Rises, Ends, RefusesAlone, IsRefused, Tests, Passes, Enters, Issues}
 use Rattle.rank_laws.proofs.Moves.{IssuesWhole, Draws, Delivers}

@@ -5,16 +5,20 @@ use Rattle.std.specs.Prelude.{slice_get, IfSome}
 use Rattle.std.specs.List.{AllByRecursion, remove}
 use Rattle.std.specs.Option.{option_map_or}
 use Rattle.std.proofs.lemmas.Bool.Decides.{eqb_tells}
+use Rattle.list_laws.proofs.Each.{each_weaker, each_with, each_at, each_append, each_removed}
+use Rattle.list_laws.proofs.Members.{among_right, Among}
 use Rattle.rma_types.specs.declared.calls.Call.{Call}
 use Rattle.rma_types.specs.declared.scripts.Layout.{Layout}
 use Rattle.rma_record.specs.declared.items.Item.{Item}
 use Rattle.lawful_runs.specs.Accesses.{issued_by, issued_at, pieces_of, EachPair}
 use Rattle.lawful_runs.specs.Items.{is_touch}
 use Rattle.lawful_runs.specs.TouchLaw.{touched_by, elements_from, issues_touched}
-use Rattle.rank_laws.proofs.Lists.{each_turned, each_with, each_at, each_append, each_left, pair_joined, pair_alike}
-use Rattle.rank_laws.proofs.Lists.{pair_left, pair_within, Among, among_left, among_rest, others_apart, smaller_before}
+use Rattle.lawful_runs.proofs.PairLaws.{pair_joined}
+use Rattle.lawful_runs.proofs.TouchLaws.{touched_joined}
+use Rattle.rank_laws.proofs.Lists.{pair_alike}
+use Rattle.rank_laws.proofs.Lists.{pair_left, pair_within, among_left, among_rest, others_apart, smaller_before}
 use Rattle.rank_laws.proofs.Lists.{get_rest}
-use Rattle.rank_laws.proofs.Touching.{IsTouchOf, touched_by_other, touched_joined, touched_plain, touched_past}
+use Rattle.rank_laws.proofs.Touching.{IsTouchOf, touched_by_other, touched_plain, touched_past}
 use Rattle.rank_laws.proofs.Touching.{issues_joined, issues_plain, issues_of_touches, made_at, issued_inside}
 use Rattle.rank_laws.proofs.Touching.{issued_front, issued_still, issued_before_touches, issued_push}
 use Rattle.rank_rules.specs.Pending.{gives_way}
@@ -78,10 +82,6 @@ pub record MakesPending (memory : Layout) (calls : List Call) (index : ℕ) (ite
       (elements_of memory calls one ≡ []) ⊎ Among one made
   pub single : EachPair (λ (a : PendingAccess) (b : PendingAccess). a.index < b.index) made
 
-among_right : {X : Type 0} (x : X) (xs ys : List X) → Among x ys → Among x (xs ++ ys)
-among_right x [] ys h = h
-among_right x (y ∷ xs) ys h = inr (among_right x xs ys h)
-
 way_still : (calls : List Call) (log more : List Item) (first second : ℕ) → first < length log → second < length log →
     KeepsWay calls log first second → KeepsWay calls (log ++ more) first second
 way_still calls log more first second a b k =
@@ -108,31 +108,31 @@ item_more memory calls log pending made item has makes = record {
         (makes.all one new.1)
   ];
   waiting = each_append (IsUntouched calls next) pending made
-      (each_turned (IsUntouched calls log) (IsUntouched calls next)
+      (each_weaker (IsUntouched calls log) (IsUntouched calls next)
       (λ one h. (
         issued_still calls log (item ∷ []) one.index one h.0,
         touched_plain one.index log item makes.plain ∙ h.1,
       )) pending has.waiting)
-      (each_turned (λ (one : PendingAccess). issued_by calls (length log) item ≡ Some one) (IsUntouched calls next)
+      (each_weaker (λ (one : PendingAccess). issued_by calls (length log) item ≡ Some one) (IsUntouched calls next)
       (λ one h. is_last one (made_at calls (length log) item one h) h) made makes.its);
   ascending = pair_joined (λ (a : PendingAccess) (b : PendingAccess).
       a.index < b.index) pending made has.ascending makes.single
-      (each_turned (IsUntouched calls log) (λ (a : PendingAccess). AllByRecursion
+      (each_weaker (IsUntouched calls log) (λ (a : PendingAccess). AllByRecursion
       (λ (b : PendingAccess). a.index < b.index) made)
       (λ a h. let inside = issued_inside calls log a.index a h.0 in
-      each_turned (λ (one : PendingAccess). issued_by calls (length log) item ≡ Some one)
+      each_weaker (λ (one : PendingAccess). issued_by calls (length log) item ≡ Some one)
       (λ (b : PendingAccess). a.index < b.index)
       (λ b k. let at = made_at calls (length log) item b k in let less = inside.0 in omega arith) made makes.its)
       pending has.waiting);
   below = subst (AllByRecursion (λ n. n < length next)) (sym same)
-      (each_turned (λ n. n < length log) (λ n. n < length next) (λ n less. omega (arith, longer))
+      (each_weaker (λ n. n < length log) (λ n. n < length next) (λ n less. omega (arith, longer))
       (issues_touched log) has.below);
   free = subst (AllByRecursion (IsFree calls next (pending ++ made))) (sym same)
       (each_with (λ n. n < length log) (IsFree calls log pending) (IsFree calls next (pending ++ made))
       (λ n less h. each_append (IsFreeOf calls next n) pending made
-      (each_turned (IsFreeOf calls log n) (IsFreeOf calls next n)
+      (each_weaker (IsFreeOf calls log n) (IsFreeOf calls next n)
       (λ one k. free_still calls log (item ∷ []) n one less k) pending h)
-      (each_turned (λ (one : PendingAccess). issued_by calls (length log) item ≡ Some one) (IsFreeOf calls next n)
+      (each_weaker (λ (one : PendingAccess). issued_by calls (length log) item ≡ Some one) (IsFreeOf calls next n)
       (λ one k earlier. let at = made_at calls (length log) item one k in absurd (omega arith)) made makes.its))
       (issues_touched log) has.below has.free);
   order = subst (EachPair (KeepsWay calls next)) (sym same)
@@ -195,22 +195,22 @@ touches_more memory calls log pending at one items has touches = record {
   waiting = each_with (IsUntouched calls log) (λ (other : PendingAccess). other.index ≡ one.index → ⊥)
       (IsUntouched calls next)
       (λ other h apart. (issued_still calls log items other.index other h.0, unchanged other.index apart ∙ h.1))
-      (remove pending at) (each_left (IsUntouched calls log) pending at has.waiting) apart_all;
+      (remove pending at) (each_removed (IsUntouched calls log) pending at has.waiting) apart_all;
   ascending = pair_left (λ (a : PendingAccess) (b : PendingAccess). a.index < b.index) pending at has.ascending;
   below = subst (AllByRecursion (λ n. n < length next)) (sym seam)
       (each_append (λ n. n < length next) (issues_touched log) (issues_touched items)
-      (each_turned (λ n. n < length log) (λ n. n < length next) (λ n less. omega (arith, longer))
+      (each_weaker (λ n. n < length log) (λ n. n < length next) (λ n less. omega (arith, longer))
       (issues_touched log) has.below)
-      (each_turned (λ n. n ≡ one.index) (λ n. n < length next) (λ n is. let less = inside.0 in omega (arith, longer))
+      (each_weaker (λ n. n ≡ one.index) (λ n. n < length next) (λ n is. let less = inside.0 in omega (arith, longer))
       (issues_touched items) last));
   free = subst (AllByRecursion (IsFree calls next (remove pending at))) (sym seam)
       (each_append (IsFree calls next (remove pending at)) (issues_touched log) (issues_touched items)
       (each_with (λ n. n < length log) (IsFree calls log pending) (IsFree calls next (remove pending at))
-      (λ n less h. each_turned (IsFreeOf calls log n) (IsFreeOf calls next n)
+      (λ n less h. each_weaker (IsFreeOf calls log n) (IsFreeOf calls next n)
       (λ other k. free_still calls log items n other less k) (remove pending at)
-      (each_left (IsFreeOf calls log n) pending at h))
+      (each_removed (IsFreeOf calls log n) pending at h))
       (issues_touched log) has.below has.free)
-      (each_turned (λ n. n ≡ one.index) (IsFree calls next (remove pending at))
+      (each_weaker (λ n. n ≡ one.index) (IsFree calls next (remove pending at))
       (λ n is. subst (IsFree calls next (remove pending at)) (sym is) free_now) (issues_touched items) last));
   order = subst (EachPair (KeepsWay calls next)) (sym seam)
       (pair_joined (KeepsWay calls next) (issues_touched log) (issues_touched items)
@@ -220,7 +220,7 @@ touches_more memory calls log pending at one items has touches = record {
       (issues_touched items) last)
       (each_with (λ n. n < length log) (IsFree calls log pending)
       (λ x. AllByRecursion (KeepsWay calls next x) (issues_touched items))
-      (λ x less h. each_turned (λ n. n ≡ one.index) (KeepsWay calls next x)
+      (λ x less h. each_weaker (λ n. n ≡ one.index) (KeepsWay calls next x)
       (λ y is. subst (KeepsWay calls next x) (sym is) (keeps x less
       (each_at (IsFreeOf calls log x) pending at one h touches.there))) (issues_touched items) last)
       (issues_touched log) has.below has.free));

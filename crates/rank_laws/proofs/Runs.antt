@@ -1,8 +1,9 @@
 -- The ranks of an assembled run, and their logs.
-use Rattle.std.proofs.Common.{◌≡◌, ℕ, zero, suc, ◌+◌, ◌<◌, ◌≤◌, List, [], ◌∷◌, length, Some, refl, sym, ◌∙◌, ap, subst}
+use Rattle.std.proofs.Common.{◌≡◌, ℕ, zero, suc, ◌+◌, ◌<◌, ◌≤◌, List, [], ◌∷◌, Some, sym, ◌∙◌, ap, subst}
 use Rattle.std.proofs.Common.{arith}
 use Rattle.std.specs.Prelude.{slice_get, slice_index_or, map}
 use Rattle.std.specs.List.{AllByRecursion}
+use Rattle.list_laws.proofs.Lists.{some_within}
 use Rattle.rma_types.specs.declared.schedules.Delay.{Delay}
 use Rattle.rma_types.specs.declared.scripts.Script.{Script}
 use Rattle.rma_record.specs.declared.items.Item.{Item}
@@ -13,12 +14,6 @@ use Rattle.lawful_runs.specs.Stages.{stage_of}
 use Rattle.rank_laws.specs.Assembled.{IsAssembled}
 use Rattle.rank_laws.specs.Lives.{HasLived}
 use Rattle.step_runs.specs.Agents.{Agent}
-
--- an index below the length has an element
-pub element_at : {X : Type 0} (xs : List X) (at : ℕ) → at < length xs → (x : X) × (slice_get xs at ≡ Some x)
-element_at [] at h = absurd (omega arith)
-element_at (x ∷ xs) zero h = (x, refl)
-element_at (x ∷ xs) (suc at) h = element_at xs at (omega arith)
 
 pub log_at : (agents : List Agent) (rank : ℕ) (agent : Agent) → slice_get agents rank ≡ Some agent →
     slice_index_or (map (λ (a : Agent). a.log) agents) rank [] ≡ agent.log
@@ -36,7 +31,7 @@ pub record RankThere (script : Script) (delay : Delay) (seed : ℕ) (run : Run) 
 pub rank_there : (script : Script) (delay : Delay) (seed : ℕ) (run : Run) (is : IsAssembled script delay seed run)
     (rank : ℕ) → rank < script.ranks → RankThere script delay seed run is rank
 rank_there script delay seed run is rank inside =
-    let there = element_at is.agents rank (subst (λ n. rank < n) (sym is.ranks) inside) in
+    let there = some_within is.agents rank (subst (λ n. rank < n) (sym is.ranks) inside) in
     record {
       agent = there.0;
       lived = is.lives rank there.0 there.1;

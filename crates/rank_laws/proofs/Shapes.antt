@@ -1,36 +1,33 @@
 -- The parts of a window stay as they are, once all ranks have arrived at its creation.
 use Rattle.std.proofs.Common.{◌≡◌, ℕ, ◌<◌, ◌≤◌, Bool, true, false, ◌&&◌, cond, List, [], ◌∷◌, ◌++◌, length, Option}
-use Rattle.std.proofs.Common.{Some, refl, sym, ◌∙◌, ap, subst, arith, append-nil, append_assoc}
+use Rattle.std.proofs.Common.{Some, refl, sym, ◌∙◌, ap, subst, arith}
 use Rattle.std.specs.Prelude.{map, is_some}
 use Rattle.std.specs.List.{AllByRecursion, filter, find}
 use Rattle.std.specs.Option.{option_map_or}
+use Rattle.list_laws.proofs.Truths.{and_assoc}
 use Rattle.rma_types.specs.declared.calls.Call.{Call}
-use Rattle.board_rules.specs.Entries.{Row, Act, acts, acts_after, window_of, is_by_on, is_arrive, is_creation}
+use Rattle.board_rules.specs.Entries.{Row, Act, acts, acts_after, is_by_on, is_arrive, is_creation}
 use Rattle.board_rules.specs.Entries.{begins_window, arrivals, collective_in, fence_or_none, is_same_collective}
 use Rattle.board_rules.specs.Entries.{is_collective, Creation}
 use Rattle.board_rules.specs.Shapes.{part_in, part_brought}
-use Rattle.call_rules.specs.Actions.{Action, Creates, Frees, Attaches, Detaches, Synchronises, Meets, Moves}
-use Rattle.call_rules.specs.Actions.{EndsRequest, Synchronisation, Fences, Posts, Starts, Completes, Waits, Locks}
-use Rattle.call_rules.specs.Actions.{Unlocks, Flushes, Syncs, action_of, creation_in}
+use Rattle.rma_types.specs.declared.actions.Action.{Action}
+use Rattle.rma_types.specs.declared.actions.Action.TheVariants.{Creates, Frees, Attaches, Detaches, Synchronises, Meets}
+use Rattle.rma_types.specs.declared.actions.Action.TheVariants.{Moves, EndsRequest}
+use Rattle.rma_types.specs.declared.actions.Synchronisation.{Synchronisation}
+use Rattle.rma_types.specs.declared.actions.Synchronisation.TheVariants.{Fences, Posts, Starts, Completes, Waits, Locks}
+use Rattle.rma_types.specs.declared.actions.Synchronisation.TheVariants.{Unlocks, Flushes, Syncs}
+use Rattle.rma_types.specs.Actions.{action_of, creation_in}
 use Rattle.call_rules.specs.Pieces.{numbers_from}
+use Rattle.board_rules.proofs.EntryLaws.{acts_append}
 use Rattle.lawful_runs.specs.Stages.{Stage, shapes_in}
 use Rattle.rank_laws.proofs.Runs.{each_number}
 use Rattle.rank_rules.specs.Windows.{no_part}
 
 -- ---- entries with their windows
 
-acts_from : (before rows more : List Row) → acts_after before (rows ++ more) ≡ acts_after before rows ++ acts_after
-    (before ++ rows) more
-acts_from before [] more = ap (λ (b : List Row). acts_after b more) (sym (append-nil before))
-acts_from before (row ∷ rows) more =
-    ap (λ rest. (let act : Act = record { row = row; window = window_of before row } in act) ∷ rest)
-    (acts_from (before ++ row ∷ []) rows more
-    ∙ ap (λ (b : List Row). acts_after (before ++ row ∷ []) rows ++ acts_after b more)
-    (append_assoc before (row ∷ []) rows))
-
 -- the entries that follow change nothing of those before
 pub acts_joined : (rows more : List Row) → acts (rows ++ more) ≡ acts rows ++ acts_after rows more
-acts_joined rows more = acts_from [] rows more
+acts_joined rows more = acts_append [] rows more
 
 found_still : {X : Type 0} (test : X → Bool) (xs ys : List X) (x : X) → find test xs ≡ Some x →
     find test (xs ++ ys) ≡ Some x
@@ -103,15 +100,11 @@ creation_of_action (EndsRequest req) = refl
 pub creation_is_collective : (call : Call) → is_collective Creation call ≡ is_creation call
 creation_is_collective call = creation_of_action (action_of call)
 
-and_join : (a b c : Bool) → ((a && b) && c) ≡ (a && (b && c))
-and_join true b c = refl
-and_join false b c = refl
-
 -- the tests of an arrival at a creation, and of the entry that begins a window, are one
 arrival_begins : (rank window : ℕ) (act : Act) → (is_by_on rank window act && is_arrive act.row.step && is_collective
     Creation act.row.call) ≡ is_begun_by rank window act
 arrival_begins rank window act =
-    and_join (is_by_on rank window act) (is_arrive act.row.step) (is_collective Creation act.row.call)
+    and_assoc (is_by_on rank window act) (is_arrive act.row.step) (is_collective Creation act.row.call)
     ∙ ap (λ b. is_by_on rank window act && (is_arrive act.row.step && b)) (creation_is_collective act.row.call)
 
 some_found : (rank window : ℕ) (entries : List Act) →

@@ -2,6 +2,7 @@
 use Rattle.std.proofs.Common.{◌≡◌, ℕ, zero, suc, inl, inr, true, List, [], length, Option, Some, None, refl, ap, subst}
 use Rattle.std.specs.Prelude.{slice_get}
 use Rattle.std.specs.List.{AllByRecursion}
+use Rattle.list_laws.proofs.Members.{Among}
 use Rattle.rma_types.specs.declared.accesses.Access.{Access}
 use Rattle.rma_types.specs.declared.schedules.Delay.{Delay}
 use Rattle.rma_types.specs.declared.schedules.Delay.TheVariants.{None as NoDelay, End as EndDelay}
@@ -18,7 +19,7 @@ use Rattle.rank_laws.proofs.AwaitMoves.{KeepsAwaited, awaited_kept}
 use Rattle.rank_laws.proofs.Awaiting.{rank_of}
 use Rattle.rank_laws.proofs.DirectMoves.{StandsAfterIssue, KeepsDirect, direct_kept}
 use Rattle.rank_laws.proofs.Inductions.{lived_holds}
-use Rattle.rank_laws.proofs.Lists.{numbers_each, Among}
+use Rattle.rank_laws.proofs.Lists.{numbers_each}
 use Rattle.rank_laws.proofs.Pendings.{HasTouches, IsSettled, no_touches}
 use Rattle.rank_laws.proofs.Touching.{each_issued}
 use Rattle.rank_laws.proofs.TouchMoves.{KeepsTouches}

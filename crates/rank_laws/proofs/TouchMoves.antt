@@ -5,23 +5,22 @@ use Rattle.std.specs.Prelude.{slice_get, nat_lt}
 use Rattle.std.specs.List.{AllByRecursion, position}
 use Rattle.std.specs.Option.{option_map_or}
 use Rattle.std.proofs.lemmas.Bool.{ltb-false}
+use Rattle.list_laws.proofs.Lists.{get_last, last_removed}
 use Rattle.rma_types.specs.declared.accesses.Access.{Access}
-use Rattle.rma_types.specs.declared.accesses.Kind.{Kind}
-use Rattle.rma_types.specs.declared.accesses.Kind.TheVariants.{Get, Put, Acc, Cas, Load, Store}
 use Rattle.rma_types.specs.declared.calls.Call.{Call}
 use Rattle.rma_types.specs.declared.schedules.Delay.{Delay}
 use Rattle.rma_types.specs.declared.schedules.Delay.TheVariants.{None as NoDelay, End as EndDelay}
 use Rattle.rma_types.specs.declared.schedules.Delay.TheVariants.{Seeded as SeededDelay}
 use Rattle.rma_record.specs.declared.items.Item.{Item}
 use Rattle.rma_record.specs.declared.items.Item.TheVariants.{Issue}
-use Rattle.call_rules.specs.Actions.{Transfer}
+use Rattle.rma_types.specs.declared.actions.Transfer.{Transfer}
 use Rattle.call_rules.specs.Pieces.{pieces}
-use Rattle.call_rules.specs.Transfers.{is_ordered_kind}
 use Rattle.lawful_runs.specs.Accesses.{issued_by}
 use Rattle.lawful_runs.specs.Items.{is_touch}
 use Rattle.lawful_runs.specs.Stages.{Stage, calls_at}
 use Rattle.lawful_runs.specs.TouchLaw.{is_local, elements_from}
-use Rattle.rank_laws.proofs.DataPaths.{its_transfer, no_pieces, get_last, remove_last}
+use Rattle.lawful_runs.proofs.TouchLaws.{local_is_unordered}
+use Rattle.rank_laws.proofs.DataPaths.{its_transfer, no_pieces}
 use Rattle.rank_laws.proofs.Inductions.{Keeps}
 use Rattle.rank_laws.proofs.Lists.{each_of, none_passes}
 use Rattle.rank_laws.proofs.Moves.{Point, Entering, OnlyEntry, LookUp, Arriving, Leaving, IsPlainItem, Issuing, Learns}
@@ -115,15 +114,6 @@ makes_by stage agent call t access issuing false e = record {
   single = tt;
 }
 
--- an access that is touched at once gives way to no pending one
-local_is_unordered : (kind : Kind) → is_local kind ≡ true → is_ordered_kind kind ≡ false
-local_is_unordered Get e = refl
-local_is_unordered Put e = refl
-local_is_unordered (Acc op dtype) e = absurd (cc e)
-local_is_unordered (Cas dtype) e = absurd (cc e)
-local_is_unordered Load e = refl
-local_is_unordered Store e = refl
-
 local_gives_no_way : (later earlier : PendingAccess) → is_local later.access.kind ≡ true →
     gives_way later earlier ≡ false
 local_gives_no_way later earlier e = rw (local_is_unordered later.access.kind e) refl
@@ -168,7 +158,7 @@ whole_more stage agent call t access items lows after issuing once touches keeps
           once);
     } in
     subst (HasTouches stage.layout calls ((agent.log ++ Issue agent.at access ∷ []) ++ items))
-    (remove_last agent.pending one)
+    (last_removed agent.pending one)
     (touches_more stage.layout calls (agent.log ++ Issue agent.at access ∷ []) (agent.pending ++ one ∷ [])
     (length agent.pending) one items issued all)
 whole_more stage agent call t access items lows after issuing once touches keeps false e =

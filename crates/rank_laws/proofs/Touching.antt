@@ -7,18 +7,21 @@ use Rattle.std.specs.Option.{option_map_or}
 use Rattle.std.proofs.lemmas.Bool.Decides.{eqb_tells}
 use Rattle.std.proofs.lemmas.Grind.{flat_map-append}
 use Rattle.std.proofs.lemmas.Option.{slice_get_within}
+use Rattle.list_laws.proofs.Each.{each_append, each_at}
 use Rattle.rma_types.specs.declared.calls.Call.{Call}
 use Rattle.rma_record.specs.declared.items.Item.{Item}
 use Rattle.rma_record.specs.declared.items.Item.TheVariants.{Issue, Null, Touch, Flush, Request, Entry, Tested, Refused}
 use Rattle.rma_record.specs.declared.items.Item.TheVariants.{Ended}
 use Rattle.call_rules.specs.declared.elements.Piece.{Piece}
-use Rattle.call_rules.specs.Actions.{Transfer}
+use Rattle.rma_types.specs.declared.actions.Transfer.{Transfer}
 use Rattle.call_rules.specs.Pieces.{pieces}
 use Rattle.lawful_runs.specs.Accesses.{transfer_at, issued_by, issued_at, issued_from, pieces_of}
 use Rattle.lawful_runs.specs.Items.{is_touch}
 use Rattle.lawful_runs.specs.Stages.{Stage}
 use Rattle.lawful_runs.specs.TouchLaw.{touch_of, touched_by, elements_from, issue_touched, issues_touched}
-use Rattle.rank_laws.proofs.Lists.{each_append, place_in, get_front, get_rest, each_at}
+use Rattle.lawful_runs.proofs.ItemLaws.{plain_touches_nothing}
+use Rattle.lawful_runs.proofs.TouchLaws.{touch_of_own, touched_joined}
+use Rattle.rank_laws.proofs.Lists.{place_in, get_front, get_rest}
 use Rattle.rank_laws.specs.Deliveries.{AreTouches, AreTouchesOf}
 use Rattle.rank_laws.specs.Fronts.{Lows}
 use Rattle.rank_rules.specs.declared.pending.PendingAccess.{PendingAccess}
@@ -45,12 +48,6 @@ pub touches_of_own : (stage : Stage) (one : PendingAccess) (o : Option Transfer)
     AllByRecursion (IsTouchOf one.index) items
 touches_of_own stage one None lows items after h = subst (AllByRecursion (IsTouchOf one.index)) (sym h.0) tt
 touches_of_own stage one (Some t) lows items after h = touches_own t one.index 0 _ lows items after h
-
--- a touch of this Issue gives its element and its cell
-touch_of_own : (index element cell place bits : ℕ) → touch_of index (Touch index element cell place bits) ≡
-    (element, cell) ∷ []
-touch_of_own index element cell place bits =
-    elim (eqb_tells index index) [ inl same ↦ rw same.0 refl | inr not ↦ absurd (not.1 refl) ]
 
 pub touches_elements : (t : Transfer) (issue element : ℕ) (places : List Piece) (lows : Lows) (items : List Item)
     (after : Lows) → AreTouches t issue element places lows items after →
@@ -99,22 +96,6 @@ pub touched_by_other : (index issue : ℕ) (items : List Item) → issue ≢ ind
 touched_by_other index issue [] other all = refl
 touched_by_other index issue (item ∷ items) other all =
     rw (touch_is_other index issue item other all.0) (touched_by_other index issue items other all.1)
-
-pub touched_joined : (index : ℕ) (xs ys : List Item) → touched_by index (xs ++ ys) ≡ touched_by index xs
-    ++ touched_by index ys
-touched_joined index xs ys = flat_map-append (touch_of index) xs ys
-
--- an item that is no touch touches nothing
-pub plain_touches_nothing : (index : ℕ) (item : Item) → is_touch item ≡ false → touch_of index item ≡ []
-plain_touches_nothing index (Touch of element cell place bits) e = absurd (cc e)
-plain_touches_nothing index (Issue number access) e = refl
-plain_touches_nothing index (Null number) e = refl
-plain_touches_nothing index (Flush number) e = refl
-plain_touches_nothing index (Request number) e = refl
-plain_touches_nothing index (Entry number place step) e = refl
-plain_touches_nothing index (Tested number seen) e = refl
-plain_touches_nothing index (Refused number class seen) e = refl
-plain_touches_nothing index Ended e = refl
 
 -- nor does it name an Issue that is touched
 pub plain_names_nothing : (item : Item) → is_touch item ≡ false → issue_touched item ≡ []

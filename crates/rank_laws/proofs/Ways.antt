@@ -1,12 +1,13 @@
 -- The access in which a way ends gives way to none.
-use Rattle.std.proofs.Common.{◌≡◌, ℕ, zero, suc, ◌<◌, ◌≤◌, Bool, true, false, cond, List, [], ◌∷◌, length, take, Option}
+use Rattle.std.proofs.Common.{◌≡◌, ℕ, zero, suc, ◌<◌, ◌≤◌, Bool, true, false, cond, List, [], ◌∷◌, length, Option}
 use Rattle.std.proofs.Common.{Some, None, refl, arith}
-use Rattle.std.specs.Prelude.{slice_get, nat_lt}
+use Rattle.std.specs.Prelude.{nat_lt}
 use Rattle.std.specs.List.{position, position_or_len}
 use Rattle.std.specs.Option.{option_map_or}
 use Rattle.std.proofs.lemmas.Bool.{ltb-true}
-use Rattle.rank_rules.specs.Pending.{gives_way, first_in_way, way_in, way}
+use Rattle.rank_rules.specs.Pending.{first_in_way, way_in, way}
 use Rattle.rank_rules.specs.declared.pending.PendingAccess.{PendingAccess}
+use Rattle.rank_rules.proofs.PendingLaws.{gives_way_to_earlier}
 
 -- a place is within its list
 pub position_within : {X : Type 0} (test : X → Bool) (xs : List X) (at : ℕ) → position test xs ≡ Some at →
@@ -19,23 +20,6 @@ position_within test xs at e =
       | false ↦ λ t none. absurd (cc none)
     ] refl e
 
-take_within : {X : Type 0} (n : ℕ) (xs : List X) → length (take n xs) ≤ n
-take_within zero xs = omega arith
-take_within (suc n) [] = omega arith
-take_within (suc n) (x ∷ xs) = let h = take_within n xs in omega arith
-
--- an access gives way to an earlier one alone
-pub leads_back : (pending : List PendingAccess) (at earlier : ℕ) → first_in_way pending at ≡ Some earlier →
-    earlier < at
-leads_back pending at earlier e =
-    elim (slice_get pending at) as (λ (o : Option PendingAccess). option_map_or
-    (λ (one : PendingAccess). position (gives_way one) (take at pending)) o None ≡ Some earlier → earlier < at) [
-      | None ↦ λ none. absurd (cc none)
-      | Some one ↦ λ some.
-          let inside = position_within (gives_way one) (take at pending) earlier some in
-          let few = take_within at pending in omega arith
-    ] e
-
 -- as many steps as the place are enough
 way_ends : (steps : ℕ) (pending : List PendingAccess) (at : ℕ) → at ≤ steps →
     first_in_way pending (way_in steps pending at) ≡ None
@@ -43,13 +27,14 @@ way_ends zero pending at h =
     elim (first_in_way pending at) as (λ (o : Option ℕ). first_in_way pending at ≡ o →
     first_in_way pending at ≡ None) [
       | None ↦ λ e. e
-      | Some earlier ↦ λ e. let less = leads_back pending at earlier e in absurd (omega arith)
+      | Some earlier ↦ λ e. let less = gives_way_to_earlier pending at earlier e in absurd (omega arith)
     ] refl
 way_ends (suc steps) pending at h =
     elim (first_in_way pending at) as (λ (o : Option ℕ). first_in_way pending at ≡ o →
     first_in_way pending (option_map_or (way_in steps pending) o at) ≡ None) [
       | None ↦ λ e. e
-      | Some earlier ↦ λ e. let less = leads_back pending at earlier e in way_ends steps pending earlier (omega arith)
+      | Some earlier ↦ λ e. let less = gives_way_to_earlier pending at earlier e in way_ends steps pending earlier
+          (omega arith)
     ] refl
 
 -- the end of a way is free

@@ -17,7 +17,7 @@ first_lows cell = 0
 abbrev pub AreAtMost : Lows → Lows → Type 0
 AreAtMost lows after = (cell : ℕ) → lows cell ≤ after cell
 
--- an entry of the board, and the front that its rank gave with it: nothing that the rank touches later lies below it
+-- an entry of the board, and its front: where an edge leads from it, nothing that its rank touches later lies below it
 pub record Put : Type 0 where
   pub row : Row
   pub front : Lows
@@ -46,10 +46,17 @@ AreMetFrom ranks before (put ∷ puts) event lows =
 abbrev pub MeetsEdges : ℕ → List Put → Row → Lows → Type 0
 MeetsEdges ranks before row lows = AreMetFrom ranks [] before (event_after ranks (rows_put before) row) lows
 
--- The rank puts these entries in one step, after those before. The front of each lies between the lows before it and
--- those after it, which meet each edge to it.
+-- where an edge leads from the event, the front lies between the lows before it and those after it
+abbrev pub LiesBetween : Event → (lows front after : Lows) → Type 0
+LiesBetween event lows front after =
+    (later : Event) → IsTrue (is_edge event later) → AreAtMost lows front × AreAtMost front after
+
+-- The rank puts these entries in one step, after those before. The front of each from which an edge leads lies between
+-- the lows before it and those after it, which meet each edge to it. Lows never fall.
 abbrev pub ArePut : ℕ → List Put → Lows → List Put → Lows → Type 0
 ArePut ranks before lows [] after = AreAtMost lows after
 ArePut ranks before lows (put ∷ puts) after =
-    (middle : Lows) × AreAtMost lows put.front × AreAtMost put.front middle × MeetsEdges ranks before put.row middle
+    (middle : Lows) × AreAtMost lows middle
+    × LiesBetween (event_after ranks (rows_put before) put.row) lows put.front middle
+    × MeetsEdges ranks before put.row middle
     × ArePut ranks (before ++ put ∷ []) middle puts after

@@ -4,10 +4,16 @@ use Rattle.std.specs.Option.{option_map_or}
 use Rattle.rma_types.specs.declared.accesses.Access.{Access}
 use Rattle.rma_types.specs.declared.calls.Call.{Call}
 use Rattle.rma_types.specs.declared.calls.Flavor.TheVariants.{Dynamic}
-use Rattle.call_rules.specs.Actions.{Action, Creates, Frees, Attaches, Detaches, Synchronises, Meets, Moves}
-use Rattle.call_rules.specs.Actions.{EndsRequest, Synchronisation, Fences, Posts, Starts, Completes, Waits, Locks}
-use Rattle.call_rules.specs.Actions.{Unlocks, Flushes, Syncs, Transfer, Target, Own, Null, Named, action_of}
-use Rattle.call_rules.specs.Actions.{transfer_of}
+use Rattle.rma_types.specs.declared.actions.Action.{Action}
+use Rattle.rma_types.specs.declared.actions.Action.TheVariants.{Creates, Frees, Attaches, Detaches, Synchronises, Meets}
+use Rattle.rma_types.specs.declared.actions.Action.TheVariants.{Moves, EndsRequest}
+use Rattle.rma_types.specs.declared.actions.Synchronisation.{Synchronisation}
+use Rattle.rma_types.specs.declared.actions.Synchronisation.TheVariants.{Fences, Posts, Starts, Completes, Waits, Locks}
+use Rattle.rma_types.specs.declared.actions.Synchronisation.TheVariants.{Unlocks, Flushes, Syncs}
+use Rattle.rma_types.specs.declared.actions.Target.{Target}
+use Rattle.rma_types.specs.declared.actions.Transfer.{Transfer}
+use Rattle.rma_types.specs.declared.actions.Target.TheVariants.{Own, Null, Named}
+use Rattle.rma_types.specs.Actions.{action_of, transfer_of}
 use Rattle.call_rules.specs.Transfers.{rank_reached, bytes_of}
 use Rattle.rank_rules.specs.Windows.{Window, RankWindows, window_of_name, is_same_flavor}
 use Rattle.rank_rules.specs.WindowTests.{address_of}

@@ -8,9 +8,14 @@ use Rattle.rma_types.specs.declared.calls.Asserts.{Asserts}
 use Rattle.rma_types.specs.declared.classes.Class.{Class}
 use Rattle.rma_types.specs.declared.classes.Class.TheVariants.{Count, Op, Rank, Assert, Sync}
 use Rattle.rma_types.specs.Datatypes.{is_allowed}
-use Rattle.call_rules.specs.Actions.{Action, Creates, Frees, Attaches, Detaches, Synchronises, Meets, Moves}
-use Rattle.call_rules.specs.Actions.{EndsRequest, Synchronisation, Fences, Posts, Starts, Completes, Waits, Locks}
-use Rattle.call_rules.specs.Actions.{Unlocks, Flushes, Syncs, Target, Own, Null, Named}
+use Rattle.rma_types.specs.declared.actions.Action.{Action}
+use Rattle.rma_types.specs.declared.actions.Action.TheVariants.{Creates, Frees, Attaches, Detaches, Synchronises, Meets}
+use Rattle.rma_types.specs.declared.actions.Action.TheVariants.{Moves, EndsRequest}
+use Rattle.rma_types.specs.declared.actions.Synchronisation.{Synchronisation}
+use Rattle.rma_types.specs.declared.actions.Synchronisation.TheVariants.{Fences, Posts, Starts, Completes, Waits, Locks}
+use Rattle.rma_types.specs.declared.actions.Synchronisation.TheVariants.{Unlocks, Flushes, Syncs}
+use Rattle.rma_types.specs.declared.actions.Target.{Target}
+use Rattle.rma_types.specs.declared.actions.Target.TheVariants.{Own, Null, Named}
 use Rattle.call_rules.specs.Ranks.{is_rank, names_twice}
 use Rattle.rank_rules.specs.Classes.{Test, first_class}
 use Rattle.rank_rules.specs.Epochs.{Epochs, epochs_at, is_fence_used, may_synchronise, may_free, may_move}

@@ -2,9 +2,15 @@
 use Rattle.std.specs.Prelude.{ℕ, Bool, true, false, not, ◌&&◌, ◌||◌, ◌==◌, if◌then◌else◌, List, [], ◌∷◌, ◌++◌, is_some}
 use Rattle.std.specs.Prelude.{Option, Some, None, replicate, slice_index_or, slice_set, ℤ}
 use Rattle.std.specs.List.{filter}
-use Rattle.call_rules.specs.Actions.{Action, Creates, Frees, Attaches, Detaches, Synchronises, Meets, Moves}
-use Rattle.call_rules.specs.Actions.{EndsRequest, Synchronisation, Fences, Posts, Starts, Completes, Waits, Locks}
-use Rattle.call_rules.specs.Actions.{Unlocks, Flushes, Syncs, Transfer, Target, Own, Null, Named}
+use Rattle.rma_types.specs.declared.actions.Action.{Action}
+use Rattle.rma_types.specs.declared.actions.Action.TheVariants.{Creates, Frees, Attaches, Detaches, Synchronises, Meets}
+use Rattle.rma_types.specs.declared.actions.Action.TheVariants.{Moves, EndsRequest}
+use Rattle.rma_types.specs.declared.actions.Synchronisation.{Synchronisation}
+use Rattle.rma_types.specs.declared.actions.Synchronisation.TheVariants.{Fences, Posts, Starts, Completes, Waits, Locks}
+use Rattle.rma_types.specs.declared.actions.Synchronisation.TheVariants.{Unlocks, Flushes, Syncs}
+use Rattle.rma_types.specs.declared.actions.Target.{Target}
+use Rattle.rma_types.specs.declared.actions.Transfer.{Transfer}
+use Rattle.rma_types.specs.declared.actions.Target.TheVariants.{Own, Null, Named}
 use Rattle.call_rules.specs.Ranks.{natural, members_of, is_member}
 
 -- the access epoch in which a rank is: none; that of a fence, before and after its first RMA call; that of a start,

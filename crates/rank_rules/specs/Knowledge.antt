@@ -11,7 +11,7 @@ use Rattle.rma_types.specs.declared.scripts.Part.{Part}
 use Rattle.rma_record.specs.declared.items.Item.{Item}
 use Rattle.rma_record.specs.declared.items.Item.TheVariants.{Issue, Null, Touch, Flush, Request, Entry, Tested, Refused}
 use Rattle.rma_record.specs.declared.items.Item.TheVariants.{Ended}
-use Rattle.call_rules.specs.Actions.{action_of, transfer_of}
+use Rattle.rma_types.specs.Actions.{action_of, transfer_of}
 use Rattle.rank_rules.specs.Classes.{least_class}
 use Rattle.rank_rules.specs.Epochs.{Epochs, first_epochs, epochs_after}
 use Rattle.rank_rules.specs.EpochTests.{epoch_class}

@@ -5,9 +5,13 @@ use Rattle.std.specs.List.{position}
 use Rattle.std.specs.Option.{option_map_or}
 use Rattle.rma_types.specs.declared.accesses.Access.{Access}
 use Rattle.rma_types.specs.declared.calls.Call.{Call}
-use Rattle.call_rules.specs.Actions.{Action, Creates, Frees, Attaches, Detaches, Synchronises, Meets, Moves}
-use Rattle.call_rules.specs.Actions.{EndsRequest, Synchronisation, Fences, Posts, Starts, Completes, Waits, Locks}
-use Rattle.call_rules.specs.Actions.{Unlocks, Flushes, Syncs, action_of}
+use Rattle.rma_types.specs.declared.actions.Action.{Action}
+use Rattle.rma_types.specs.declared.actions.Action.TheVariants.{Creates, Frees, Attaches, Detaches, Synchronises, Meets}
+use Rattle.rma_types.specs.declared.actions.Action.TheVariants.{Moves, EndsRequest}
+use Rattle.rma_types.specs.declared.actions.Synchronisation.{Synchronisation}
+use Rattle.rma_types.specs.declared.actions.Synchronisation.TheVariants.{Fences, Posts, Starts, Completes, Waits, Locks}
+use Rattle.rma_types.specs.declared.actions.Synchronisation.TheVariants.{Unlocks, Flushes, Syncs}
+use Rattle.rma_types.specs.Actions.{action_of}
 use Rattle.call_rules.specs.Ranks.{natural}
 use Rattle.call_rules.specs.Transfers.{is_ordered_kind}
 use Rattle.rank_rules.specs.Requests.{Requests, maker_of}

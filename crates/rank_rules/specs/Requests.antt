@@ -4,8 +4,9 @@ use Rattle.std.specs.Prelude.{None}
 use Rattle.std.specs.Option.{option_map_or}
 use Rattle.rma_types.specs.declared.classes.Class.{Class}
 use Rattle.rma_types.specs.declared.classes.Class.TheVariants.{Request}
-use Rattle.call_rules.specs.Actions.{Action, Creates, Frees, Attaches, Detaches, Synchronises, Meets, Moves}
-use Rattle.call_rules.specs.Actions.{EndsRequest}
+use Rattle.rma_types.specs.declared.actions.Action.{Action}
+use Rattle.rma_types.specs.declared.actions.Action.TheVariants.{Creates, Frees, Attaches, Detaches, Synchronises, Meets}
+use Rattle.rma_types.specs.declared.actions.Action.TheVariants.{Moves, EndsRequest}
 use Rattle.rank_rules.specs.Classes.{Test, first_class}
 
 -- for each of the names q0 to q63, the number of the call that made the live request of that name, if there is one

@@ -8,6 +8,8 @@ use Rattle.std.proofs.lemmas.Bool.{eq-eqb, lt-ltb, le-ltb, ltb-true, ltb-false, 
 use Rattle.std.proofs.lemmas.List.{append-nil}
 use Rattle.std.proofs.lemmas.List.Sums.{sum_by-cons, sum_by-append}
 use Rattle.std.proofs.lemmas.Option.{slice_get_within}
+use Rattle.list_laws.proofs.Lists.{get_append}
+use Rattle.list_laws.proofs.Members.{In, here, there, in_append_left, in_append_right}
 use Rattle.rma_types.specs.declared.accesses.Step.{Step}
 use Rattle.rma_types.specs.declared.calls.Call.{Call}
 use Rattle.rma_types.specs.declared.schedules.Delay.{Delay}
@@ -25,8 +27,8 @@ use Rattle.lawful_runs.specs.Items.{is_touch}
 use Rattle.lawful_runs.specs.LawfulRun.{IsLawful}
 use Rattle.lawful_runs.specs.Logs.{Named, named_from, named_in, named_logs, named_items, log_of, calls_of}
 use Rattle.lawful_runs.specs.Logs.{is_named_entry_at, is_some_entry, entry_at, row_by, row_of, rows_of}
+use Rattle.lawful_runs.proofs.LogLaws.{named_joined}
 use Rattle.order_laws.proofs.Events.{places_ascend}
-use Rattle.order_laws.proofs.Members.{In, here, there, in_append_left, in_append_right}
 use Rattle.read_laws.proofs.Counts.{total, total_joined, total_of_all, in_counts, alone, numbers_split, first_entries}
 use Rattle.read_laws.proofs.Counts.{found_where, of_rank_total, rows_total, is_below, front_total}
 use Rattle.read_laws.proofs.Touches.{named_at}
@@ -146,19 +148,6 @@ not_below most (Tested number seen) k = refl
 not_below most (Refused number class seen) k = refl
 not_below most Ended k = refl
 
-named_joined : (rank first : ℕ) (xs ys : List Item) →
-    named_from rank first (xs ++ ys) ≡ named_from rank first xs ++ named_from rank (first + length xs) ys
-named_joined rank first [] ys = let same : first ≡ first + 0 = omega arith in ap (λ n. named_from rank n ys) same
-named_joined rank first (x ∷ xs) ys =
-    let same : first + 1 + length xs ≡ first + suc (length xs) = omega arith in
-    ap (λ l. record { id = record { rank = rank; index = first }; item = x } ∷ l)
-    (named_joined rank (first + 1) xs ys ∙ ap (λ n. named_from rank (first + 1) xs ++ named_from rank n ys) same)
-
-get_front : {X : Type 0} (xs ys : List X) (k : ℕ) (x : X) → slice_get xs k ≡ Some x → slice_get (xs ++ ys) k ≡ Some x
-get_front [] ys k x e = absurd (cc e)
-get_front (y ∷ xs) ys zero x e = e
-get_front (y ∷ xs) ys (suc k) x e = get_front xs ys k x e
-
 get_back : {X : Type 0} (xs ys : List X) (k : ℕ) → slice_get (xs ++ ys) (length xs + k) ≡ slice_get ys k
 get_back [] ys k = let same : 0 + k ≡ k = omega arith in ap (slice_get ys) same
 get_back (x ∷ xs) ys k = let same : suc (length xs) + k ≡ suc (length xs + k) = omega arith in
@@ -258,7 +247,7 @@ module _ (script : Script) (delay : Delay) (run : Run) (lawful : IsLawful script
 
       earlier : (k : ℕ) (n q : ℕ) (s : Step) → slice_get xs k ≡ Some (Entry n q s) → q < place
       earlier k n q s e = places_ascend (log_of run rank) k (length xs) n number q place s step moments
-          (ap (λ l. slice_get l k) log ∙ get_front xs (Entry number place step ∷ ys) k (Entry n q s) e) at
+          (ap (λ l. slice_get l k) log ∙ get_append xs (Entry number place step ∷ ys) k (Entry n q s) e) at
           (slice_get_within xs k (Entry n q s) e)
 
       later_place : (k : ℕ) (n q : ℕ) (s : Step) → slice_get (Entry number place step ∷ ys) k ≡ Some (Entry n q s) →

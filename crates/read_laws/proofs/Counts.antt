@@ -6,17 +6,18 @@ use Rattle.std.specs.List.{find, flat_map, count_by}
 use Rattle.std.specs.Option.{option_map_or}
 use Rattle.std.proofs.lemmas.Bool.{cases_eq, cases_lt, eq-eqb, ne_eqb, lt-ltb, le-ltb}
 use Rattle.std.proofs.lemmas.List.Sums.{sum_by-append}
+use Rattle.list_laws.proofs.Members.{In, here, there}
+use Rattle.list_laws.proofs.Tests.{count_cons}
 use Rattle.rma_types.specs.declared.scripts.Script.{Script}
 use Rattle.rma_record.specs.declared.items.Item.{Item}
 use Rattle.rma_record.specs.declared.items.Item.TheVariants.{Issue, Null, Touch, Flush, Request, Entry, Tested, Refused}
 use Rattle.rma_record.specs.declared.items.Item.TheVariants.{Ended}
 use Rattle.rma_record.specs.declared.runs.Run.{Run}
+use Rattle.call_rules.proofs.NumbersFrom.{numbers_last}
 use Rattle.board_rules.specs.Entries.{Row}
 use Rattle.call_rules.specs.Pieces.{numbers_from}
 use Rattle.lawful_runs.specs.Logs.{Named, named_from, named_in, named_logs, named_items, log_of, is_entry_at}
 use Rattle.lawful_runs.specs.Logs.{is_named_entry_at, entry_at, row_of}
-use Rattle.order_laws.proofs.Members.{In, here, there}
-use Rattle.read_laws.proofs.Folds.{counted}
 
 -- ---- totals
 
@@ -58,10 +59,10 @@ count_flat p f (x ∷ xs) =
 -- one that passes is counted
 pub in_counts : {X : Type 0} (p : X → Bool) {x : X} {xs : List X} → In x xs → p x ≡ true → 1 ≤ count_by p xs
 in_counts p {x} {xs} (here {xs = ys}) passes =
-    let split = counted p x ys in
+    let split = count_cons p x ys in
     let one : ◌≡◌ {A = ℕ} (cond (p x) 1 0) 1 = ap (λ b. cond b 1 0) passes in omega (arith, split, one)
 in_counts p (there {y = z} {xs = ys} m) passes =
-    let split = counted p z ys in
+    let split = count_cons p z ys in
     let rest = in_counts p m passes in omega (arith, split, rest)
 
 none_counts : {X : Type 0} (p : X → Bool) (g : X → ℕ) (xs : List X) → count_by p xs ≡ 0 →
@@ -80,7 +81,7 @@ one_counts : {X : Type 0} (p : X → Bool) (g : X → ℕ) (xs : List X) (x : X)
     total (λ y. cond (p y) (g y) 0) xs ≡ g x
 one_counts p g [] x one found = absurd (omega (arith, one))
 one_counts {X} p g (y ∷ ys) x one found =
-    by_test (p y) (counted p y ys) refl found (λ later. one_counts p g ys x later) (λ none. none_counts p g ys none)
+    by_test (p y) (count_cons p y ys) refl found (λ later. one_counts p g ys x later) (λ none. none_counts p g ys none)
   where
     by_test : (b : Bool) → count_by p (y ∷ ys) ≡ cond (p y) 1 0 + count_by p ys → p y ≡ b →
         cond b (Some y) (find p ys) ≡ Some x →
@@ -105,7 +106,7 @@ pub alone : {X : Type 0} (p : X → Bool) (xs : List X) (x y : X) → count_by p
     p y ≡ true → x ≡ y
 alone p [] x y once found m passes = elim m [ ]
 alone {X} p (z ∷ zs) x y once found m passes =
-    by_test (p z) (counted p z zs) refl found (in_head m) (λ few later n. alone p zs x y few later n passes)
+    by_test (p z) (count_cons p z zs) refl found (in_head m) (λ few later n. alone p zs x y few later n passes)
   where
     by_test : (b : Bool) → count_by p (z ∷ zs) ≡ cond (p z) 1 0 + count_by p zs → p z ≡ b →
         cond b (Some z) (find p zs) ≡ Some x →
@@ -121,12 +122,6 @@ alone {X} p (z ∷ zs) x y once found m passes =
         rest (omega (arith, split, counts, once)) found n
 
 -- ---- numbers
-
-numbers_last : (first count : ℕ) → numbers_from first (suc count) ≡ numbers_from first count ++ (first + count) ∷ []
-numbers_last first zero = let same : first ≡ first + 0 = omega arith in ap (λ n. n ∷ []) same
-numbers_last first (suc count) =
-    let same : first + 1 + count ≡ first + suc count = omega arith in
-    ap (λ l. first ∷ l) (numbers_last (first + 1) count ∙ ap (λ n. numbers_from (first + 1) count ++ n ∷ []) same)
 
 pub numbers_split : (first count k : ℕ) → k < count →
     numbers_from first count ≡ numbers_from first k ++ (first + k) ∷ numbers_from (first + k + 1) (count - k - 1)
@@ -228,7 +223,7 @@ entries_last items most =
 -- what is found where one is counted
 pub found_where : {X : Type 0} (p : X → Bool) (xs : List X) → 1 ≤ count_by p xs → (x : X) × (find p xs ≡ Some x)
 found_where p [] some = absurd (omega (arith, some))
-found_where {X} p (x ∷ xs) some = by_test (p x) (counted p x xs) refl (λ later. found_where p xs later)
+found_where {X} p (x ∷ xs) some = by_test (p x) (count_cons p x xs) refl (λ later. found_where p xs later)
   where
     by_test : (b : Bool) → count_by p (x ∷ xs) ≡ cond (p x) 1 0 + count_by p xs → p x ≡ b →
         (1 ≤ count_by p xs → (y : X) × (find p xs ≡ Some y)) → (y : X) × (cond b (Some x) (find p xs) ≡ Some y)

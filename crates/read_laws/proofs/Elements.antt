@@ -4,6 +4,7 @@ use Rattle.std.proofs.Common.{sym, ◌∙◌, subst, arith}
 use Rattle.std.specs.Prelude.{slice_get}
 use Rattle.std.specs.Option.{option_map_or}
 use Rattle.std.proofs.lemmas.Bool.{cases_eq, eqb-true}
+use Rattle.list_laws.proofs.Members.{In, filter_in, in_contains}
 use Rattle.rma_types.specs.declared.accesses.Id.{Id}
 use Rattle.rma_types.specs.declared.accesses.Kind.{Kind}
 use Rattle.rma_types.specs.declared.accesses.Kind.TheVariants.{Get as GetKind, Put as PutKind, Acc as AccKind}
@@ -17,7 +18,7 @@ use Rattle.rma_record.specs.declared.items.Item.TheVariants.{Touch}
 use Rattle.rma_record.specs.declared.runs.Run.{Run}
 use Rattle.call_rules.specs.declared.elements.Change.{Change}
 use Rattle.call_rules.specs.declared.elements.Piece.{Piece}
-use Rattle.call_rules.specs.Actions.{Transfer}
+use Rattle.rma_types.specs.declared.actions.Transfer.{Transfer}
 use Rattle.call_rules.specs.Layout.{layout}
 use Rattle.call_rules.specs.Transfers.{is_no_op}
 use Rattle.call_rules.specs.WellFormed.{IsWellFormed}
@@ -33,7 +34,6 @@ use Rattle.order_rules.specs.Findings.{findings}
 use Rattle.order_rules.specs.OrderedReads.{TouchesAgree, updates_of, is_get_or_load}
 use Rattle.order_rules.specs.Roles.{Role, RmaUpdate, RmaRead, Store, Load, role_of, is_rma_read}
 use Rattle.order_rules.specs.Rules.{accumulation_of}
-use Rattle.order_laws.proofs.Members.{In, filter_in, in_contains}
 use Rattle.order_laws.proofs.Order.{transitive}
 use Rattle.order_laws.specs.FindingLaws.{is_update as is_update_role}
 use Rattle.read_laws.proofs.Meetings.{is_local_role, meeting}

@@ -6,6 +6,8 @@ use Rattle.std.specs.Prelude.{slice_get}
 use Rattle.std.specs.List.{count_by, flat_map, AllByRecursion}
 use Rattle.std.specs.Option.{option_map_or}
 use Rattle.std.proofs.lemmas.List.{append-nil}
+use Rattle.list_laws.proofs.Each.{AllFrom, each_append, each_at}
+use Rattle.list_laws.proofs.Options.{some_and}
 use Rattle.rma_types.specs.declared.accesses.Step.{Step}
 use Rattle.rma_types.specs.declared.accesses.Step.TheVariants.{Arrive}
 use Rattle.rma_types.specs.declared.calls.Call.{Call}
@@ -18,7 +20,7 @@ use Rattle.rma_record.specs.declared.items.Item.{Item}
 use Rattle.rma_record.specs.declared.items.Item.TheVariants.{Entry, Refused, Ended}
 use Rattle.rma_record.specs.declared.runs.Run.{Run}
 use Rattle.board_rules.specs.Entries.{Row}
-use Rattle.call_rules.specs.Actions.{action_of}
+use Rattle.rma_types.specs.Actions.{action_of}
 use Rattle.call_rules.specs.Layout.{layout}
 use Rattle.call_rules.specs.WellFormed.{IsWellFormed}
 use Rattle.lawful_runs.specs.BoardLaw.{AreAllowed}
@@ -29,12 +31,12 @@ use Rattle.lawful_runs.specs.Logs.{Named, log_of, calls_of, entries_of, row_by, 
 use Rattle.lawful_runs.specs.Stages.{RankOfRun, known_at, shapes_in, first_knowledge, stage_of}
 use Rattle.rank_rules.specs.Knowledge.{Knowledge, own_class, learn, known_after, known_after_call, known_after_number}
 use Rattle.rank_rules.specs.Knowledge.{accepted_by}
-use Rattle.order_laws.proofs.Events.{AllFrom, IsEntryOf, entries_placed}
+use Rattle.lawful_runs.proofs.LogLaws.{IsEntryOf}
+use Rattle.order_laws.proofs.Events.{entries_placed}
 use Rattle.read_laws.proofs.Begun.{entered, rows_in, rows_untouched}
-use Rattle.read_laws.proofs.Firsts.{some_and, AreOfOne, Single, Double, one_call}
+use Rattle.read_laws.proofs.Firsts.{AreOfOne, Single, Double, one_call}
 use Rattle.read_laws.proofs.Known.{AreEntered}
 use Rattle.read_laws.proofs.Leaves.{with_touches}
-use Rattle.read_laws.proofs.Lists.{each_append, each_get}
 use Rattle.step_laws.proofs.Creations.{HasRoom, IsSoundRow, own_has_room}
 use Rattle.step_laws.proofs.Flavors.{AreRegular}
 use Rattle.step_laws.proofs.Memory.{space_has_memory}
@@ -192,7 +194,7 @@ module _ (script : Script) (delay : Delay) (run : Run) (formed : IsWellFormed sc
         record {
           inside = e.within;
           here = e.of_rank;
-          room = each_get (EntryHasRoom script x.id.rank) (log_of run x.id.rank) x.id.index x.item
+          room = each_at (EntryHasRoom script x.id.rank) (log_of run x.id.rank) x.id.index x.item
               (log_room x.id.rank e.within) e.logged
               e.number at e.step e.is e.call e.of_rank;
         },

@@ -6,6 +6,7 @@ use Rattle.std.specs.List.{list_any}
 use Rattle.std.specs.Option.{option_map_or}
 use Rattle.std.proofs.lemmas.Bool.{ne_eqb}
 use Rattle.std.proofs.lemmas.List.{append-nil}
+use Rattle.list_laws.proofs.Options.{some_and}
 use Rattle.rma_types.specs.declared.accesses.Step.{Step}
 use Rattle.rma_types.specs.declared.accesses.Step.TheVariants.{Arrive, Leave, One}
 use Rattle.rma_types.specs.declared.calls.Call.{Call}
@@ -21,12 +22,6 @@ use Rattle.rank_rules.specs.Courses.{Course, OneNull, OneIssue, LookUpAndIssue, 
 use Rattle.rank_rules.specs.Courses.{EntryOrTested, OneEntry, course_of, access_of}
 use Rattle.rank_rules.specs.Knowledge.{Knowledge, own_class}
 use Rattle.rma_types.specs.declared.accesses.Access.{Access}
-
--- ---- options
-
-pub some_and : {X : Type 0} {P : X → Type 0} (o : Option X) → IsSomeAnd o P → (x : X) × (o ≡ Some x) × P x
-some_and None h = absurd h
-some_and (Some x) h = (x, refl, h)
 
 -- ---- the items of one call
 

@@ -4,12 +4,12 @@ use Rattle.std.proofs.Common.{◌∷◌, Option, Some, None, refl, ap, sym, ◌�
 use Rattle.std.specs.List.{filter, find, count_by}
 use Rattle.std.specs.Option.{option_map_or}
 use Rattle.std.proofs.lemmas.Bool.{cases_lt, eqb-true}
-use Rattle.std.proofs.lemmas.List.Sums.{sum_by-cons}
+use Rattle.list_laws.proofs.Members.{In, here, there}
+use Rattle.list_laws.proofs.Tests.{count_cons}
 use Rattle.rma_types.specs.Datatypes.{size_of}
 use Rattle.call_rules.specs.declared.elements.Change.{Change}
 use Rattle.lawful_runs.specs.Accesses.{Touching}
 use Rattle.lawful_runs.specs.Cells.{has_place, bits_after, state}
-use Rattle.order_laws.proofs.Members.{In, here, there}
 use Rattle.read_laws.proofs.Bytes.{byte_of, DoAgree}
 use Rattle.read_laws.proofs.Changes.{IsInCell, apart_stays, change_agrees}
 
@@ -18,9 +18,6 @@ use Rattle.read_laws.proofs.Changes.{IsInCell, apart_stays, change_agrees}
 -- an element that passes a test, or none
 abbrev pub kept_if : {X : Type 0} → Bool → X → Option X
 kept_if b x = cond b (Some x) None
-
-pub counted : {X : Type 0} (p : X → Bool) (x : X) (xs : List X) → count_by p (x ∷ xs) ≡ cond (p x) 1 0 + count_by p xs
-counted p x xs = sum_by-cons (λ y. cond (p y) 1 0) x xs
 
 -- an element counts one or none
 one_counts : (b : Bool) (n whole : ℕ) → whole ≡ cond b 1 0 + n → b ≡ true → whole ≤ 1 → n ≡ 0
@@ -38,7 +35,7 @@ fails_where_none false n whole e none = (refl, omega arith)
 none_found : {X : Type 0} (q p : X → Bool) (xs : List X) → count_by q xs ≡ 0 → find q (filter p xs) ≡ None
 none_found q p [] none = refl
 none_found {X} q p (x ∷ xs) none =
-    let fails = fails_where_none (q x) (count_by q xs) (count_by q (x ∷ xs)) (counted q x xs) none in
+    let fails = fails_where_none (q x) (count_by q xs) (count_by q (x ∷ xs)) (count_cons q x xs) none in
     by_test (p x) fails.0 (none_found q p xs fails.1)
   where
     by_test : (b : Bool) → q x ≡ false → find q (filter p xs) ≡ None →
@@ -59,13 +56,13 @@ found_if {X} q p (x ∷ xs) once = by_tests (q x) (p x) refl refl (λ few. found
     by_tests true true is passes rest = ap (λ t. cond t (Some x) (find q (filter p xs))) is
         ∙ sym (ap (λ t. kept_if t x) passes)
     by_tests true false is fails rest =
-        none_found q p xs (one_counts (q x) (count_by q xs) (count_by q (x ∷ xs)) (counted q x xs) is once)
+        none_found q p xs (one_counts (q x) (count_by q xs) (count_by q (x ∷ xs)) (count_cons q x xs) is once)
         ∙ sym (ap (λ t. kept_if t x) fails)
     by_tests false true is passes rest =
         ap (λ t. cond t (Some x) (find q (filter p xs))) is
-        ∙ rest (rest_counts (q x) (count_by q xs) (count_by q (x ∷ xs)) (counted q x xs) once)
+        ∙ rest (rest_counts (q x) (count_by q xs) (count_by q (x ∷ xs)) (count_cons q x xs) once)
     by_tests false false is fails rest =
-        rest (rest_counts (q x) (count_by q xs) (count_by q (x ∷ xs)) (counted q x xs) once)
+        rest (rest_counts (q x) (count_by q xs) (count_by q (x ∷ xs)) (count_cons q x xs) once)
 
 pub find_in : {X : Type 0} (q : X → Bool) (xs : List X) (x : X) → find q xs ≡ Some x → In x xs × (q x ≡ true)
 find_in q [] x e = absurd (cc e)

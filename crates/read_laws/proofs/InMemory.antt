@@ -6,6 +6,8 @@ use Rattle.std.specs.List.{AllByRecursion}
 use Rattle.std.specs.Option.{option_map_or}
 use Rattle.std.proofs.lemmas.Bool.{not-false}
 use Rattle.std.proofs.lemmas.List.{append-nil}
+use Rattle.list_laws.proofs.Each.{each_append, each_front, each_at, found_has}
+use Rattle.list_laws.proofs.Options.{some_and}
 use Rattle.rma_types.specs.declared.accesses.Access.{Access}
 use Rattle.rma_types.specs.declared.accesses.Step.TheVariants.{Arrive, One}
 use Rattle.rma_types.specs.declared.calls.Call.{Call}
@@ -13,14 +15,19 @@ use Rattle.rma_types.specs.declared.classes.Class.{Class}
 use Rattle.rma_types.specs.declared.classes.Class.TheVariants.{Range as RangeClass}
 use Rattle.rma_types.specs.declared.schedules.Delay.{Delay}
 use Rattle.rma_types.specs.declared.scripts.Script.{Script}
+use Rattle.rma_types.proofs.ActionLaws.{moves_it}
 use Rattle.rma_record.specs.declared.items.Item.{Item}
 use Rattle.rma_record.specs.declared.items.Item.TheVariants.{Issue, Null, Flush, Request, Entry, Tested, Refused, Ended}
 use Rattle.rma_record.specs.declared.runs.Run.{Run}
+use Rattle.rank_rules.proofs.KnowledgeLaws.{epochs_allow}
 use Rattle.board_rules.specs.AttachedRanges.{ranges_attached, reaches_unattached}
 use Rattle.board_rules.specs.Board.{Allow, refuse_if, one_refusal, refusal, decision_by, is_allowed_now, decide}
 use Rattle.board_rules.specs.Entries.{Row, acts}
 use Rattle.board_rules.specs.Questions.{Question, question}
-use Rattle.call_rules.specs.Actions.{Moves, Transfer, Own, transfer_of}
+use Rattle.rma_types.specs.declared.actions.Transfer.{Transfer}
+use Rattle.rma_types.specs.declared.actions.Action.TheVariants.{Moves}
+use Rattle.rma_types.specs.declared.actions.Target.TheVariants.{Own}
+use Rattle.rma_types.specs.Actions.{transfer_of}
 use Rattle.call_rules.specs.Layout.{layout}
 use Rattle.call_rules.specs.Ranks.{natural}
 use Rattle.call_rules.specs.Transfers.{rank_reached, bytes_of}
@@ -42,11 +49,9 @@ use Rattle.rank_rules.specs.Ranges.{covers}
 use Rattle.rank_rules.specs.Windows.{Window, window_of_name}
 use Rattle.rank_rules.specs.WindowTests.{place_tests, window_class}
 use Rattle.read_laws.proofs.Begun.{IsEntered}
-use Rattle.read_laws.proofs.Firsts.{some_and}
 use Rattle.read_laws.proofs.Known.{AreEntered, IsSound, begun_in, IsOfCallAfter, Refuses, Accepts, of_call_after}
 use Rattle.read_laws.proofs.Known.{known_sound}
 use Rattle.read_laws.proofs.Leaves.{with_touches}
-use Rattle.read_laws.proofs.Lists.{each_append, each_front, each_get, found_is}
 use Rattle.read_laws.proofs.Parts.{IsOfTransfer, AreOfTransfers}
 use Rattle.read_laws.proofs.Steps.{access_is}
 use Rattle.read_laws.proofs.Touches.{issued_is}
@@ -55,8 +60,8 @@ use Rattle.step_laws.proofs.CallCourses.{looks_up_dynamic}
 use Rattle.step_laws.proofs.Creations.{IsSoundRow, acts_sound, attached_lie}
 use Rattle.step_laws.proofs.Flavors.{AreRegular}
 use Rattle.step_laws.proofs.OwnRoom.{IsRoomyWindow, right_place, access_lies, looked_up_lies}
-use Rattle.step_laws.proofs.OwnTests.{HasIssue, moves_it, transfer_with_issue, access_is as access_on_is, windows_allow}
-use Rattle.step_laws.proofs.OwnTests.{epochs_allow, transfer_passed}
+use Rattle.step_laws.proofs.OwnTests.{HasIssue, transfer_with_issue, access_is as access_on_is, windows_allow}
+use Rattle.step_laws.proofs.OwnTests.{transfer_passed}
 use Rattle.step_laws.specs.Inside.{LiesInMemory}
 use Rattle.read_laws.proofs.EntriesInMemory.{rows_sound, regular, all_entered}
 
@@ -116,7 +121,7 @@ module _ (script : Script) (delay : Delay) (run : Run) (formed : IsWellFormed sc
         window_of_name known.windows win ≡ Some window →
         IsRoomyWindow (layout script) window
     roomy_window known begun win window sound live =
-        (found_is (IsRoomyWindow (layout script)) (λ (w : Window). w.win == win) known.windows.windows window
+        (found_has (IsRoomyWindow (layout script)) (λ (w : Window). w.win == win) known.windows.windows window
         sound.roomy.windows live).0
 
     epochs_pass : (known : Knowledge) (call : Call) (t : Transfer) → transfer_of call ≡ Some t →
@@ -326,7 +331,7 @@ module _ (script : Script) (delay : Delay) (run : Run) (formed : IsWellFormed sc
       let issued = issued_is (calls_of script a.id.rank) a.issued.index access.item a.issued access.issued in
       let call = call_at (calls_of script a.id.rank) a.issued.number issued.t
       (slice_get (calls_of script a.id.rank) a.issued.number) refl issued.moves in
-      let one = each_get (IssueIsTold a.id.rank) (log_of run a.id.rank) a.issued.index access.item
+      let one = each_at (IssueIsTold a.id.rank) (log_of run a.id.rank) a.issued.index access.item
       (log_told a.id.rank access.within) access.logged
       a.issued.number a.issued.access issued.is call.0 call.1 in
       let both : Some one.t ≡ Some issued.t = sym one.moves ∙ call.2 in

@@ -7,6 +7,8 @@ use Rattle.std.specs.List.{count_by, fold, AllByRecursion}
 use Rattle.std.specs.Option.{option_map_or}
 use Rattle.std.proofs.lemmas.Bool.{ne_eqb, and_left}
 use Rattle.std.proofs.lemmas.List.Sums.{sum_by-append}
+use Rattle.list_laws.proofs.Members.{each_in, In}
+use Rattle.list_laws.proofs.Options.{some_and}
 use Rattle.rma_types.specs.declared.accesses.Step.{Step}
 use Rattle.rma_types.specs.declared.accesses.Step.TheVariants.{Arrive, Leave, One}
 use Rattle.rma_types.specs.declared.calls.Call.{Call}
@@ -16,13 +18,19 @@ use Rattle.rma_types.specs.declared.classes.Class.{Class}
 use Rattle.rma_types.specs.declared.schedules.Delay.{Delay}
 use Rattle.rma_types.specs.declared.scripts.Part.{Part}
 use Rattle.rma_types.specs.declared.scripts.Script.{Script}
+use Rattle.rma_types.proofs.ActionLaws.{creates_it, name_made}
 use Rattle.rma_record.specs.declared.items.Item.{Item}
 use Rattle.rma_record.specs.declared.items.Item.TheVariants.{Null, Flush, Request, Entry, Tested, Refused}
 use Rattle.rma_record.specs.declared.runs.Run.{Run}
+use Rattle.rank_rules.proofs.KnowledgeLaws.{learns_nothing}
+use Rattle.rank_rules.proofs.WindowLaws.{created_grows}
 use Rattle.board_rules.specs.Entries.{Row, Act, acts, window_of, names_window}
-use Rattle.call_rules.specs.Actions.{Creates, Creation, action_of, creation_in, creation_of}
+use Rattle.rma_types.specs.declared.actions.Creation.{Creation}
+use Rattle.rma_types.specs.declared.actions.Action.TheVariants.{Creates}
+use Rattle.rma_types.specs.Actions.{action_of, creation_in, creation_of}
 use Rattle.call_rules.specs.Layout.{layout}
 use Rattle.call_rules.specs.WellFormed.{IsWellFormed}
+use Rattle.board_rules.proofs.EntryLaws.{begins_by, new_number}
 use Rattle.lawful_runs.specs.CallItems.{AreItemsOfCourse, AreItemsBy, AreItemsOf, AreFinished}
 use Rattle.lawful_runs.specs.LawfulRun.{IsLawful, rank_in}
 use Rattle.lawful_runs.specs.Logs.{calls_of, row_by, rows_of}
@@ -32,22 +40,18 @@ use Rattle.rank_rules.specs.Courses.{EntryOrTested, OneEntry, course_of, course_
 use Rattle.rank_rules.specs.Knowledge.{Knowledge, own_class, ends_call, learn, known_after_call, known_after_number}
 use Rattle.rank_rules.specs.Knowledge.{accepted_by}
 use Rattle.rank_rules.specs.Windows.{RankWindows, next_number, window_number}
-use Rattle.order_laws.proofs.Events.{each_in}
-use Rattle.order_laws.proofs.Members.{In}
 use Rattle.read_laws.proofs.Begun.{IsEntered, rows_in, act_among}
-use Rattle.read_laws.proofs.Firsts.{some_and}
 use Rattle.step_laws.proofs.CallCourses.{one_entry_moves_none, learns_call}
-use Rattle.step_laws.proofs.Creations.{HasLists, own_has_room, MakesWith, creates_it, parts_fit, parts_by_address}
+use Rattle.step_laws.proofs.Creations.{HasLists, own_has_room, MakesWith, parts_fit, parts_by_address}
 use Rattle.step_laws.proofs.EntryMoves.{IsOneEntry}
 use Rattle.step_laws.proofs.Flavors.{AreRegular, same_flavor}
-use Rattle.step_laws.proofs.EntryNumbers.{begins_by, is_creation_if, new_number}
+use Rattle.step_laws.proofs.EntryNumbers.{is_creation_if}
 use Rattle.step_laws.proofs.Memory.{space_has_memory}
 use Rattle.step_laws.proofs.OwnRoom.{AreRoomy}
 use Rattle.step_laws.proofs.OwnTests.{HasIssue, transfer_with_issue}
-use Rattle.step_laws.proofs.Sound.{MakesByAddress, windows_stay_roomy, rank_stays, space_stays, name_made}
-use Rattle.step_laws.proofs.Sound.{created_grows}
+use Rattle.step_laws.proofs.Sound.{MakesByAddress, windows_stay_roomy, rank_stays, space_stays}
 use Rattle.step_laws.specs.Inside.{bytes_at}
-use Rattle.read_laws.proofs.Lessons.{fold_joined, accepts, learns_nothing, count_joined, none_begins, not_arrive}
+use Rattle.read_laws.proofs.Lessons.{fold_joined, accepts, count_joined, none_begins, not_arrive}
 use Rattle.read_laws.proofs.Lessons.{not_leave, arrive_begins}
 
 module _ (script : Script) (delay : Delay) (run : Run) (formed : IsWellFormed script)

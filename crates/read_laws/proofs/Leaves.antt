@@ -4,6 +4,8 @@ use Rattle.std.proofs.Common.{None, refl, ap, sym, ◌∙◌, subst}
 use Rattle.std.specs.Prelude.{slice_get, IsSomeAnd}
 use Rattle.std.specs.List.{AllByRecursion}
 use Rattle.std.proofs.lemmas.Option.{some_pair_parts}
+use Rattle.list_laws.proofs.Each.{each_append}
+use Rattle.list_laws.proofs.Options.{some_and}
 use Rattle.rma_types.specs.declared.accesses.Access.{Access}
 use Rattle.rma_types.specs.declared.accesses.Step.{Step}
 use Rattle.rma_types.specs.declared.accesses.Step.TheVariants.{Arrive, Leave, One}
@@ -21,8 +23,7 @@ use Rattle.rank_rules.specs.Courses.{Course, OneNull, OneIssue, LookUpAndIssue, 
 use Rattle.rank_rules.specs.Courses.{EntryOrTested, OneEntry, course_of, access_of}
 use Rattle.rank_rules.specs.Knowledge.{Knowledge, own_class}
 use Rattle.rank_rules.specs.Windows.{RankWindows}
-use Rattle.read_laws.proofs.Firsts.{some_and, begins_with_step, is_initial}
-use Rattle.read_laws.proofs.Lists.{each_append}
+use Rattle.read_laws.proofs.Firsts.{begins_with_step, is_initial}
 
 -- where the item is a Leave, its call is a collective one
 abbrev pub LeavesCollective : List Call → Item → Type 0

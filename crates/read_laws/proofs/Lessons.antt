@@ -11,13 +11,14 @@ use Rattle.rma_types.specs.declared.accesses.Step.TheVariants.{Arrive, Leave, On
 use Rattle.rma_types.specs.declared.calls.Call.{Call}
 use Rattle.rma_types.specs.declared.scripts.Part.{Part}
 use Rattle.rma_types.specs.declared.scripts.Script.{Script}
+use Rattle.rma_types.proofs.ActionLaws.{name_made}
 use Rattle.rma_record.specs.declared.items.Item.TheVariants.{Entry}
 use Rattle.board_rules.specs.Entries.{Row, is_creation, names_window}
-use Rattle.call_rules.specs.Actions.{Creation, creation_of}
+use Rattle.rma_types.specs.declared.actions.Creation.{Creation}
+use Rattle.rma_types.specs.Actions.{creation_of}
+use Rattle.board_rules.proofs.EntryLaws.{begins_by, names_it}
 use Rattle.lawful_runs.specs.Logs.{calls_of, row_by}
-use Rattle.rank_rules.specs.Knowledge.{Knowledge, ends_call, learn, known_after_call, known_after_number}
-use Rattle.step_laws.proofs.EntryNumbers.{begins_by, names_it}
-use Rattle.step_laws.proofs.Sound.{name_made}
+use Rattle.rank_rules.specs.Knowledge.{Knowledge, known_after_call, known_after_number}
 
 -- ---- what one more item teaches
 
@@ -31,16 +32,6 @@ pub accepts : (shapes : ℕ → List Part) (calls : List Call) (known : Knowledg
     slice_get calls number ≡ Some call →
     known_after_number shapes calls known number ≡ known_after_call shapes known number call
 accepts shapes calls known number call of = ap (λ o. option_map_or (known_after_call shapes known number) o known) of
-
--- an entry that does not end its call teaches nothing
-pub learns_nothing : (shapes : ℕ → List Part) (calls : List Call) (known : Knowledge) (number place : ℕ) (step : Step)
-    (call : Call) →
-    slice_get calls number ≡ Some call → ends_call step call ≡ false →
-    learn shapes calls known (Entry number place step) ≡ known
-learns_nothing shapes calls known number place step call of ends =
-    ap (λ o. option_map_or (known_after_number shapes calls known)
-    (option_map_or (λ (c : Call). cond (ends_call step c) (Some number) None) o None) known) of
-    ∙ ap (λ b. option_map_or (known_after_number shapes calls known) (cond b (Some number) None) known) ends
 
 -- ---- the windows that begin
 

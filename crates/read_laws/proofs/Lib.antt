@@ -7,7 +7,6 @@ pub mod Counts
 pub mod Elements
 pub mod EntriesInMemory
 pub mod Firsts
-pub mod Lists
 pub mod InMemory
 pub mod Known
 pub mod Leaves

@@ -7,6 +7,8 @@ use Rattle.std.specs.List.{list_any}
 use Rattle.std.specs.Option.{option_map_or}
 use Rattle.std.proofs.lemmas.Bool.{and_parts, and_from, cases_Bool, cases_eq, cases_lt, eq-eqb, eqb-true, or_left}
 use Rattle.std.proofs.lemmas.List.{map-append}
+use Rattle.list_laws.proofs.Members.{In, here, there, in_map, contains_in, in_contains}
+use Rattle.list_laws.proofs.Options.{some_of}
 use Rattle.rma_types.specs.declared.accesses.Access.{Access}
 use Rattle.rma_types.specs.declared.accesses.Id.{Id}
 use Rattle.rma_types.specs.declared.accesses.Kind.{Kind}
@@ -28,7 +30,6 @@ use Rattle.order_rules.specs.Ordered.{JudgedAccess, points_for, is_ordered}
 use Rattle.order_rules.specs.Roles.{Role, RmaUpdate, RmaRead, Store, Load, role_of}
 use Rattle.order_rules.specs.Rules.{Pair, rule_if, is_separate, rule_for, pair_of, are_excepted, are_alike, may_combine}
 use Rattle.order_rules.specs.Rules.{accumulation_of, forbidden_kind}
-use Rattle.order_laws.proofs.Members.{In, here, there, in_map, contains_in, in_contains, some_of}
 use Rattle.order_laws.proofs.Pairs.{complete}
 use Rattle.order_laws.specs.FindingLaws.{is_update}
 use Rattle.read_laws.proofs.Places.{DoMeet}

@@ -4,18 +4,19 @@ use Rattle.std.specs.Prelude.{◌==◌, slice_get}
 use Rattle.std.specs.List.{AllByRecursion}
 use Rattle.std.specs.Option.{option_map_or}
 use Rattle.std.proofs.lemmas.Bool.{eqb-true}
+use Rattle.list_laws.proofs.Each.{each_append, each_kept, each_at, found_has}
 use Rattle.rma_types.specs.declared.calls.Call.{Call}
 use Rattle.rma_types.specs.declared.scripts.Part.{Part}
-use Rattle.rma_types.specs.declared.scripts.Script.{Script}
 use Rattle.rma_record.specs.declared.items.Item.{Item}
-use Rattle.call_rules.specs.Actions.{Action, Creates, Frees, Attaches, Detaches, Synchronises, Meets, Moves}
-use Rattle.call_rules.specs.Actions.{EndsRequest, action_of}
+use Rattle.rma_types.specs.declared.actions.Action.{Action}
+use Rattle.rma_types.specs.declared.actions.Action.TheVariants.{Creates, Frees, Attaches, Detaches, Synchronises, Meets}
+use Rattle.rma_types.specs.declared.actions.Action.TheVariants.{Moves, EndsRequest}
+use Rattle.rma_types.specs.Actions.{action_of}
 use Rattle.call_rules.specs.WellFormed.{IsWellFormed, IsWrittenCall, IsWrittenAction}
-use Rattle.lawful_runs.specs.Logs.{calls_of}
 use Rattle.lawful_runs.specs.Stages.{RankOfRun, calls_here, known_at, shapes_in, first_knowledge}
 use Rattle.rank_rules.specs.Knowledge.{Knowledge, known_after, known_after_number, known_after_call, learn, accepted_by}
 use Rattle.rank_rules.specs.Windows.{Window, RankWindows, window_of_name, window_number, windows_after}
-use Rattle.read_laws.proofs.Lists.{each_append, each_kept, each_get, each_get_or, found_is}
+use Rattle.lawful_runs.proofs.LogLaws.{calls_written}
 
 -- the number of a window is its name, and 32 for each round
 abbrev pub IsNamed : Window → Type 0
@@ -50,7 +51,7 @@ number_named shapes calls known number written named = by_call (slice_get calls 
         AreNamed (option_map_or (known_after_call shapes known number) o known).windows
     by_call None e = named
     by_call (Some call) e =
-        action_named shapes known.windows (action_of call) (each_get IsWrittenCall calls number call written e) named
+        action_named shapes known.windows (action_of call) (each_at IsWrittenCall calls number call written e) named
 
 item_named : (shapes : ℕ → List Part) (calls : List Call) (known : Knowledge) (item : Item) →
     AllByRecursion IsWrittenCall calls →
@@ -69,10 +70,6 @@ items_named shapes calls known (item ∷ items) written named =
     items_named shapes calls (learn shapes calls known item) items written
     (item_named shapes calls known item written named)
 
-pub calls_written : (script : Script) (rank : ℕ) → IsWellFormed script →
-    AllByRecursion IsWrittenCall (calls_of script rank)
-calls_written script rank formed = each_get_or (AllByRecursion IsWrittenCall) script.calls rank [] tt formed.calls
-
 -- the number of the window of this name
 pub name_of_window : (here : RankOfRun) (items : List Item) (win : ℕ) (window : Window) →
     IsWellFormed here.stage.script →
@@ -81,5 +78,5 @@ name_of_window here items win window formed e =
     let named = items_named (shapes_in here.stage here.rows) (calls_here here)
     (first_knowledge here.stage here.rank) items
     (calls_written here.stage.script here.rank formed) tt in
-    let one = found_is IsNamed (λ (w : Window). w.win == win) (known_at here items).windows.windows window named e in
+    let one = found_has IsNamed (λ (w : Window). w.win == win) (known_at here items).windows.windows window named e in
     one.0 ∙ eqb-true window.win win one.1

@@ -5,6 +5,7 @@ use Rattle.std.specs.Prelude.{◌&&◌, ◌==◌, ◌≢◌, nat_lt, slice_get, 
 use Rattle.std.specs.List.{filter, list_any}
 use Rattle.std.proofs.lemmas.Bool.{and_parts, cases_eq, eqb-true, ltb-true}
 use Rattle.std.proofs.lemmas.Option.{slice_get_within}
+use Rattle.list_laws.proofs.Members.{each_in, In, here, there, map_in, filter_in, any_in}
 use Rattle.rma_types.specs.declared.accesses.Id.{Id}
 use Rattle.rma_types.specs.declared.accesses.Kind.{Kind}
 use Rattle.rma_types.specs.declared.accesses.Kind.TheVariants.{Get as GetKind, Put as PutKind, Acc as AccKind}
@@ -14,18 +15,19 @@ use Rattle.rma_types.specs.declared.findings.Model.TheVariants.{Separate, Unifie
 use Rattle.rma_types.specs.declared.schedules.Delay.{Delay}
 use Rattle.rma_types.specs.declared.scripts.Script.{Script}
 use Rattle.rma_record.specs.declared.items.Item.{Item}
-use Rattle.rma_record.specs.declared.items.Item.TheVariants.{Issue, Null, Touch, Flush, Request, Entry, Tested, Refused}
-use Rattle.rma_record.specs.declared.items.Item.TheVariants.{Ended}
+use Rattle.rma_record.specs.declared.items.Item.TheVariants.{Issue, Touch, Entry}
 use Rattle.rma_record.specs.declared.runs.Run.{Run}
-use Rattle.call_rules.specs.Actions.{action_of}
+use Rattle.rma_types.specs.Actions.{action_of}
 use Rattle.call_rules.specs.Pieces.{numbers_from}
 use Rattle.call_rules.specs.Transfers.{is_no_op}
 use Rattle.call_rules.specs.WellFormed.{IsWellFormed}
+use Rattle.call_rules.proofs.NumbersFrom.{in_numbers}
 use Rattle.lawful_runs.specs.Accesses.{Touching}
 use Rattle.lawful_runs.specs.Items.{is_touch}
 use Rattle.lawful_runs.specs.LawfulRun.{IsLawful, rank_in}
 use Rattle.lawful_runs.specs.Logs.{log_of, calls_of}
-use Rattle.lawful_runs.specs.TouchLaw.{touch_of, issued_in, is_local, IsLocalDirect, HasItsIssue, HasIssueBefore}
+use Rattle.lawful_runs.specs.TouchLaw.{issued_in, is_local, IsLocalDirect, HasItsIssue, HasIssueBefore}
+use Rattle.lawful_runs.proofs.ItemLaws.{plain_touches_nothing}
 use Rattle.order_rules.specs.Before.{Before, Same, InLog, Across, IsOrder, events_in}
 use Rattle.order_rules.specs.CallSteps.{CallStep, IssuedAccess, steps_in, is_step_on, is_later_at_origin}
 use Rattle.order_rules.specs.CallSteps.{is_later_on_window}
@@ -35,8 +37,6 @@ use Rattle.order_rules.specs.Ordered.{points_for, is_ordered}
 use Rattle.order_rules.specs.Roles.{Role, RmaUpdate, RmaRead, Store, Load, role_of, is_rma_read}
 use Rattle.order_rules.specs.VisiblePoints.{takes_in, is_taken_in_at, gives_out, is_given_out_at, separate_points}
 use Rattle.order_rules.specs.VisiblePoints.{unified_points, visible_points}
-use Rattle.order_laws.proofs.Events.{each_in}
-use Rattle.order_laws.proofs.Members.{In, here, there, map_in, filter_in, any_in, in_numbers}
 use Rattle.order_laws.proofs.Order.{transitive, edge_between, event_at}
 use Rattle.read_laws.proofs.Leaves.{step_untouched}
 use Rattle.read_laws.proofs.Points.{before_done}
@@ -45,17 +45,6 @@ use Rattle.read_laws.proofs.Touches.{issued_is}
 use Rattle.read_laws.proofs.Waits.{IsIssuedAt, issued_among, directly_before}
 
 -- ---- kinds
-
-no_touch : (index : ℕ) (x : Item) → is_touch x ≡ false → touch_of index x ≡ []
-no_touch index (Issue number access) h = refl
-no_touch index (Null number) h = refl
-no_touch index (Touch issue element cell place bits) h = absurd (cc h)
-no_touch index (Flush number) h = refl
-no_touch index (Request number) h = refl
-no_touch index (Entry number place step) h = refl
-no_touch index (Tested number seen) h = refl
-no_touch index (Refused number class seen) h = refl
-no_touch index Ended h = refl
 
 no_local : (b : Bool) (role : Role) → cond b RmaRead RmaUpdate ≡ role → (role ≡ Store) ⊎ (role ≡ Load) → ⊥
 no_local true role e (inl store) = absurd (cc (e, store))
@@ -95,7 +84,8 @@ module _ (script : Script) (delay : Delay) (run : Run) (formed : IsWellFormed sc
       (issued_among here log a.issued is) local in
       directly_before here log a.issued k x (lawful.logs a.id.rank access.within) is follows
       (omega (arith, later, access.index)) at
-      (no_touch a.issued.index x plain) u.id.index u.element u.cell u.place u.bits (touch_logged script run a u by)
+      (plain_touches_nothing a.issued.index x plain) u.id.index u.element u.cell u.place u.bits
+      (touch_logged script run a u by)
 
   -- what the Issue of a load or a store is before: an item of its log from there on, or what its touches are before
   local_before : (a : IssuedAccess) (u : Touching) (c : Id) → IsAccess script run a → IsTouchBy script run a u →

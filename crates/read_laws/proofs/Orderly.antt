@@ -1,16 +1,17 @@
 -- Each get and each load of a run without findings reads what the updates before it leave.
-use Rattle.std.proofs.Common.{◌≡◌, ℕ, ◌+◌, Bool, true, List, [], ◌∷◌, Some, ap, sym, ◌∙◌, arith}
+use Rattle.std.proofs.Common.{◌≡◌, ℕ, ◌+◌, Bool, true, [], Some, ap, sym, ◌∙◌, arith}
 use Rattle.std.specs.Prelude.{◌==◌, map, slice_get}
-use Rattle.std.specs.List.{filter, zip, AllByRecursion}
+use Rattle.std.specs.List.{filter, zip}
 use Rattle.std.specs.Option.{option_map_or}
 use Rattle.std.proofs.lemmas.Bool.{eqb-true}
+use Rattle.list_laws.proofs.Members.{all_members, In, filter_in}
 use Rattle.rma_types.specs.declared.accesses.Id.{Id}
 use Rattle.rma_types.specs.declared.findings.Model.{Model}
 use Rattle.rma_types.specs.declared.schedules.Delay.{Delay}
 use Rattle.rma_types.specs.declared.scripts.Script.{Script}
 use Rattle.rma_record.specs.declared.runs.Run.{Run}
 use Rattle.call_rules.specs.declared.elements.Piece.{Piece}
-use Rattle.call_rules.specs.Actions.{Transfer}
+use Rattle.rma_types.specs.declared.actions.Transfer.{Transfer}
 use Rattle.call_rules.specs.Elements.{element_in}
 use Rattle.call_rules.specs.Layout.{layout}
 use Rattle.call_rules.specs.Pieces.{pieces}
@@ -24,15 +25,10 @@ use Rattle.order_rules.specs.CallSteps.{IssuedAccess, accesses_in}
 use Rattle.order_rules.specs.Findings.{findings}
 use Rattle.order_rules.specs.OrderedReads.{TouchesAgree, updates_of, left_before, element_before, ordered_read}
 use Rattle.order_rules.specs.OrderedReads.{touches_by, element_touched, elements_read, is_get_or_load, ReadsInOrder}
-use Rattle.order_laws.proofs.Members.{In, here, there, filter_in}
 use Rattle.read_laws.proofs.Parts.{IsOfTransfer, AreOfTransfers, part_of, touched_whole}
 use Rattle.read_laws.proofs.Steps.{access_is}
 use Rattle.read_laws.proofs.Touches.{touch_of_rank, touch_of_all, pair_of, is_by, pairs_are, each_read}
 use Rattle.read_laws.proofs.Values.{element_is_left}
-
-all_members : {X : Type 0} (P : X → Type 0) (xs : List X) → ((x : X) → In x xs → P x) → AllByRecursion P xs
-all_members P [] each = tt
-all_members P (x ∷ xs) each = (each x here, all_members P xs (λ y m. each y (there m)))
 
 module _ (script : Script) (delay : Delay) (run : Run) (formed : IsWellFormed script)
     (lawful : IsLawful script delay run)

@@ -4,6 +4,7 @@ use Rattle.std.proofs.Common.{◌∙◌, subst, arith}
 use Rattle.std.specs.Prelude.{slice_get, slice_index, IfSome, IsSome}
 use Rattle.std.specs.Option.{option_map_or}
 use Rattle.std.proofs.lemmas.Option.{slice_get_within}
+use Rattle.list_laws.proofs.Members.{each_in, In, in_map}
 use Rattle.rma_types.specs.declared.calls.Call.{Call}
 use Rattle.rma_types.specs.declared.schedules.Delay.{Delay}
 use Rattle.rma_types.specs.declared.scripts.Script.{Script}
@@ -12,10 +13,12 @@ use Rattle.rma_record.specs.declared.items.Item.TheVariants.{Touch}
 use Rattle.rma_record.specs.declared.runs.Run.{Run}
 use Rattle.call_rules.specs.declared.elements.Change.{Change}
 use Rattle.call_rules.specs.declared.elements.Piece.{Piece}
-use Rattle.call_rules.specs.Actions.{Transfer, Own}
+use Rattle.rma_types.specs.declared.actions.Transfer.{Transfer}
+use Rattle.rma_types.specs.declared.actions.Target.TheVariants.{Own}
 use Rattle.call_rules.specs.Layout.{layout}
 use Rattle.call_rules.specs.Pieces.{numbers_from, pieces}
 use Rattle.call_rules.specs.Transfers.{is_no_op, change_of}
+use Rattle.call_rules.proofs.NumbersFrom.{in_numbers}
 use Rattle.lawful_runs.specs.Accesses.{Touching, transfer_at, change_made, issued_by, issued_at}
 use Rattle.lawful_runs.specs.LawfulRun.{IsLawful, rank_in}
 use Rattle.lawful_runs.specs.Logs.{log_of, calls_of}
@@ -23,8 +26,6 @@ use Rattle.lawful_runs.specs.TouchLaw.{touched_by, elements_from, issued_in, IsT
 use Rattle.lawful_runs.specs.TouchLaw.{HasIssueBefore}
 use Rattle.rank_rules.specs.declared.pending.PendingAccess.{PendingAccess}
 use Rattle.order_rules.specs.CallSteps.{IssuedAccess, issued_access, accesses_of, accesses_in}
-use Rattle.order_laws.proofs.Events.{each_in}
-use Rattle.order_laws.proofs.Members.{In, in_map, in_numbers}
 use Rattle.read_laws.proofs.Steps.{IsAccess, IsTouchBy, touch_logged}
 use Rattle.read_laws.proofs.Touches.{IsTouch, in_flat_map, in_issued, issued_is, touch_among, element_is}
 use Rattle.read_laws.proofs.Transfers.{IsOfCall}

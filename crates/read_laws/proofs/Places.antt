@@ -1,73 +1,25 @@
 -- Where elements lie: elements that share a byte of a cell are of one rank's memory, and their accesses overlap.
 use Rattle.std.proofs.Common.{◌≡◌, ℕ, zero, suc, ◌+◌, ◌*◌, ◌/◌, ◌%◌, ◌<◌, ◌≤◌, ◌⊎◌, inl, inr, true, List, [], ◌∷◌}
-use Rattle.std.proofs.Common.{Option, Some, None, refl, ap, sym, ◌∙◌, subst, arith}
-use Rattle.std.specs.Prelude.{◌&&◌, map, slice_get, nat_lt, sum_by, ℤ}
-use Rattle.std.specs.Option.{option_map_or}
+use Rattle.std.proofs.Common.{Some, refl, ap, sym, ◌∙◌, subst, arith}
+use Rattle.std.specs.Prelude.{◌&&◌, map, slice_get, nat_lt}
 use Rattle.std.proofs.lemmas.Bool.{and_from, lt-ltb}
-use Rattle.std.proofs.lemmas.List.Sums.{sum_by-cons}
 use Rattle.rma_types.specs.declared.accesses.Access.{Access}
 use Rattle.rma_types.specs.declared.calls.Call.{Call}
-use Rattle.rma_types.specs.declared.calls.Flavor.{Flavor}
-use Rattle.rma_types.specs.declared.calls.Flavor.TheVariants.{Allocate, Create, Dynamic}
 use Rattle.rma_types.specs.declared.dtypes.Dtype.{Dtype}
 use Rattle.rma_types.specs.declared.dtypes.Dtype.TheVariants.{Int8, Int16, Int32, Uint8, Uint16, Uint32, Byte}
 use Rattle.rma_types.specs.declared.scripts.Layout.{Layout}
-use Rattle.rma_types.specs.declared.scripts.MemoryPart.{MemoryPart}
 use Rattle.rma_types.specs.declared.scripts.Script.{Script}
 use Rattle.rma_types.specs.Datatypes.{size_of}
+use Rattle.rma_types.proofs.MemoryLaws.{bytes_in, first_in}
 use Rattle.call_rules.specs.declared.elements.Piece.{Piece}
-use Rattle.call_rules.specs.Actions.{Creation, creation_of}
-use Rattle.call_rules.specs.Layout.{round_up, own_bytes, call_bytes, memory_bytes, ranks_of, parts_from, layout}
+use Rattle.call_rules.specs.Layout.{memory_bytes, ranks_of, parts_from, layout}
 use Rattle.call_rules.specs.Pieces.{numbers_from, first_cell, piece_at, element_address, pieces}
-use Rattle.call_rules.specs.Ranks.{natural}
+use Rattle.call_rules.proofs.LayoutLaws.{memory_is_cells, byte_in_cells}
 use Rattle.order_rules.specs.Rules.{bytes_reached}
 use Rattle.rank_rules.specs.Ranges.{do_overlap}
 use Rattle.step_laws.specs.Inside.{LiesInMemory}
 
 -- ---- the cells of ranks are apart
-
--- a number of bytes that is a number of cells
-abbrev AreCells : ℕ → Type 0
-AreCells bytes = (cells : ℕ) × (bytes ≡ 4 * cells)
-
-rounded_is_cells : (bytes : ℕ) → AreCells (round_up bytes)
-rounded_is_cells bytes = (2 * ((bytes + 7) / 8), omega arith)
-
-own_is_cells : (flavor : Flavor) (bytes : ℤ) → AreCells (own_bytes flavor bytes)
-own_is_cells Allocate bytes = rounded_is_cells (natural bytes)
-own_is_cells Create bytes = (0, refl)
-own_is_cells Dynamic bytes = (0, refl)
-
-call_is_cells : (call : Call) → AreCells (call_bytes call)
-call_is_cells call = by_creation (creation_of call)
-  where
-    by_creation : (o : Option Creation) →
-        AreCells (option_map_or (λ (creation : Creation). own_bytes creation.flavor creation.bytes) o 0)
-    by_creation None = (0, refl)
-    by_creation (Some creation) = own_is_cells creation.flavor creation.bytes
-
-more_cells : (a b : ℕ) → AreCells a → AreCells b → AreCells (a + b)
-more_cells a b (m, h) (n, k) = (m + n, omega arith)
-
-calls_are_cells : (calls : List Call) → AreCells (sum_by call_bytes calls)
-calls_are_cells [] = (0, refl)
-calls_are_cells (call ∷ calls) =
-    subst AreCells (sym (sum_by-cons call_bytes call calls))
-    (more_cells (call_bytes call) (sum_by call_bytes calls) (call_is_cells call) (calls_are_cells calls))
-
-memory_is_cells : (space : ℕ) (calls : List Call) → AreCells (memory_bytes space calls)
-memory_is_cells space calls = more_cells (round_up space) (sum_by call_bytes calls) (rounded_is_cells space)
-    (calls_are_cells calls)
-
--- the memory at a place among parts, and where it begins
-abbrev bytes_in : List MemoryPart → ℕ → ℕ
-bytes_in parts rank = option_map_or (λ (part : MemoryPart). part.bytes) (slice_get parts rank) 0
-
-abbrev first_in : List MemoryPart → ℕ → ℕ
-first_in parts rank = option_map_or (λ (part : MemoryPart). part.first_cell) (slice_get parts rank) 0
-
-byte_in_cells : (bytes address : ℕ) → AreCells bytes → address < bytes → address / 4 < bytes / 4
-byte_in_cells bytes address (cells, e) h = omega arith
 
 not_before : (ranks : List (ℕ × List Call)) (cell rank address : ℕ) → address < bytes_in (parts_from cell ranks) rank →
     cell ≤ first_in (parts_from cell ranks) rank

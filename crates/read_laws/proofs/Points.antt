@@ -4,18 +4,25 @@ use Rattle.std.proofs.Common.{arith}
 use Rattle.std.specs.Prelude.{◌&&◌, ◌||◌, ◌==◌, slice_get, nat_lt}
 use Rattle.std.specs.Option.{option_map_or}
 use Rattle.std.proofs.lemmas.Bool.{and_parts, and_from, or_cases, eqb-true, eq-eqb, ltb-true}
+use Rattle.list_laws.proofs.Each.{each_at}
+use Rattle.list_laws.proofs.Members.{In}
+use Rattle.list_laws.proofs.Options.{some_of}
 use Rattle.rma_types.specs.declared.accesses.Step.{Step}
 use Rattle.rma_types.specs.declared.accesses.Step.TheVariants.{Arrive, Leave, One}
 use Rattle.rma_types.specs.declared.schedules.Delay.{Delay}
 use Rattle.rma_types.specs.declared.schedules.Delay.TheVariants.{Seeded}
 use Rattle.rma_types.specs.declared.scripts.Script.{Script}
+use Rattle.rma_types.proofs.ActionLaws.{is_synchronising}
 use Rattle.rma_record.specs.declared.runs.Run.{Run}
 use Rattle.board_rules.specs.Entries.{Fence, is_arrive, is_collective, collective_in, fence_or_none, is_same_collective}
 use Rattle.board_rules.specs.Posts.{is_complete}
-use Rattle.call_rules.specs.Actions.{Action, Creates, Frees, Attaches, Detaches, Synchronises, Meets, Moves}
-use Rattle.call_rules.specs.Actions.{EndsRequest, Synchronisation, Fences, Posts, Starts, Completes, Waits, Locks}
-use Rattle.call_rules.specs.Actions.{Unlocks, Flushes, Syncs, action_of, synchronisation_in, synchronisation_of}
-use Rattle.call_rules.specs.Actions.{window_in_action, window_of_call}
+use Rattle.rma_types.specs.declared.actions.Action.{Action}
+use Rattle.rma_types.specs.declared.actions.Action.TheVariants.{Creates, Frees, Attaches, Detaches, Synchronises, Meets}
+use Rattle.rma_types.specs.declared.actions.Action.TheVariants.{Moves, EndsRequest}
+use Rattle.rma_types.specs.declared.actions.Synchronisation.{Synchronisation}
+use Rattle.rma_types.specs.declared.actions.Synchronisation.TheVariants.{Fences, Posts, Starts, Completes, Waits, Locks}
+use Rattle.rma_types.specs.declared.actions.Synchronisation.TheVariants.{Unlocks, Flushes, Syncs}
+use Rattle.rma_types.specs.Actions.{action_of, synchronisation_in, synchronisation_of, window_in_action, window_of_call}
 use Rattle.call_rules.specs.WellFormed.{IsWellFormed}
 use Rattle.lawful_runs.specs.Accesses.{Touching}
 use Rattle.lawful_runs.specs.LawfulRun.{IsLawful, rank_in}
@@ -32,14 +39,12 @@ use Rattle.order_rules.specs.DonePoints.{completes_at_target, is_completed_at_ta
 use Rattle.order_rules.specs.DonePoints.{completes_at_origin, is_completed_at_origin, request_ended, ends_its_request}
 use Rattle.order_rules.specs.DonePoints.{is_done_at}
 use Rattle.order_rules.specs.Roles.{is_rma_read, role_of}
-use Rattle.order_laws.proofs.Members.{In, some_of}
 use Rattle.read_laws.proofs.Firsts.{begins_with_step}
 use Rattle.read_laws.proofs.Folds.{find_in}
 use Rattle.read_laws.proofs.Leaves.{LeavesCollective, leaves_are, step_begins, step_initial}
-use Rattle.read_laws.proofs.Lists.{each_get}
 use Rattle.read_laws.proofs.Names.{name_of_window}
 use Rattle.read_laws.proofs.Waits.{touched_before}
-use Rattle.read_laws.proofs.Steps.{IsAccess, IsTouchBy, touch_logged, IsStep, step_is, synchronises, ends_request}
+use Rattle.read_laws.proofs.Steps.{IsAccess, IsTouchBy, touch_logged, IsStep, step_is, ends_request}
 use Rattle.read_laws.proofs.Steps.{is_fence, apart_from_all, request_apart}
 
 -- ---- the touches of an access before a step
@@ -96,7 +101,7 @@ module _ (script : Script) (delay : Delay) (run : Run) (formed : IsWellFormed sc
       synchronisation_of y.call ≡ Some s → completes_access s a.issued ≡ true →
       must_wait y.known.requests y.call a.issued ≡ true
   waits_by a y s step on e completes =
-      let is = synchronises (action_of y.call) s e in
+      let is = is_synchronising (action_of y.call) s e in
       let named : window_of_call y.call ≡ Some is.0 = ap window_in_action is.1 in
       ap (λ x. waits_for y.known.requests x a.issued) is.1
       ∙ and_from (is_on is.0 a.issued) (completes_access s a.issued) (on_window a y is.0 step on named) completes
@@ -110,7 +115,7 @@ module _ (script : Script) (delay : Delay) (run : Run) (formed : IsWellFormed sc
       let parts = and_parts (is_later_at_origin a y) (is_step_on a.issued.access.window y) later in
       let same = and_parts (y.id.rank == a.id.rank) (nat_lt a.id.index y.id.index) parts.0 in
       let rank : y.id.rank ≡ a.id.rank = eqb-true y.id.rank a.id.rank same.0 in
-      let leaves = each_get (LeavesCollective (calls_of script a.id.rank)) (log_of run a.id.rank) y.id.index step.item
+      let leaves = each_at (LeavesCollective (calls_of script a.id.rank)) (log_of run a.id.rank) y.id.index step.item
       (leaves_are (rank_in script delay run a.id.rank) (log_of run a.id.rank)
       (lawful.logs a.id.rank access.within).calls)
       (subst (λ r. slice_get (log_of run r) y.id.index ≡ Some step.item) rank step.logged) in
@@ -127,7 +132,7 @@ module _ (script : Script) (delay : Delay) (run : Run) (formed : IsWellFormed sc
   before_request a u y req access by step later e fetches requested =
       let same = and_parts (y.id.rank == a.id.rank) (nat_lt a.id.index y.id.index) later in
       let rank : y.id.rank ≡ a.id.rank = eqb-true y.id.rank a.id.rank same.0 in
-      let leaves = each_get (LeavesCollective (calls_of script a.id.rank)) (log_of run a.id.rank) y.id.index step.item
+      let leaves = each_at (LeavesCollective (calls_of script a.id.rank)) (log_of run a.id.rank) y.id.index step.item
       (leaves_are (rank_in script delay run a.id.rank) (log_of run a.id.rank)
       (lawful.logs a.id.rank access.within).calls)
       (subst (λ r. slice_get (log_of run r) y.id.index ≡ Some step.item) rank step.logged) in

@@ -3,15 +3,21 @@ use Rattle.std.proofs.Common.{◌≡◌, ℕ, ◌+◌, ◌<◌, Bool, true, fals
 use Rattle.std.proofs.Common.{subst, arith}
 use Rattle.std.specs.Prelude.{slice_get}
 use Rattle.std.specs.Option.{option_map_or}
+use Rattle.list_laws.proofs.Members.{In, here, there, flat_map_in, map_in}
 use Rattle.rma_types.specs.declared.accesses.Step.{Step}
 use Rattle.rma_types.specs.declared.calls.Call.{Call}
 use Rattle.rma_types.specs.declared.scripts.Script.{Script}
+use Rattle.rma_types.proofs.ActionLaws.{is_synchronising}
 use Rattle.rma_record.specs.declared.items.Item.{Item}
 use Rattle.rma_record.specs.declared.items.Item.TheVariants.{Touch}
 use Rattle.rma_record.specs.declared.runs.Run.{Run}
-use Rattle.call_rules.specs.Actions.{Action, Creates, Frees, Attaches, Detaches, Synchronises, Meets, Moves}
-use Rattle.call_rules.specs.Actions.{EndsRequest, Synchronisation, Fences, Posts, Starts, Completes, Waits, Locks}
-use Rattle.call_rules.specs.Actions.{Unlocks, Flushes, Syncs, action_of, synchronisation_in, synchronisation_of}
+use Rattle.rma_types.specs.declared.actions.Action.{Action}
+use Rattle.rma_types.specs.declared.actions.Action.TheVariants.{Creates, Frees, Attaches, Detaches, Synchronises, Meets}
+use Rattle.rma_types.specs.declared.actions.Action.TheVariants.{Moves, EndsRequest}
+use Rattle.rma_types.specs.declared.actions.Synchronisation.{Synchronisation}
+use Rattle.rma_types.specs.declared.actions.Synchronisation.TheVariants.{Fences, Posts, Starts, Completes, Waits, Locks}
+use Rattle.rma_types.specs.declared.actions.Synchronisation.TheVariants.{Unlocks, Flushes, Syncs}
+use Rattle.rma_types.specs.Actions.{action_of, synchronisation_of}
 use Rattle.call_rules.specs.Pieces.{numbers_from}
 use Rattle.lawful_runs.specs.Accesses.{Touching, issued_by, issued_from}
 use Rattle.lawful_runs.specs.Logs.{Named, log_of, calls_of, named_items}
@@ -22,7 +28,6 @@ use Rattle.order_rules.specs.CallSteps.{CallStep, IssuedAccess, known_before, st
 use Rattle.order_rules.specs.CallSteps.{steps_in, issued_access, accesses_of, accesses_in}
 use Rattle.order_rules.specs.DonePoints.{request_ended}
 use Rattle.order_laws.proofs.Events.{named_item_in}
-use Rattle.order_laws.proofs.Members.{In, here, there, flat_map_in, map_in}
 use Rattle.read_laws.proofs.Touches.{IsTouch, issued_is, issued_at_some, numbers_in}
 
 -- ---- accesses, touches and steps, with their items
@@ -120,17 +125,6 @@ step_is script run m =
 
 -- ---- what a call is
 
-pub synchronises : (a : Action) (s : Synchronisation) → synchronisation_in a ≡ Some s →
-    (win : ℕ) × (a ≡ Synchronises win s)
-synchronises (Creates creation) s e = absurd (cc e)
-synchronises (Frees win) s e = absurd (cc e)
-synchronises (Attaches win base bytes) s e = absurd (cc e)
-synchronises (Detaches win base) s e = absurd (cc e)
-synchronises (Synchronises win other) s e = let is : other ≡ s = cc e in (win, ap (Synchronises win) is)
-synchronises Meets s e = absurd (cc e)
-synchronises (Moves t) s e = absurd (cc e)
-synchronises (EndsRequest req) s e = absurd (cc e)
-
 pub ends_request : (a : Action) (req : ℕ) → request_ended a ≡ Some req → a ≡ EndsRequest req
 ends_request (Creates creation) req e = absurd (cc e)
 ends_request (Frees win) req e = absurd (cc e)
@@ -168,7 +162,7 @@ fence_alone Syncs other e = cc e
 pub apart_from_all : (call : Call) (s : Synchronisation) → synchronisation_of call ≡ Some s → is_fence s ≡ false →
     (known : RankWindows) → course_of known call ≡ ArriveAndLeave → ⊥
 apart_from_all call s e other known course =
-    let is = synchronises (action_of call) s e in
+    let is = is_synchronising (action_of call) s e in
     fence_alone s other (sym (ap (course_of_action known) is.1) ∙ course)
 
 pub request_apart : (call : Call) (req : ℕ) → request_ended (action_of call) ≡ Some req →

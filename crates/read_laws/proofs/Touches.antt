@@ -1,12 +1,12 @@
 -- The touches of a run, each with its item, its access and its element.
 use Rattle.std.proofs.Common.{◌≡◌, ℕ, zero, suc, ◌+◌, ◌<◌, ◌≤◌, inl, inr, Bool, true, false, cond, List, [], ◌∷◌, ◌++◌}
-use Rattle.std.proofs.Common.{length, Option, Some, None, refl, ap, sym, ◌∙◌, subst, arith, append_assoc, length-append}
+use Rattle.std.proofs.Common.{length, Option, Some, None, refl, ap, sym, ◌∙◌, subst, arith, length-append}
 use Rattle.std.specs.Prelude.{◌==◌, map, slice_get}
 use Rattle.std.specs.List.{filter, flat_map, zip}
 use Rattle.std.specs.Option.{option_map_or}
-use Rattle.std.proofs.lemmas.Bool.{eq-eqb}
 use Rattle.std.proofs.lemmas.List.{map-append}
 use Rattle.std.proofs.lemmas.List.Elements.{filter-append}
+use Rattle.list_laws.proofs.Members.{In, here, there, append_in, in_append_left, in_append_right, flat_map_in}
 use Rattle.rma_types.specs.declared.accesses.Access.{Access}
 use Rattle.rma_types.specs.declared.accesses.Id.{Id}
 use Rattle.rma_types.specs.declared.calls.Call.{Call}
@@ -18,18 +18,18 @@ use Rattle.rma_record.specs.declared.items.Item.TheVariants.{Issue, Null, Touch,
 use Rattle.rma_record.specs.declared.items.Item.TheVariants.{Ended}
 use Rattle.rma_record.specs.declared.runs.Run.{Run}
 use Rattle.call_rules.specs.declared.elements.Piece.{Piece}
-use Rattle.call_rules.specs.Actions.{Transfer}
+use Rattle.rma_types.specs.declared.actions.Transfer.{Transfer}
 use Rattle.call_rules.specs.Elements.{element_in}
 use Rattle.call_rules.specs.Layout.{layout}
 use Rattle.call_rules.specs.Pieces.{numbers_from}
+use Rattle.call_rules.proofs.NumbersFrom.{in_numbers}
 use Rattle.lawful_runs.specs.Accesses.{Touching, change_made, transfer_at, issued_by, issued_at, issued_from}
 use Rattle.lawful_runs.specs.Accesses.{touching_by, touches_among, touches_of, all_touches}
 use Rattle.lawful_runs.specs.Logs.{Named, named_from, named_in, log_of, calls_of}
 use Rattle.lawful_runs.specs.TouchLaw.{touch_of, touched_by, elements_from}
 use Rattle.rank_rules.specs.declared.pending.PendingAccess.{PendingAccess}
+use Rattle.lawful_runs.proofs.TouchLaws.{touch_once, touched_most, touch_of_own}
 use Rattle.order_rules.specs.OrderedReads.{element_touched}
-use Rattle.order_laws.proofs.Members.{In, here, there, append_in, in_append_left, in_append_right, flat_map_in}
-use Rattle.order_laws.proofs.Members.{in_numbers}
 
 -- ---- lists
 
@@ -196,25 +196,13 @@ in_issued calls first (x ∷ items) (suc k) item one e h =
 
 -- ---- what of a log touches an access
 
-pub touched_joined : (index : ℕ) (xs ys : List Item) →
-    touched_by index (xs ++ ys) ≡ touched_by index xs ++ touched_by index ys
-touched_joined index [] ys = refl
-touched_joined index (x ∷ xs) ys =
-    ap (λ l. touch_of index x ++ l) (touched_joined index xs ys)
-    ∙ sym (append_assoc (touch_of index x) (touched_by index xs) (touched_by index ys))
-
--- a touch of an access is one of what touches it
-pub touch_counts : (index element cell place bits : ℕ) →
-    touch_of index (Touch index element cell place bits) ≡ (element, cell) ∷ []
-touch_counts index element cell place bits = ap (λ b. cond b ((element, cell) ∷ []) []) (eq-eqb index index refl)
-
 pub touch_among : (index : ℕ) (items : List Item) (k element cell place bits : ℕ) →
     slice_get items k ≡ Some (Touch index element cell place bits) → In (element, cell) (touched_by index items)
 touch_among index [] k element cell place bits e = absurd (cc e)
 touch_among index (x ∷ items) zero element cell place bits e =
     let is : x ≡ Touch index element cell place bits = cc e in
     in_append_left (touched_by index items)
-    (subst (In (element, cell)) (sym (ap (touch_of index) is ∙ touch_counts index element cell place bits)) here)
+    (subst (In (element, cell)) (sym (ap (touch_of index) is ∙ touch_of_own index element cell place bits)) here)
 touch_among index (x ∷ items) (suc k) element cell place bits e =
     in_append_right (touch_of index x) (touch_among index items k element cell place bits e)
 
@@ -225,30 +213,6 @@ element_is first [] m = elim m [ ]
 element_is first (piece ∷ pieces) here = (0, piece, omega arith, refl, refl)
 element_is first (piece ∷ pieces) (there m) =
     let rest = element_is (first + 1) pieces m in (suc rest.0, rest.1, omega (arith, rest.2), rest.3, rest.4)
-
--- an item touches an access at most once
-pub touch_once : (index : ℕ) (item : Item) → length (touch_of index item) ≤ 1
-touch_once index (Issue number access) = omega arith
-touch_once index (Null number) = omega arith
-touch_once index (Touch issue element cell place bits) = by_test (issue == index)
-  where
-    by_test : (b : Bool) → length {A = ℕ × ℕ} (cond b ((element, cell) ∷ []) []) ≤ 1
-    by_test true = omega arith
-    by_test false = omega arith
-touch_once index (Flush number) = omega arith
-touch_once index (Request number) = omega arith
-touch_once index (Entry number place step) = omega arith
-touch_once index (Tested number seen) = omega arith
-touch_once index (Refused number class seen) = omega arith
-touch_once index Ended = omega arith
-
-pub touched_most : (index : ℕ) (items : List Item) → length (touched_by index items) ≤ length items
-touched_most index [] = omega arith
-touched_most index (x ∷ items) =
-    let rest = touched_most index items in
-    let one = touch_once index x in
-    let both = length-append (touch_of index x) (touched_by index items) in
-    omega arith
 
 -- where each of some items touches an access, no other item is among them
 pub touched_fewer : (index : ℕ) (items : List Item) (k : ℕ) (item : Item) → slice_get items k ≡ Some item →

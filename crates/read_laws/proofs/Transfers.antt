@@ -9,7 +9,9 @@ use Rattle.rma_types.specs.declared.calls.Call.TheVariants.{FlushLocalAll, Sync,
 use Rattle.rma_types.specs.declared.calls.Call.TheVariants.{Cas, Load, Store, WaitReq, TestReq}
 use Rattle.rma_types.specs.declared.dtypes.Dtype.{Dtype}
 use Rattle.rma_types.specs.declared.ops.Op.{Op}
-use Rattle.call_rules.specs.Actions.{Transfer, Own, transfer_of}
+use Rattle.rma_types.specs.declared.actions.Transfer.{Transfer}
+use Rattle.rma_types.specs.declared.actions.Target.TheVariants.{Own}
+use Rattle.rma_types.specs.Actions.{transfer_of}
 use Rattle.call_rules.specs.Transfers.{is_no_op}
 use Rattle.lawful_runs.specs.TouchLaw.{is_local}
 use Rattle.order_rules.specs.OrderedReads.{is_get_or_load}

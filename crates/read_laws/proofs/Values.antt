@@ -4,6 +4,8 @@ use Rattle.std.proofs.Common.{None, refl, ap, sym, ◌∙◌, subst, arith}
 use Rattle.std.specs.Prelude.{◌≢◌, map, nat_lt, slice_index, if◌then◌else◌}
 use Rattle.std.specs.List.{filter, count_by}
 use Rattle.std.proofs.lemmas.Bool.{eq-eqb}
+use Rattle.list_laws.proofs.Members.{each_in, In, in_filter, in_contains}
+use Rattle.list_laws.proofs.Truths.{false_unless}
 use Rattle.rma_types.specs.declared.accesses.Id.{Id}
 use Rattle.rma_types.specs.declared.dtypes.Dtype.{Dtype}
 use Rattle.rma_types.specs.declared.findings.Model.{Model}
@@ -12,7 +14,7 @@ use Rattle.rma_types.specs.declared.scripts.Script.{Script}
 use Rattle.rma_types.specs.Datatypes.{size_of}
 use Rattle.rma_record.specs.declared.runs.Run.{Run}
 use Rattle.call_rules.specs.declared.elements.Change.{Change}
-use Rattle.call_rules.specs.Actions.{Transfer}
+use Rattle.rma_types.specs.declared.actions.Transfer.{Transfer}
 use Rattle.call_rules.specs.Elements.{element_in}
 use Rattle.call_rules.specs.Layout.{layout, cells_of}
 use Rattle.call_rules.specs.Pieces.{numbers_from}
@@ -25,8 +27,6 @@ use Rattle.order_rules.specs.CallSteps.{IssuedAccess, accesses_in}
 use Rattle.order_rules.specs.Findings.{findings}
 use Rattle.order_rules.specs.OrderedReads.{TouchesAgree, updates_of, left_before, is_get_or_load}
 use Rattle.order_rules.specs.Roles.{role_of}
-use Rattle.order_laws.proofs.Events.{each_in}
-use Rattle.order_laws.proofs.Members.{In, in_filter, in_contains}
 use Rattle.order_laws.proofs.Order.{transitive}
 use Rattle.order_laws.specs.FindingLaws.{is_update as is_update_role}
 use Rattle.read_laws.proofs.Bytes.{element_agrees}
@@ -48,10 +48,6 @@ at_most_one false n e = omega arith
 share_moved : (a b m n a' b' m' n' : ℕ) → a ≡ a' → b ≡ b' → m ≡ m' → n ≡ n' → a < b + n → b < a + m →
     (a' < b' + n') × (b' < a' + m')
 share_moved a b m n a' b' m' n' p q r s h k = (omega arith, omega arith)
-
-same_eq : (b : Bool) → (b ≡ true → ⊥) → b ≡ false
-same_eq true h = absurd (h refl)
-same_eq false h = refl
 
 module _ (script : Script) (delay : Delay) (run : Run) (formed : IsWellFormed script)
     (lawful : IsLawful script delay run)
@@ -165,7 +161,7 @@ module _ (script : Script) (delay : Delay) (run : Run) (formed : IsWellFormed sc
               (λ same. differs v change u
               (sym (same_access script run f u.access touch v access other read.part.by u.part.by same))) h) in
               inr (
-                same_eq (test v) (λ is. let below = passed v change u some ((order v.id f.id).0 is) in
+                false_unless (test v) (λ is. let below = passed v change u some ((order v.id f.id).0 is) in
                     omega (arith, below, kept)),
                 kept,
               )

@@ -1,6 +1,6 @@
 -- Where the touches of an access stand in a lawful log: before an item that waits for it, and directly after its
 -- Issue where it is a load or a store.
-use Rattle.std.proofs.Common.{◌≡◌, ℕ, zero, suc, ◌+◌, ◌-◌, ◌<◌, ◌≤◌, inl, inr, Bool, true, false, not, List, [], ◌∷◌}
+use Rattle.std.proofs.Common.{◌≡◌, ℕ, zero, suc, ◌+◌, ◌-◌, ◌<◌, inl, inr, Bool, true, false, not, List, [], ◌∷◌}
 use Rattle.std.proofs.Common.{length, take, drop, Option, Some, refl, ap, sym, ◌∙◌, subst, arith, length-append}
 use Rattle.std.specs.Prelude.{◌&&◌, ◌||◌, slice_get}
 use Rattle.std.specs.List.{list_any}
@@ -8,48 +8,34 @@ use Rattle.std.specs.Option.{option_map_or}
 use Rattle.std.proofs.lemmas.Bool.{cases_lt}
 use Rattle.std.proofs.lemmas.List.{take-append-drop}
 use Rattle.std.proofs.lemmas.Option.{slice_get_within}
+use Rattle.list_laws.proofs.Lists.{length_taken, get_taken}
+use Rattle.list_laws.proofs.Members.{each_in, In}
 use Rattle.rma_types.specs.declared.calls.Call.{Call}
 use Rattle.rma_record.specs.declared.items.Item.{Item}
 use Rattle.rma_record.specs.declared.items.Item.TheVariants.{Issue, Null, Touch, Flush, Request, Entry, Tested, Refused}
 use Rattle.rma_record.specs.declared.items.Item.TheVariants.{Ended}
-use Rattle.call_rules.specs.declared.elements.Piece.{Piece}
 use Rattle.call_rules.specs.Pieces.{numbers_from}
+use Rattle.call_rules.proofs.NumbersFrom.{in_numbers}
 use Rattle.lawful_runs.specs.Accesses.{issued_by}
 use Rattle.lawful_runs.specs.CallItems.{other_items, HasItemsOfCalls}
 use Rattle.lawful_runs.specs.Items.{is_ended, is_own_refusal, number_in, belongs_to}
 use Rattle.lawful_runs.specs.LawfulRun.{IsLawfulLog}
 use Rattle.lawful_runs.specs.Stages.{RankOfRun, calls_here, known_at}
-use Rattle.lawful_runs.specs.TouchLaw.{touch_of, touched_by, elements_from, issued_in, pieces_here, IsTouchedWhole}
+use Rattle.lawful_runs.specs.TouchLaw.{touch_of, touched_by, issued_in, pieces_here, IsTouchedWhole}
 use Rattle.lawful_runs.specs.TouchLaw.{FollowsDirectly, begins_awaiting, is_awaiting, waits_at, IsAwaitedWhole}
 use Rattle.rank_rules.specs.declared.pending.PendingAccess.{PendingAccess}
 use Rattle.rank_rules.specs.Pending.{must_wait}
-use Rattle.order_laws.proofs.Events.{each_in}
-use Rattle.order_laws.proofs.Members.{In, in_numbers}
+use Rattle.lawful_runs.proofs.TouchLaws.{elements_count, touched_joined}
 use Rattle.read_laws.proofs.Firsts.{is_initial, is_first}
-use Rattle.read_laws.proofs.Touches.{in_issued, touched_joined, touched_fewer, untouched_have_none}
+use Rattle.read_laws.proofs.Touches.{in_issued, touched_fewer, untouched_have_none}
 
 -- ---- lists
-
-get_taken : {X : Type 0} (n k : ℕ) (xs : List X) → k < n → slice_get (take n xs) k ≡ slice_get xs k
-get_taken zero k xs below = absurd (omega arith)
-get_taken (suc n) k [] below = refl
-get_taken (suc n) zero (x ∷ xs) below = refl
-get_taken (suc n) (suc k) (x ∷ xs) below = get_taken n k xs (omega (arith, below))
 
 get_dropped : {X : Type 0} (n k at : ℕ) (xs : List X) → at ≡ n + k → slice_get (drop n xs) k ≡ slice_get xs at
 get_dropped zero k at xs e = let same : at ≡ k = omega arith in sym (ap (slice_get xs) same)
 get_dropped (suc n) k zero xs e = absurd (omega arith)
 get_dropped (suc n) k (suc at) [] e = refl
 get_dropped (suc n) k (suc at) (x ∷ xs) e = get_dropped n k at xs (omega (arith, e))
-
-length_taken : {X : Type 0} (n : ℕ) (xs : List X) → length (take n xs) ≤ n
-length_taken zero xs = omega arith
-length_taken (suc n) [] = omega arith
-length_taken (suc n) (x ∷ xs) = let rest = length_taken n xs in omega (arith, rest)
-
-elements_long : (first : ℕ) (pieces : List Piece) → length (elements_from first pieces) ≡ length pieces
-elements_long first [] = refl
-elements_long first (piece ∷ pieces) = let rest = elements_long (first + 1) pieces in omega (arith, rest)
 
 -- what touches an access, before an index and from there on
 touched_split : (index k : ℕ) (log : List Item) →
@@ -155,7 +141,7 @@ directly_before here log one k x lawful is direct earlier at plain j element cel
     let count = length (pieces_here here one) in
     let rest = drop (one.index + 1) log in
     let all : IsTouchedWhole here log one = whole here log one lawful is in
-    let total : length (touched_by one.index log) ≡ count = ap length all ∙ elements_long 0 (pieces_here here one) in
+    let total : length (touched_by one.index log) ≡ count = ap length all ∙ elements_count 0 (pieces_here here one) in
     let first = touched_split one.index (one.index + 1) log in
     let second = touched_split one.index count rest in
     let middle : length (touched_by one.index (take count rest)) ≡ count = direct in

@@ -1,25 +1,20 @@
 -- The items of one call: all of them belong to it, and a refusal stands alone.
 use Rattle.std.proofs.Common.{◌≡◌, ℕ, suc, ◌⊎◌, inl, inr, List, [], ◌∷◌}
 use Rattle.std.proofs.Common.{Option, Some, None, refl, sym, ◌∙◌, ap, subst}
-use Rattle.std.specs.Prelude.{IsSomeAnd}
 use Rattle.std.specs.List.{AllByRecursion}
-use Rattle.rma_types.specs.declared.accesses.Access.{Access}
+use Rattle.list_laws.proofs.Members.{In, append_in}
 use Rattle.rma_types.specs.declared.accesses.Step.TheVariants.{Arrive, Leave, One}
 use Rattle.rma_types.specs.declared.calls.Call.{Call}
 use Rattle.rma_types.specs.declared.classes.Class.{Class}
 use Rattle.rma_record.specs.declared.items.Item.{Item}
 use Rattle.rma_record.specs.declared.items.Item.TheVariants.{Issue, Null, Flush, Request, Entry, Tested, Refused}
+use Rattle.rma_record.proofs.ItemLaws.{issue_of}
 use Rattle.rank_rules.specs.Courses.{Course, OneNull, OneIssue, LookUpAndIssue, OneFlush, OneRequest, ArriveAndLeave}
 use Rattle.rank_rules.specs.Courses.{EntryOrTested, OneEntry, course_of, access_of}
 use Rattle.rank_rules.specs.Knowledge.{Knowledge}
 use Rattle.lawful_runs.specs.CallItems.{AreItemsOfCourse, AreItemsBy}
 use Rattle.lawful_runs.specs.Items.{number_in}
-use Rattle.refusal_laws.proofs.Members.{In, append_in, single}
-
-issue_of : (o : Option Access) (number : ℕ) (item : Item) → IsSomeAnd o (λ access. item ≡ Issue number access) →
-    (access : Access) × (item ≡ Issue number access)
-issue_of None number item h = absurd h
-issue_of (Some access) number item h = (access, h)
+use Rattle.refusal_laws.proofs.Members.{single}
 
 -- ---- a refusal
 

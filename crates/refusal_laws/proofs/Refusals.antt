@@ -7,6 +7,7 @@ use Rattle.std.specs.List.{filter, AllByRecursion}
 use Rattle.std.proofs.lemmas.List.Elements.{filter-append}
 use Rattle.std.proofs.lemmas.List.Sums.{fold_push}
 use Rattle.std.proofs.lemmas.Bool.{eq-eqb, ne_eqb}
+use Rattle.list_laws.proofs.Members.{In, append_in, contains_in, in_filter, each_in}
 use Rattle.rma_types.specs.declared.accesses.Step.TheVariants.{Arrive}
 use Rattle.rma_types.specs.declared.calls.Call.{Call}
 use Rattle.rma_types.specs.declared.classes.Class.{Class}
@@ -25,7 +26,7 @@ use Rattle.lawful_runs.specs.LawfulRun.{IsLawful, rank_in}
 use Rattle.lawful_runs.specs.Logs.{log_of}
 use Rattle.lawful_runs.specs.Stages.{RankOfRun, calls_here, first_knowledge, known_at, shapes_in}
 use Rattle.refusal_laws.proofs.CallItems.{Belongs, in_call, one_refusal}
-use Rattle.refusal_laws.proofs.Members.{In, append_in, contains_in, in_filter, of_all, single}
+use Rattle.refusal_laws.proofs.Members.{single}
 use Rattle.refusal_laws.specs.RefusalLaws.{ChangesNothing, IsNamedClass, RefusalsChangeNothing}
 
 -- ---- items of other calls
@@ -232,7 +233,7 @@ named_by here log before number call class (suc earlier) looks m got (inl own) =
 named_by here log before number call class (suc earlier) looks m got (inr board) = (
   board.0,
   board_class here (slice_get (calls_here here) number) call number class earlier got
-      (of_all (IsLook here.stage.script.ranks here.rows here.rank (calls_here here)) log looks m),
+      (each_in (IsLook here.stage.script.ranks here.rows here.rank (calls_here here)) log looks m),
 )
 
 with_all : (here : RankOfRun) (log : List Item) (has : HasItemsOfCalls here (other_items log)) →

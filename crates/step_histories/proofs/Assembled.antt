@@ -32,7 +32,7 @@ use Rattle.step_runs.specs.Agents.{Agent, new_agent}
 use Rattle.step_runs.specs.StepRun.{World, agent_at, drain, run_of, most_turns, step_run}
 
 -- an element that is there is found with any other in its place
-found_is : {X : Type 0} (xs : List X) (at : ℕ) (x other : X) → slice_get xs at ≡ Some x → get_or xs at other ≡ x
+pub found_is : {X : Type 0} (xs : List X) (at : ℕ) (x other : X) → slice_get xs at ≡ Some x → get_or xs at other ≡ x
 found_is [] at x other e = absurd (cc e)
 found_is (y ∷ xs) zero x other e = cc e
 found_is (y ∷ xs) (suc at) x other e = found_is xs at x other e

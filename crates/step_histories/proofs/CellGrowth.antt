@@ -8,13 +8,13 @@ use Rattle.std.proofs.lemmas.Bool.{eq-eqb, ne_eqb, lt-ltb, le-ltb, ltb-true, ltb
 use Rattle.std.proofs.lemmas.Bool.Decides.{eqb_tells}
 use Rattle.std.proofs.lemmas.List.Elements.{filter-append}
 use Rattle.std.proofs.lemmas.List.Sums.{sum_by-append, sum_by-cons}
+use Rattle.list_laws.proofs.Each.{each_weaker, each_append, each_front, each_back}
 use Rattle.call_rules.specs.declared.cells.Cell.{Cell}
 use Rattle.call_rules.specs.declared.elements.Change.{Change}
 use Rattle.call_rules.specs.Elements.{next}
 use Rattle.call_rules.specs.Touches.{empty_cell, cell_at, update_cell, cells_after}
 use Rattle.lawful_runs.specs.Accesses.{Touching, is_on_cell, is_update, on_cell, updates_in}
 use Rattle.lawful_runs.specs.Cells.{has_place, bits_after}
-use Rattle.rank_laws.proofs.Lists.{each_turned, each_append, each_front, each_back}
 use Rattle.rank_laws.specs.CellHistories.{ReadsValue, LeavesNext, IsHistoryOf}
 use Rattle.rank_laws.specs.Fronts.{Lows, AreAtMost}
 
@@ -107,10 +107,10 @@ update_more values touches us vs update cell change kept finds makes = record {
       ∙ one_more_place place count
       ∙ ap (λ n. if nat_lt place n then 1 else 0) (sym many);
   below = each_within (λ (u : Touching). u.place < length (us ++ update ∷ vs)) us update vs
-      (each_turned (λ (u : Touching). u.place < count) (λ (u : Touching). u.place < length (us ++ update ∷ vs))
+      (each_weaker (λ (u : Touching). u.place < count) (λ (u : Touching). u.place < length (us ++ update ∷ vs))
       (λ u less. omega (arith, many)) (us ++ vs) kept.below)
       (omega (arith, many));
-  reads = each_turned (ReadsValue values count) (ReadsValue more (length (us ++ update ∷ vs)))
+  reads = each_weaker (ReadsValue values count) (ReadsValue more (length (us ++ update ∷ vs)))
       (λ touch reads. record {
         within = let low = reads.within in omega (arith, many);
         reads = reads.reads ∙ sym (values_before values (suc count) value touch.place (let low = reads.within in omega

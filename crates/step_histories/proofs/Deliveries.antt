@@ -4,6 +4,7 @@ use Rattle.std.proofs.Common.{◌∙◌, ap, subst, arith, append-nil, append_as
 use Rattle.std.specs.Prelude.{slice_get, remove}
 use Rattle.std.specs.List.{AllByRecursion}
 use Rattle.std.specs.Option.{option_map_or}
+use Rattle.list_laws.proofs.Each.{each_weaker, each_at, each_removed}
 use Rattle.rma_types.specs.declared.calls.Call.{Call}
 use Rattle.rma_types.specs.declared.schedules.Delay.{Delay}
 use Rattle.rma_types.specs.declared.scripts.Layout.{Layout}
@@ -12,7 +13,7 @@ use Rattle.rma_record.specs.declared.items.Item.{Item}
 use Rattle.call_rules.specs.declared.cells.Cell.{Cell}
 use Rattle.call_rules.specs.declared.elements.Change.{Change}
 use Rattle.call_rules.specs.declared.elements.Piece.{Piece}
-use Rattle.call_rules.specs.Actions.{Transfer}
+use Rattle.rma_types.specs.declared.actions.Transfer.{Transfer}
 use Rattle.call_rules.specs.Layout.{layout, cells_of}
 use Rattle.call_rules.specs.Pieces.{pieces}
 use Rattle.call_rules.specs.Touches.{cell_at, cells_after, Touched, touch_each}
@@ -20,14 +21,12 @@ use Rattle.call_rules.specs.Transfers.{change_of}
 use Rattle.lawful_runs.specs.Accesses.{Touching, touches_among, change_made, issued_at, transfer_at}
 use Rattle.lawful_runs.specs.Logs.{named_from}
 use Rattle.lawful_runs.specs.Stages.{Stage, stage_of, calls_at}
-use Rattle.rank_laws.proofs.Lists.{each_turned}
 use Rattle.rank_laws.proofs.Touching.{touches_own, issued_still}
 use Rattle.rank_laws.specs.Deliveries.{place_after, AreTouches, AreTouchesOf, IsDelivered}
 use Rattle.rank_laws.specs.Fronts.{Lows, AreAtMost}
 use Rattle.rank_rules.specs.declared.pending.PendingAccess.{PendingAccess}
 use Rattle.step_histories.proofs.CellGrowth.{AreMade, length_after, cell_after, places_of, places_rise, made_joined}
 use Rattle.step_histories.proofs.LogGrowth.{touches_at, IsIssuedIn, HasIssues, log_grows, below_touches}
-use Rattle.step_laws.proofs.Lists.{each_get, each_removed}
 use Rattle.step_laws.proofs.Memory.{pieces_inside}
 use Rattle.step_laws.specs.Inside.{LiesInMemory, IsPendingInside, ArePendingInside}
 use Rattle.step_runs.specs.Agents.{Agent}
@@ -167,7 +166,7 @@ delivery_made script delay rank agent cells at lows fit memory low = by_access (
             mine = fit.mine;
             issues = record {
               issued = each_removed (IsIssuedIn stage rank longer) agent.pending at
-                  (each_turned (IsIssuedIn stage rank agent.log) (IsIssuedIn stage rank longer)
+                  (each_weaker (IsIssuedIn stage rank agent.log) (IsIssuedIn stage rank longer)
                   (λ other there. issued_still calls agent.log touched.items other.index other there) agent.pending
                   fit.issues.issued);
               below = below_touches stage rank agent.log touched.items one is
@@ -200,8 +199,8 @@ delivery_made script delay rank agent cells at lows fit memory low = by_access (
       delivers = (refl, low);
     }
     by_access (Some one) e =
-        let is = each_get (IsIssuedIn stage rank agent.log) agent.pending at one fit.issues.issued e in
-        let lies = each_get (IsPendingInside script rank) agent.pending at one fit.pending e in
+        let is = each_at (IsIssuedIn stage rank agent.log) agent.pending at one fit.issues.issued e in
+        let lies = each_at (IsPendingInside script rank) agent.pending at one fit.pending e in
         subst (λ (o : Option Transfer). IsDelivery script delay rank agent cells at lows (Some one)
         (option_map_or (with_touches stage rest cells one) o (record { agent = rest; cells = cells })))
         (sym (ap (λ r. transfer_at (calls_at stage r) one.number) fit.mine ∙ lies.1))

@@ -1,11 +1,11 @@
 -- The proofs.
 mod CellGrowth
-mod LogGrowth
+pub mod LogGrowth
 mod Deliveries
-mod PlainMoves
-mod Waits
-mod AllTouches
+pub mod PlainMoves
+pub mod Waits
+pub mod AllTouches
 mod Living
 mod Turns
 mod Draining
-mod Assembled
+pub mod Assembled

@@ -4,6 +4,7 @@ use Rattle.std.proofs.Common.{ap, subst, arith, append-nil, append_assoc}
 use Rattle.std.specs.Prelude.{map}
 use Rattle.std.specs.List.{AllByRecursion}
 use Rattle.std.specs.Option.{option_map_or}
+use Rattle.list_laws.proofs.Each.{each_append}
 use Rattle.rma_types.specs.declared.schedules.Delay.{Delay}
 use Rattle.rma_types.specs.declared.scripts.Script.{Script}
 use Rattle.board_rules.specs.Edges.{Event}
@@ -12,7 +13,6 @@ use Rattle.call_rules.specs.declared.cells.Cell.{Cell}
 use Rattle.call_rules.specs.Layout.{layout, cells_of}
 use Rattle.lawful_runs.specs.Stages.{Stage, stage_of}
 use Rattle.rank_laws.proofs.Histories.{rows_joined}
-use Rattle.rank_laws.proofs.Lists.{each_append}
 use Rattle.rank_laws.specs.Deliveries.{Delivers}
 use Rattle.rank_laws.specs.Fronts.{Lows, AreAtMost, Put, rows_put, AreOthers, event_after, AreMetFrom, ArePut}
 use Rattle.rank_laws.specs.Lives.{Lives, Looks, Steps, LooksAfter, IsMade}
@@ -87,7 +87,7 @@ all_put ranks before (row ∷ rows) lows now past low =
     let put : Put = record { row = row; front = now } in (
       now,
       low,
-      λ cell. omega arith,
+      λ later edge. (low, λ cell. omega arith),
       all_met ranks [] before (event_after ranks (rows_put before) row) now past,
       all_put ranks (before ++ put ∷ []) rows now now
           (each_append (IsPast now) before (put ∷ []) past (λ cell. omega arith, tt)) (λ cell. omega arith),

@@ -5,6 +5,7 @@ use Rattle.std.specs.Prelude.{nat_lt}
 use Rattle.std.specs.List.{AllByRecursion}
 use Rattle.std.specs.Option.{option_map_or}
 use Rattle.std.proofs.lemmas.Grind.{flat_map-append}
+use Rattle.list_laws.proofs.Each.{each_weaker, each_append, each_front, each_back}
 use Rattle.rma_types.specs.declared.accesses.Access.{Access}
 use Rattle.rma_types.specs.declared.accesses.Id.{Id}
 use Rattle.rma_types.specs.declared.calls.Call.{Call}
@@ -12,32 +13,21 @@ use Rattle.rma_types.specs.declared.scripts.Layout.{Layout}
 use Rattle.rma_record.specs.declared.items.Item.{Item}
 use Rattle.rma_record.specs.declared.items.Item.TheVariants.{Issue, Null, Touch, Flush, Request, Entry, Tested, Refused}
 use Rattle.rma_record.specs.declared.items.Item.TheVariants.{Ended}
-use Rattle.call_rules.specs.Actions.{Transfer}
+use Rattle.rma_types.specs.declared.actions.Transfer.{Transfer}
 use Rattle.lawful_runs.specs.Accesses.{Touching, touching_by, touches_among, change_made, issued_at, issued_by}
 use Rattle.lawful_runs.specs.Accesses.{transfer_at}
 use Rattle.lawful_runs.specs.Items.{is_touch}
 use Rattle.lawful_runs.specs.Logs.{Named, named_from, named_in}
 use Rattle.lawful_runs.specs.Stages.{Stage, calls_at}
 use Rattle.lawful_runs.specs.TouchLaw.{issue_touched, issues_touched}
-use Rattle.rank_laws.proofs.CellOrder.{named_joined}
-use Rattle.rank_laws.proofs.Lists.{each_turned, each_append, each_front, each_back, get_rest}
+use Rattle.lawful_runs.proofs.LogLaws.{named_joined}
+use Rattle.rank_laws.proofs.Lists.{get_rest}
 use Rattle.rank_laws.proofs.Touching.{IsTouchOf, issues_joined, issues_plain, issues_of_touches, issued_front}
 use Rattle.rank_laws.proofs.Touching.{issued_inside, issued_still}
 use Rattle.rank_rules.specs.declared.pending.PendingAccess.{PendingAccess}
 use Rattle.step_runs.specs.Agents.{Agent}
 use Rattle.step_runs.specs.DataSteps.{made_pending}
-
--- the touches of a rank's log
-abbrev pub touches_at : Stage → ℕ → Agent → List Touching
-touches_at stage rank agent = touches_among stage.layout (calls_at stage rank) agent.log (named_in rank agent.log)
-
-abbrev pub IsIssuedIn : Stage → ℕ → List Item → PendingAccess → Type 0
-IsIssuedIn stage rank log one = issued_at (calls_at stage rank) log one.index ≡ Some one
-
--- what is pending is issued in the log, and what is touched too
-pub record HasIssues (stage : Stage) (rank : ℕ) (agent : Agent) : Type 0 where
-  pub issued : AllByRecursion (IsIssuedIn stage rank agent.log) agent.pending
-  pub below : AllByRecursion (λ n. n < length agent.log) (issues_touched agent.log)
+pub use Rattle.step_histories.specs.LogTouches.{touches_at, IsIssuedIn, HasIssues}
 
 -- ---- touches in a longer log
 
@@ -131,7 +121,7 @@ below_more : (log : List Item) (item : Item) → is_touch item ≡ false →
 below_more log item plain below =
     let long = length-append log (item ∷ []) in
     subst (AllByRecursion (λ n. n < length (log ++ item ∷ []))) (sym (issues_plain log item plain))
-    (each_turned (λ n. n < length log) (λ n. n < length (log ++ item ∷ [])) (λ n less. omega arith)
+    (each_weaker (λ n. n < length log) (λ n. n < length (log ++ item ∷ [])) (λ n less. omega arith)
     (issues_touched log) below)
 
 item_touches : (stage : Stage) (rank : ℕ) (agent : Agent) (item : Item) → is_touch item ≡ false →
@@ -156,7 +146,7 @@ plain_item stage rank agent next item has plain mine log pending = record {
   issues = record {
     issued = subst (λ l. AllByRecursion (IsIssuedIn stage rank l) next.pending) (sym log)
         (subst (AllByRecursion (IsIssuedIn stage rank (agent.log ++ item ∷ []))) (sym pending)
-        (each_turned (IsIssuedIn stage rank agent.log) (IsIssuedIn stage rank (agent.log ++ item ∷ []))
+        (each_weaker (IsIssuedIn stage rank agent.log) (IsIssuedIn stage rank (agent.log ++ item ∷ []))
         (λ one is. issued_still (calls_at stage rank) agent.log (item ∷ []) one.index one is) agent.pending
         has.issued));
     below = subst (λ (l : List Item). AllByRecursion (λ n. n < length l) (issues_touched l)) (sym log)
@@ -183,7 +173,7 @@ plain_issue stage rank agent next access t has moves mine log pending = record {
     issued = subst (λ l. AllByRecursion (IsIssuedIn stage rank l) next.pending) (sym log)
         (subst (AllByRecursion (IsIssuedIn stage rank longer)) (sym pending)
         (each_append (IsIssuedIn stage rank longer) agent.pending (made_pending one)
-        (each_turned (IsIssuedIn stage rank agent.log) (IsIssuedIn stage rank longer)
+        (each_weaker (IsIssuedIn stage rank agent.log) (IsIssuedIn stage rank longer)
         (λ other is. issued_still (calls_at stage rank) agent.log (item ∷ []) other.index other is) agent.pending
         has.issued) (new (nat_lt 0 access.len))));
     below = subst (λ (l : List Item). AllByRecursion (λ n. n < length l) (issues_touched l)) (sym log)
@@ -225,6 +215,6 @@ below_touches stage rank log items one is own below =
     let less = (issued_inside (calls_at stage rank) log one.index one is).0 in
     subst (AllByRecursion (λ n. n < length (log ++ items))) (sym (issues_joined log items))
     (each_append (λ n. n < length (log ++ items)) (issues_touched log) (issues_touched items)
-    (each_turned (λ n. n < length log) (λ n. n < length (log ++ items)) (λ n h. omega arith) (issues_touched log) below)
-    (each_turned (λ n. n ≡ one.index) (λ n. n < length (log ++ items)) (λ n h. omega arith) (issues_touched items)
+    (each_weaker (λ n. n < length log) (λ n. n < length (log ++ items)) (λ n h. omega arith) (issues_touched log) below)
+    (each_weaker (λ n. n ≡ one.index) (λ n. n < length (log ++ items)) (λ n h. omega arith) (issues_touched items)
     (issues_of_touches one.index items own)))

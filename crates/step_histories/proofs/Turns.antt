@@ -6,6 +6,7 @@ use Rattle.std.specs.Prelude.{◌||◌, map, nat_lt}
 use Rattle.std.specs.List.{flat_map, AllByRecursion}
 use Rattle.std.proofs.lemmas.Bool.{ne_eqb, lt-ltb}
 use Rattle.std.proofs.lemmas.List.{length-replicate}
+use Rattle.list_laws.proofs.Each.{each_weaker, each_append}
 use Rattle.rma_types.specs.declared.schedules.Delay.{Delay}
 use Rattle.rma_types.specs.declared.schedules.Order.{Order}
 use Rattle.rma_types.specs.declared.scripts.Script.{Script}
@@ -17,7 +18,6 @@ use Rattle.call_rules.specs.Touches.{empty_cell}
 use Rattle.call_rules.specs.WellFormed.{IsWellFormed}
 use Rattle.lawful_runs.specs.Accesses.{Touching}
 use Rattle.lawful_runs.specs.Stages.{Stage, stage_of}
-use Rattle.rank_laws.proofs.Lists.{each_turned, each_append}
 use Rattle.rank_laws.specs.Fronts.{Lows, first_lows, AreAtMost, Put, rows_put}
 use Rattle.rank_laws.specs.Lives.{Begins}
 use Rattle.rank_laws.proofs.Histories.{rows_joined}
@@ -109,7 +109,7 @@ lived_at_board script delay seed world rank may tries sound lived = record {
       ∙ ap (λ rows. rows_put lived.puts ++ rows) (sym (rows_with now looked.more)) ∙ sym (rows_joined lived.puts new);
   owners = each_append (λ (put : Put). put.row.rank < script.ranks) lived.puts new lived.owners
       (each_put (λ (row : Row). row.rank < script.ranks) now looked.more
-      (each_turned (λ (row : Row). row.rank ≡ rank) (λ (row : Row). row.rank < script.ranks)
+      (each_weaker (λ (row : Row). row.rank ≡ rank) (λ (row : Row). row.rank < script.ranks)
       (λ row e. let low = may.0 in omega arith) looked.more looked.own));
   fronts = each_append (IsPast now) lived.puts new lived.fronts (each_past now looked.more);
   each = λ other below. each_set_apart
@@ -171,7 +171,7 @@ lived_at_board script delay seed world rank may tries sound lived = record {
         IsLiving stage seed other (lived.puts ++ new) (agent_at stage world other) now
     there other apart below = living_learns stage seed other lived.puts new (agent_at stage world other) now
         (each_put (λ (row : Row). row.rank ≢ other) now looked.more
-        (each_turned (λ (row : Row). row.rank ≡ rank) (λ (row : Row). row.rank ≢ other)
+        (each_weaker (λ (row : Row). row.rank ≡ rank) (λ (row : Row). row.rank ≢ other)
         (λ row e same. apart (sym same ∙ e)) looked.more looked.own)) (lived.each other below)
 
     same_rows : grows ≡ false → step.rows ≡ world.rows
@@ -190,7 +190,7 @@ lived_on_memory script delay seed world rank may tries sound lived = record {
   puts = lived.puts;
   rows = lived.rows;
   owners = lived.owners;
-  fronts = each_turned (IsPast now) (IsPast (places_of step.cells))
+  fronts = each_weaker (IsPast now) (IsPast (places_of step.cells))
       (λ put past cell. let low = past cell in let more = rise cell in omega arith) lived.puts lived.fronts;
   each = λ other below. each_set_apart
       (λ r (a : Agent). r < script.ranks → IsLiving stage seed r lived.puts a (places_of step.cells)) world.agents

@@ -1,2 +1,3 @@
 -- What the theorems say.
 pub mod Assembled
+pub mod LogTouches

@@ -7,15 +7,19 @@ use Rattle.rma_types.specs.declared.accesses.Step.{Step}
 use Rattle.rma_types.specs.declared.calls.Call.{Call}
 use Rattle.rma_types.specs.declared.calls.Flavor.TheVariants.{Dynamic}
 use Rattle.rma_types.specs.declared.scripts.Part.{Part}
+use Rattle.rma_types.proofs.ActionLaws.{moves_it}
 use Rattle.rma_record.specs.declared.items.Item.TheVariants.{Entry}
-use Rattle.call_rules.specs.Actions.{Creates, Creation, Transfer, Target, Own, Null, Named, action_of, creation_in}
-use Rattle.call_rules.specs.Actions.{creation_of, transfer_of}
+use Rattle.rma_types.specs.declared.actions.Creation.{Creation}
+use Rattle.rma_types.specs.declared.actions.Target.{Target}
+use Rattle.rma_types.specs.declared.actions.Transfer.{Transfer}
+use Rattle.rma_types.specs.declared.actions.Action.TheVariants.{Creates}
+use Rattle.rma_types.specs.declared.actions.Target.TheVariants.{Own, Null, Named}
+use Rattle.rma_types.specs.Actions.{action_of, transfer_of}
 use Rattle.rank_rules.specs.Courses.{Course, OneNull, OneIssue, LookUpAndIssue, ArriveAndLeave, course_of_transfer}
 use Rattle.rank_rules.specs.Courses.{course_of_action, course_of}
 use Rattle.rank_rules.specs.Knowledge.{Knowledge, ends_call, known_after_call, learn}
 use Rattle.rank_rules.specs.Windows.{Window, RankWindows, window_of_name, is_same_flavor}
 use Rattle.step_laws.proofs.EntryMoves.{IsOneEntry}
-use Rattle.step_laws.proofs.OwnTests.{moves_it}
 
 course_by_target : (known : RankWindows) (t : Transfer) (P : Course → Type 0) → (P OneIssue → ⊥) → (P OneNull → ⊥) →
     (P LookUpAndIssue → ⊥) → P (course_of_transfer known t) → ⊥
@@ -53,10 +57,6 @@ pub one_entry_makes_none : (known : RankWindows) (call : Call) (creation : Creat
     IsOneEntry (course_of known call) →
     action_of call ≡ Creates creation → ⊥
 one_entry_makes_none known call creation one is = subst (λ a. IsOneEntry (course_of_action known a)) is one
-
--- a call that moves data makes no window
-pub transfer_makes_none : (call : Call) (t : Transfer) → transfer_of call ≡ Some t → creation_of call ≡ None
-transfer_makes_none call t moves = ap creation_in (moves_it call t moves)
 
 -- a look-up is of a dynamic window
 pub looks_up_dynamic : (known : RankWindows) (t : Transfer) (window : Window) →

@@ -5,6 +5,8 @@ use Rattle.std.specs.Prelude.{◌&&◌, ◌==◌, not, map, slice_get, slice_ind
 use Rattle.std.specs.List.{find, filter, fold, AllByRecursion}
 use Rattle.std.specs.Option.{option_map_or}
 use Rattle.std.proofs.lemmas.Bool.{and_parts, eqb-true}
+use Rattle.list_laws.proofs.Each.{each_kept, each_append, each_weaker}
+use Rattle.list_laws.proofs.Numbers.{further}
 use Rattle.rma_types.specs.declared.accesses.Step.{Step}
 use Rattle.rma_types.specs.declared.calls.Call.{Call}
 use Rattle.rma_types.specs.declared.calls.Call.TheVariants.{Allocate as AllocateCall, Create as CreateCall}
@@ -13,12 +15,16 @@ use Rattle.rma_types.specs.declared.calls.Flavor.{Flavor}
 use Rattle.rma_types.specs.declared.calls.Flavor.TheVariants.{Allocate, Create, Dynamic}
 use Rattle.rma_types.specs.declared.scripts.Part.{Part}
 use Rattle.rma_types.specs.declared.scripts.Script.{Script}
+use Rattle.rma_types.proofs.ActionLaws.{creates_it}
 use Rattle.board_rules.specs.AttachedRanges.{ranges_after, ranges_attached}
 use Rattle.board_rules.specs.Entries.{Row, Act, acts, acts_after, window_of, is_arrive, is_creation, begins_window}
 use Rattle.board_rules.specs.Entries.{is_by_on}
 use Rattle.board_rules.specs.Shapes.{base_of, base_made, part_made, part_brought, part_in, parts_of}
-use Rattle.call_rules.specs.Actions.{Action, Creates, Frees, Attaches, Detaches, Synchronises, Meets, Moves}
-use Rattle.call_rules.specs.Actions.{EndsRequest, Creation, action_of, creation_in, creation_of}
+use Rattle.rma_types.specs.declared.actions.Action.{Action}
+use Rattle.rma_types.specs.declared.actions.Action.TheVariants.{Creates, Frees, Attaches, Detaches, Synchronises, Meets}
+use Rattle.rma_types.specs.declared.actions.Action.TheVariants.{Moves, EndsRequest}
+use Rattle.rma_types.specs.declared.actions.Creation.{Creation}
+use Rattle.rma_types.specs.Actions.{action_of, creation_of}
 use Rattle.call_rules.specs.Layout.{layout}
 use Rattle.call_rules.specs.Pieces.{numbers_from}
 use Rattle.call_rules.specs.Ranks.{natural}
@@ -27,7 +33,7 @@ use Rattle.rank_rules.specs.Knowledge.{Knowledge, own_class}
 use Rattle.rank_rules.specs.Ranges.{Range}
 use Rattle.rank_rules.specs.Windows.{RankWindows, no_part, part_at}
 use Rattle.rank_rules.specs.WindowTests.{window_class}
-use Rattle.step_laws.proofs.Lists.{each_kept, each_found, each_append, each_weaker, each_filter}
+use Rattle.step_laws.proofs.Lists.{each_found, each_filter}
 use Rattle.step_laws.proofs.Memory.{allocate_has_memory}
 use Rattle.step_laws.proofs.OwnRoom.{FitsMemory, IsByAddress, creation_is_inside, attach_is_inside}
 use Rattle.step_laws.proofs.OwnTests.{windows_allow}
@@ -45,9 +51,6 @@ HasRoom most (Synchronises win s) = Unit {0}
 HasRoom most Meets = Unit {0}
 HasRoom most (Moves t) = Unit {0}
 HasRoom most (EndsRequest req) = Unit {0}
-
-further : (a b c : ℕ) → a ≤ b → b ≤ c → a ≤ c
-further a b c h k = omega arith
 
 action_has_room : (known : RankWindows) (most : ℕ) (a : Action) → known.space ≤ most → window_class known a ≡ None →
     HasRoom most a
@@ -137,20 +140,6 @@ attached_lie script entries rank window sound =
         (eqb-true act.row.rank rank (and_parts (act.row.rank == rank) (act.window == window) mine).0) sound'.room
 
 -- ---- the parts of windows
-
-creation_in_is : (a : Action) (creation : Creation) → creation_in a ≡ Some creation → a ≡ Creates creation
-creation_in_is (Creates c) creation e = let is : c ≡ creation = cc e in ap Creates is
-creation_in_is (Frees win) creation e = absurd (cc e)
-creation_in_is (Attaches win base bytes) creation e = absurd (cc e)
-creation_in_is (Detaches win base) creation e = absurd (cc e)
-creation_in_is (Synchronises win s) creation e = absurd (cc e)
-creation_in_is Meets creation e = absurd (cc e)
-creation_in_is (Moves t) creation e = absurd (cc e)
-creation_in_is (EndsRequest req) creation e = absurd (cc e)
-
-pub creates_it : (call : Call) (creation : Creation) → creation_of call ≡ Some creation →
-    action_of call ≡ Creates creation
-creates_it call creation e = creation_in_is (action_of call) creation e
 
 -- a dynamic window has no bytes at first, and an address is a displacement
 pub record IsPlain (creation : Creation) : Type 0 where

@@ -1,14 +1,13 @@
 -- After the deliveries at the end of a run nothing is pending.
-use Rattle.std.proofs.Common.{◌≡◌, ℕ, zero, suc, ◌+◌, ◌<◌, ◌≤◌, inl, inr, List, [], ◌∷◌, length, get_or, Option, Some}
+use Rattle.std.proofs.Common.{◌≡◌, ℕ, zero, suc, ◌+◌, ◌<◌, ◌≤◌, inl, inr, List, [], ◌∷◌, length, get_or, Option}
 use Rattle.std.proofs.Common.{None, refl, sym, ◌∙◌, ap, subst, arith, length-set, get_or-set_same, get_or-set_other}
-use Rattle.std.specs.Prelude.{slice_get, slice_set, remove}
+use Rattle.std.specs.Prelude.{slice_set}
 use Rattle.std.specs.List.{fold}
 use Rattle.std.specs.Option.{option_map_or}
 use Rattle.std.proofs.lemmas.Bool.Decides.{eqb_tells}
 use Rattle.rma_types.specs.declared.schedules.Delay.{Delay}
 use Rattle.rma_types.specs.declared.schedules.Order.{Order}
 use Rattle.rma_types.specs.declared.scripts.Script.{Script}
-use Rattle.call_rules.specs.declared.cells.Cell.{Cell}
 use Rattle.call_rules.specs.Pieces.{numbers_from}
 use Rattle.lawful_runs.specs.Stages.{Stage, stage_of}
 use Rattle.rank_rules.specs.declared.pending.PendingAccess.{PendingAccess}
@@ -16,17 +15,9 @@ use Rattle.step_runs.specs.Agents.{Agent, new_agent}
 use Rattle.step_runs.specs.DataSteps.{OnMemory, deliver}
 use Rattle.step_runs.specs.StepRun.{World, agent_at, deliver_each, drain_rank, drain, turn_on_memory, run_from}
 use Rattle.step_runs.specs.StepRun.{first_world, most_turns}
+use Rattle.step_runs.proofs.DataStepLaws.{first_delivered}
 use Rattle.step_laws.proofs.Turns.{IsRegular, regular_picks, regular_turns, run_keeps, first_is_regular}
-use Rattle.step_laws.proofs.Weights.{delivers_is}
 use Rattle.step_laws.specs.Drained.{NothingIsPending, RunIsDrained}
-
--- the first of some pending accesses is delivered, and the others are left
-first_delivered : (stage : Stage) (agent : Agent) (cells : List Cell) (one : PendingAccess)
-    (rest : List PendingAccess) → agent.pending ≡ one ∷ rest →
-    (deliver stage agent cells 0).agent.pending ≡ rest
-first_delivered stage agent cells one rest is =
-    let there : slice_get agent.pending 0 ≡ Some one = ap (λ pending. slice_get pending 0) is in
-    (delivers_is stage agent cells 0 one there).1 ∙ ap (λ pending. remove pending 0) is
 
 -- as many deliveries as are pending leave none
 pub delivers_all : (stage : Stage) (pending : List PendingAccess) (now : OnMemory) → now.agent.pending ≡ pending →

@@ -1,26 +1,28 @@
 -- What a step of a rank at the board does: nothing, one entry or look, or the Arrive of a collective and then its
 -- Leave.
-use Rattle.std.proofs.Common.{◌≡◌, ℕ, ◌+◌, Bool, true, false, cond, not, List, [], ◌∷◌, ◌++◌, length, Option, Some}
+use Rattle.std.proofs.Common.{◌≡◌, ◌+◌, Bool, true, false, cond, not, List, [], ◌∷◌, ◌++◌, length, Option, Some}
 use Rattle.std.proofs.Common.{None, refl, sym, ◌∙◌, ap, subst}
-use Rattle.std.specs.Prelude.{◌&&◌, is_none, slice_get}
+use Rattle.std.specs.Prelude.{◌&&◌, is_none}
 use Rattle.std.specs.Option.{option_map_or}
 use Rattle.std.proofs.lemmas.Bool.{and_parts}
 use Rattle.rma_types.specs.declared.accesses.Step.{Step}
 use Rattle.rma_types.specs.declared.accesses.Step.TheVariants.{Arrive, Leave, One}
 use Rattle.rma_types.specs.declared.calls.Call.{Call}
 use Rattle.rma_types.specs.declared.classes.Class.{Class}
-use Rattle.rma_types.specs.declared.scripts.Part.{Part}
+use Rattle.rma_types.proofs.ClassLaws.{none_is}
 use Rattle.rma_record.specs.declared.items.Item.{Item}
 use Rattle.rma_record.specs.declared.items.Item.TheVariants.{Entry, Tested, Refused}
-use Rattle.board_rules.specs.Board.{Decision, Refuse, Allow, NotYet, decision_by, decide}
+use Rattle.rank_rules.proofs.KnowledgeLaws.{learns_nothing}
+use Rattle.board_rules.specs.Board.{Decision, Refuse, Allow, NotYet, decide}
 use Rattle.board_rules.specs.Entries.{Row}
 use Rattle.board_rules.specs.Questions.{question}
 use Rattle.board_rules.specs.Rounds.{all_arrived}
-use Rattle.call_rules.specs.Actions.{transfer_of}
+use Rattle.rma_types.specs.Actions.{transfer_of}
+use Rattle.board_rules.proofs.DecisionLaws.{never_refused}
 use Rattle.lawful_runs.specs.Stages.{Stage, calls_at, shapes_in}
 use Rattle.rank_rules.specs.Courses.{Course, OneNull, OneIssue, LookUpAndIssue, OneFlush, OneRequest, ArriveAndLeave}
 use Rattle.rank_rules.specs.Courses.{EntryOrTested, OneEntry, course_of, has_entry}
-use Rattle.rank_rules.specs.Knowledge.{Knowledge, own_class, ends_call, known_after_number, learn}
+use Rattle.rank_rules.specs.Knowledge.{Knowledge, own_class, ends_call}
 use Rattle.rank_rules.specs.Windows.{RankWindows}
 use Rattle.step_runs.specs.Agents.{Agent, next_call, keep_item, end_call, enter_call, must_draw, awaited_by}
 use Rattle.step_runs.specs.Agents.{begins_with_entry}
@@ -118,16 +120,6 @@ IsMovedTo stage agent rows step = EntryMoves stage agent rows step.agent step.ro
 
 -- ---- what an entry teaches
 
--- an entry that does not end its call teaches nothing
-pub learns_nothing : (shapes : ℕ → List Part) (calls : List Call) (known : Knowledge) (number place : ℕ) (step : Step)
-    (call : Call) →
-    slice_get calls number ≡ Some call → ends_call step call ≡ false →
-    learn shapes calls known (Entry number place step) ≡ known
-learns_nothing shapes calls known number place step call here opens =
-    ap (λ (o : Option Call). option_map_or (known_after_number shapes calls known)
-    (option_map_or (λ (c : Call). cond (ends_call step c) (Some number) None) o None) known) here
-    ∙ ap (λ b. option_map_or (known_after_number shapes calls known) (cond b (Some number) None) known) opens
-
 -- a look-up does not end its call
 pub look_up_opens : (known : RankWindows) (call : Call) → course_of known call ≡ LookUpAndIssue →
     ends_call One call ≡ false
@@ -141,11 +133,6 @@ known_stays stage agent rows call step here opens =
     agent.at (length rows) step call here opens
 
 -- ---- the step
-
--- a Leave is not refused
-never_refused : (b : Bool) (class : Class) → decision_by None b ≡ Refuse class → ⊥
-never_refused true class e = cc e
-never_refused false class e = cc e
 
 leave_moves : (d : Decision) (stage : Stage) (agent : Agent) (rows : List Row) (call : Call) →
     decide stage.script.ranks rows (next_row agent call Leave) ≡ d →
@@ -261,10 +248,6 @@ is_collective_call OneEntry h n = absurd h
 no_issue_of : (known : RankWindows) (call : Call) → is_none (transfer_of call) ≡ true →
     HasIssue (course_of known call) → ⊥
 no_issue_of known call none h = let t = transfer_with_issue known call h in absurd (cc (none, ap is_none t.1))
-
-none_is : (o : Option Class) → is_none o ≡ true → o ≡ None
-none_is None h = refl
-none_is (Some class) h = absurd (cc h)
 
 entry_moves : (stage : Stage) (agent : Agent) (rows : List Row) (call : Call) → HasBegun stage agent →
     next_call stage agent ≡ Some call →

@@ -5,6 +5,7 @@ use Rattle.std.specs.Prelude.{◌&&◌, ◌||◌, ◌==◌, map, slice_get, is_s
 use Rattle.std.specs.List.{filter, flat_map, list_any, AllByRecursion}
 use Rattle.std.specs.Option.{option_map_or}
 use Rattle.std.proofs.lemmas.Bool.{and_parts, and_from, or_parts, or_left, or_right, not-false, eqb-true, eq-eqb}
+use Rattle.list_laws.proofs.Each.{each_weaker}
 use Rattle.rma_types.specs.declared.accesses.Step.TheVariants.{Arrive}
 use Rattle.rma_types.specs.declared.calls.Call.{Call}
 use Rattle.rma_types.specs.declared.calls.Flavor.{Flavor}
@@ -12,20 +13,27 @@ use Rattle.rma_types.specs.declared.calls.Flavor.TheVariants.{Allocate, Create, 
 use Rattle.rma_types.specs.declared.classes.Class.{Class}
 use Rattle.rma_types.specs.declared.classes.Class.TheVariants.{Flavor as FlavorClass}
 use Rattle.rma_types.specs.declared.scripts.Script.{Script}
+use Rattle.rma_types.proofs.ActionLaws.{creates_it}
 use Rattle.board_rules.specs.Board.{Allow, refuse_if, arrive_refusal, refusal, decision_by, is_allowed_now, decide}
 use Rattle.board_rules.specs.Entries.{Row, Act, acts, window_of, is_arrive, is_creation, begins_window, creations}
 use Rattle.board_rules.specs.Entries.{is_by_on, Creation as CreationRound, is_same_collective, fence_or_none}
 use Rattle.board_rules.specs.Entries.{is_collective, collective_in, arrivals}
 use Rattle.board_rules.specs.Questions.{Question, question}
 use Rattle.board_rules.specs.Rounds.{arrivals_of, rounds_begun, is_differing_creation, has_other_flavor}
-use Rattle.call_rules.specs.Actions.{Action, Creates, Frees, Attaches, Detaches, Synchronises, Meets, Moves}
-use Rattle.call_rules.specs.Actions.{EndsRequest, Synchronisation, Fences, Posts, Starts, Completes, Waits, Locks}
-use Rattle.call_rules.specs.Actions.{Unlocks, Flushes, Syncs, Creation, action_of, creation_in, creation_of}
+use Rattle.rma_types.specs.declared.actions.Action.{Action}
+use Rattle.rma_types.specs.declared.actions.Action.TheVariants.{Creates, Frees, Attaches, Detaches, Synchronises, Meets}
+use Rattle.rma_types.specs.declared.actions.Action.TheVariants.{Moves, EndsRequest}
+use Rattle.rma_types.specs.declared.actions.Synchronisation.{Synchronisation}
+use Rattle.rma_types.specs.declared.actions.Synchronisation.TheVariants.{Fences, Posts, Starts, Completes, Waits, Locks}
+use Rattle.rma_types.specs.declared.actions.Synchronisation.TheVariants.{Unlocks, Flushes, Syncs}
+use Rattle.rma_types.specs.declared.actions.Creation.{Creation}
+use Rattle.rma_types.specs.Actions.{action_of, creation_in, creation_of}
 use Rattle.call_rules.specs.Pieces.{numbers_from}
 use Rattle.rank_rules.specs.Windows.{is_same_flavor}
-use Rattle.step_laws.proofs.Creations.{IsSoundRow, IsSoundAct, acts_sound, creates_it, MakesWith}
-use Rattle.step_laws.proofs.Lists.{number_among, each_weaker}
-use Rattle.step_laws.proofs.EntryNumbers.{IsNumberedAct, new_number, one_name}
+use Rattle.board_rules.proofs.EntryLaws.{new_number}
+use Rattle.step_laws.proofs.Creations.{IsSoundRow, IsSoundAct, acts_sound, MakesWith}
+use Rattle.step_laws.proofs.Lists.{number_among}
+use Rattle.step_laws.proofs.EntryNumbers.{IsNumberedAct, one_name}
 
 -- ---- the arrivals of a round
 

@@ -2,35 +2,13 @@
 use Rattle.std.proofs.Common.{◌≡◌, ℕ, zero, suc, ◌+◌, ◌<◌, ◌≤◌, inl, inr, Bool, true, false, cond, List, [], ◌∷◌, ◌++◌}
 use Rattle.std.proofs.Common.{length, get_or, take, drop, Option, Some, None, refl, sym, subst, arith, get_or-set_same}
 use Rattle.std.proofs.Common.{get_or-set_other}
-use Rattle.std.specs.Prelude.{map, slice_get, slice_set, reverse, remove}
+use Rattle.std.specs.Prelude.{map, slice_set, reverse}
 use Rattle.std.specs.List.{filter, find, AllByRecursion}
 use Rattle.std.specs.Option.{option_map_or}
 use Rattle.std.proofs.lemmas.Bool.Decides.{eqb_tells}
 use Rattle.std.proofs.lemmas.List.{reverse-append}
+use Rattle.list_laws.proofs.Each.{each_append, each_front, each_back}
 use Rattle.call_rules.specs.Pieces.{numbers_from}
-
-pub each_take : {X : Type 0} (P : X → Type 0) (n : ℕ) (xs : List X) → AllByRecursion P xs → AllByRecursion P (take n xs)
-each_take P zero xs h = tt
-each_take P (suc n) [] h = tt
-each_take P (suc n) (x ∷ xs) h = (h.0, each_take P n xs h.1)
-
-pub each_drop : {X : Type 0} (P : X → Type 0) (n : ℕ) (xs : List X) → AllByRecursion P xs → AllByRecursion P (drop n xs)
-each_drop P zero xs h = h
-each_drop P (suc n) [] h = tt
-each_drop P (suc n) (x ∷ xs) h = each_drop P n xs h.1
-
-pub each_append : {X : Type 0} (P : X → Type 0) (xs ys : List X) → AllByRecursion P xs → AllByRecursion P ys →
-    AllByRecursion P (xs ++ ys)
-each_append P [] ys h k = k
-each_append P (x ∷ xs) ys h k = (h.0, each_append P xs ys h.1 k)
-
-pub each_front : {X : Type 0} (P : X → Type 0) (xs ys : List X) → AllByRecursion P (xs ++ ys) → AllByRecursion P xs
-each_front P [] ys h = tt
-each_front P (x ∷ xs) ys h = (h.0, each_front P xs ys h.1)
-
-pub each_back : {X : Type 0} (P : X → Type 0) (xs ys : List X) → AllByRecursion P (xs ++ ys) → AllByRecursion P ys
-each_back P [] ys h = h
-each_back P (x ∷ xs) ys h = each_back P xs ys h.1
 
 pub each_of_parts : {X : Type 0} (P : X → Type 0) (n : ℕ) (xs : List X) → AllByRecursion P (take n xs) →
     AllByRecursion P (drop n xs) → AllByRecursion P xs
@@ -59,47 +37,10 @@ none_filter {X} test (x ∷ xs) e =
     (test x ≡ false) × AllByRecursion Q xs)
     [ true ↦ λ t empty. absurd (cc empty) | false ↦ λ t empty. (t, rest empty) ] refl e
 
--- what holds of the elements of a list holds of those that a test leaves
-pub each_kept : {X : Type 0} (P : X → Type 0) (test : X → Bool) (xs : List X) → AllByRecursion P xs →
-    AllByRecursion P (filter test xs)
-each_kept P test [] h = tt
-each_kept P test (x ∷ xs) h =
-    let rest = each_kept P test xs h.1 in
-    elim (test x) as (λ b. AllByRecursion P (cond b (x ∷ filter test xs) (filter test xs)))
-    [ true ↦ (h.0, rest) | false ↦ rest ]
-
 pub each_mapped : {X Y : Type 0} (P : X → Type 0) (Q : Y → Type 0) (f : X → Y) → ((x : X) → P x → Q (f x)) →
     (xs : List X) → AllByRecursion P xs → AllByRecursion Q (map f xs)
 each_mapped P Q f keeps [] h = tt
 each_mapped P Q f keeps (x ∷ xs) h = (keeps x h.0, each_mapped P Q f keeps xs h.1)
-
-pub each_weaker : {X : Type 0} (P Q : X → Type 0) → ((x : X) → P x → Q x) → (xs : List X) → AllByRecursion P xs →
-    AllByRecursion Q xs
-each_weaker P Q keeps [] h = tt
-each_weaker P Q keeps (x ∷ xs) h = (keeps x h.0, each_weaker P Q keeps xs h.1)
-
-pub each_get : {X : Type 0} (P : X → Type 0) (xs : List X) (i : ℕ) (x : X) → AllByRecursion P xs →
-    slice_get xs i ≡ Some x → P x
-each_get P [] i x h e = absurd (cc e)
-each_get P (y ∷ ys) zero x h e = let is : y ≡ x = cc e in subst P is h.0
-each_get P (y ∷ ys) (suc i) x h e = each_get P ys i x h.1 e
-
--- an element of a list that goes on
-pub get_append : {X : Type 0} (xs ys : List X) (i : ℕ) (x : X) → slice_get xs i ≡ Some x →
-    slice_get (xs ++ ys) i ≡ Some x
-get_append [] ys i x e = absurd (cc e)
-get_append (y ∷ xs) ys zero x e = e
-get_append (y ∷ xs) ys (suc i) x e = get_append xs ys i x e
-
-pub each_removed : {X : Type 0} (P : X → Type 0) (xs : List X) (i : ℕ) → AllByRecursion P xs →
-    AllByRecursion P (remove xs i)
-each_removed P xs i h = each_append P (take i xs) (drop (suc i) xs) (each_take P i xs h) (each_drop P (suc i) xs h)
-
-pub each_get_or : {X : Type 0} (P : X → Type 0) (xs : List X) (i : ℕ) (d : X) → P d → AllByRecursion P xs →
-    P (get_or xs i d)
-each_get_or P [] i d default h = default
-each_get_or P (y ∷ ys) zero d default h = h.0
-each_get_or P (y ∷ ys) (suc i) d default h = each_get_or P ys i d default h.1
 
 -- what is found has the property, and passes the test
 pub each_found : {X Y : Type 0} (P : X → Type 0) (Q : Y → Type 0) (test : X → Bool) (f : X → Y) (d : Y) →
@@ -110,15 +51,6 @@ each_found P Q test f d keeps default (x ∷ xs) h =
     let rest = each_found P Q test f d keeps default xs h.1 in
     elim (test x) as (λ b. test x ≡ b → Q (option_map_or f (cond b (Some x) (find test xs)) d))
     [ true ↦ λ e. keeps x h.0 e | false ↦ λ e. rest ] refl
-
-pub found_is : {X : Type 0} (P : X → Type 0) (test : X → Bool) (xs : List X) (x : X) → AllByRecursion P xs →
-    find test xs ≡ Some x → P x × (test x ≡ true)
-found_is P test [] x h e = absurd (cc e)
-found_is {X} P test (y ∷ ys) x h e =
-    let rest : find test ys ≡ Some x → P x × (test x ≡ true) = found_is P test ys x h.1 in
-    let Q : X → Type 0 = λ z. P z × (test z ≡ true) in
-    elim (test y) as (λ b. test y ≡ b → cond b (Some y) (find test ys) ≡ Some x → Q x)
-    [ true ↦ λ t e. let is : y ≡ x = cc e in subst Q is (h.0, t) | false ↦ λ t e. rest e ] refl e
 
 reverse_cons : {X : Type 0} (x : X) (xs : List X) → reverse (x ∷ xs) ≡ reverse xs ++ x ∷ []
 reverse_cons x xs = reverse-append (x ∷ []) xs
@@ -155,10 +87,6 @@ number_among P first (suc count) n h low high =
       | inl same ↦ subst P (sym same.1) h.0
       | inr other ↦ let ne = other.1 in number_among P (first + 1) count n h.1 (omega arith) (omega arith)
     ]
-
-pub length_numbers : (first count : ℕ) → length (numbers_from first count) ≡ count
-length_numbers first zero = refl
-length_numbers first (suc count) = grind (arith, length_numbers (first + 1) count)
 
 -- ---- one element changes
 

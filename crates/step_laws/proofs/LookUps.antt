@@ -2,17 +2,22 @@
 use Rattle.std.proofs.Common.{◌≡◌, ℕ, Bool, true, false, List, Option, Some, None, refl, sym, ◌∙◌, subst}
 use Rattle.std.specs.Prelude.{◌==◌}
 use Rattle.std.proofs.lemmas.Bool.{not-false}
+use Rattle.list_laws.proofs.Each.{found_has}
 use Rattle.rma_types.specs.declared.accesses.Step.TheVariants.{One}
 use Rattle.rma_types.specs.declared.calls.Call.{Call}
 use Rattle.rma_types.specs.declared.classes.Class.{Class}
 use Rattle.rma_types.specs.declared.classes.Class.TheVariants.{Range as RangeClass}
 use Rattle.rma_types.specs.declared.schedules.Delay.{Delay}
 use Rattle.rma_types.specs.declared.scripts.Script.{Script}
+use Rattle.rma_types.proofs.ActionLaws.{moves_it}
+use Rattle.rank_rules.proofs.KnowledgeLaws.{epochs_allow}
 use Rattle.board_rules.specs.AttachedRanges.{ranges_attached, reaches_unattached}
 use Rattle.board_rules.specs.Board.{Allow, refuse_if, one_refusal, refusal, decision_by, is_allowed_now}
 use Rattle.board_rules.specs.Entries.{Row, acts}
 use Rattle.board_rules.specs.Questions.{Question, question}
-use Rattle.call_rules.specs.Actions.{Moves, Transfer, action_of, transfer_of}
+use Rattle.rma_types.specs.declared.actions.Transfer.{Transfer}
+use Rattle.rma_types.specs.declared.actions.Action.TheVariants.{Moves}
+use Rattle.rma_types.specs.Actions.{action_of, transfer_of}
 use Rattle.call_rules.specs.Layout.{layout}
 use Rattle.call_rules.specs.Ranks.{natural}
 use Rattle.call_rules.specs.Transfers.{rank_reached, bytes_of}
@@ -29,9 +34,8 @@ use Rattle.step_laws.proofs.CallCourses.{looks_up_dynamic}
 use Rattle.step_laws.proofs.Creations.{acts_sound, attached_lie}
 use Rattle.step_laws.proofs.EntryMoves.{IsAllowedEntry}
 use Rattle.step_laws.proofs.Flavors.{AreRegular}
-use Rattle.step_laws.proofs.Lists.{found_is}
 use Rattle.step_laws.proofs.OwnRoom.{IsRoomyWindow, right_place, looked_up_lies}
-use Rattle.step_laws.proofs.OwnTests.{HasIssue, moves_it, windows_allow, epochs_allow, transfer_passed}
+use Rattle.step_laws.proofs.OwnTests.{HasIssue, windows_allow, transfer_passed}
 use Rattle.step_laws.proofs.Sound.{IsSoundRank}
 use Rattle.step_laws.specs.Inside.{LiesInMemory}
 
@@ -44,7 +48,7 @@ pub look_up_lies : (script : Script) (delay : Delay) (rank : ℕ) (agent : Agent
 look_up_lies script delay rank agent rows call t regular sound entry course moves window live =
     looked_up_lies (layout script) known t window
     (ranges_attached (acts rows) (rank_reached known.rank t.target) q.window)
-    (found_is (IsRoomyWindow (layout script)) (λ (w : Window). w.win == t.win) known.windows window
+    (found_has (IsRoomyWindow (layout script)) (λ (w : Window). w.win == t.win) known.windows window
     sound.roomy.windows live).0
     (looks_up_dynamic known t window looks live)
     (right_place known agent.known.epochs window t (subst HasIssue (sym looks) tt)

@@ -1,7 +1,7 @@
 -- The memory of each rank's space and allocates lies in the rank's memory, and that in the cells of all ranks.
 use Rattle.std.proofs.Common.{◌≡◌, ℕ, zero, suc, ◌+◌, ◌*◌, ◌/◌, ◌%◌, ◌<◌, ◌≤◌, Bool, cond, List, [], ◌∷◌, ◌++◌, length}
 use Rattle.std.proofs.Common.{get_or, Option, Some, None, refl, sym, ◌∙◌, ap, subst, arith, add-zero, zero-add}
-use Rattle.std.specs.Prelude.{map, slice_get, slice_index_or, sum_by, ◌==◌, ℤ, pos, negsuc}
+use Rattle.std.specs.Prelude.{map, slice_get, slice_index_or, sum_by, ◌==◌, pos, negsuc}
 use Rattle.std.specs.List.{find, zip, AllByRecursion}
 use Rattle.std.specs.Option.{option_map_or}
 use Rattle.std.proofs.lemmas.Bool.{eq-eqb, ne_eqb}
@@ -17,9 +17,12 @@ use Rattle.rma_types.specs.declared.scripts.Layout.{Layout}
 use Rattle.rma_types.specs.declared.scripts.MemoryPart.{MemoryPart}
 use Rattle.rma_types.specs.declared.scripts.CallBase.{CallBase}
 use Rattle.rma_types.specs.Datatypes.{size_of}
+use Rattle.rma_types.proofs.MemoryLaws.{bytes_in, first_in}
+use Rattle.call_rules.proofs.LayoutLaws.{memory_is_cells, byte_in_cells}
 use Rattle.board_rules.specs.Shapes.{base_of}
 use Rattle.call_rules.specs.declared.elements.Piece.{Piece}
-use Rattle.call_rules.specs.Actions.{Creation, creation_of}
+use Rattle.rma_types.specs.declared.actions.Creation.{Creation}
+use Rattle.rma_types.specs.Actions.{creation_of}
 use Rattle.call_rules.specs.Layout.{round_up, own_bytes, call_bytes, memory_bytes, base_for, base_at, bases_from}
 use Rattle.call_rules.specs.Layout.{ranks_of, parts_from, layout, cells_of}
 use Rattle.call_rules.specs.Pieces.{numbers_from, first_cell, piece_at, pieces}
@@ -29,52 +32,8 @@ use Rattle.step_laws.specs.Inside.{bytes_at, LiesInMemory}
 
 -- ---- the cells of a rank's memory
 
--- a number of bytes that is a number of cells
-abbrev pub AreCells : ℕ → Type 0
-AreCells bytes = (cells : ℕ) × (bytes ≡ 4 * cells)
-
-rounded_is_cells : (bytes : ℕ) → AreCells (round_up bytes)
-rounded_is_cells bytes = (2 * ((bytes + 7) / 8), omega arith)
-
 rounded_up : (bytes : ℕ) → bytes ≤ round_up bytes
 rounded_up bytes = omega arith
-
-own_is_cells : (flavor : Flavor) (bytes : ℤ) → AreCells (own_bytes flavor bytes)
-own_is_cells Allocate bytes = rounded_is_cells (natural bytes)
-own_is_cells Create bytes = (0, refl)
-own_is_cells Dynamic bytes = (0, refl)
-
-call_is_cells : (call : Call) → AreCells (call_bytes call)
-call_is_cells call = by_creation (creation_of call)
-  where
-    by_creation : (o : Option Creation) → AreCells
-        (option_map_or (λ (creation : Creation). own_bytes creation.flavor creation.bytes) o 0)
-    by_creation None = (0, refl)
-    by_creation (Some creation) = own_is_cells creation.flavor creation.bytes
-
-more_cells : (a b : ℕ) → AreCells a → AreCells b → AreCells (a + b)
-more_cells a b (m, h) (n, k) = (m + n, omega arith)
-
-calls_are_cells : (calls : List Call) → AreCells (sum_by call_bytes calls)
-calls_are_cells [] = (0, refl)
-calls_are_cells (call ∷ calls) =
-    subst AreCells (sym (sum_by-cons call_bytes call calls))
-    (more_cells (call_bytes call) (sum_by call_bytes calls) (call_is_cells call) (calls_are_cells calls))
-
-memory_is_cells : (space : ℕ) (calls : List Call) → AreCells (memory_bytes space calls)
-memory_is_cells space calls = more_cells (round_up space) (sum_by call_bytes calls) (rounded_is_cells space)
-    (calls_are_cells calls)
-
--- a byte of some cells lies in one of them
-byte_in_cells : (bytes address : ℕ) → AreCells bytes → address < bytes → address / 4 < bytes / 4
-byte_in_cells bytes address (cells, e) h = omega arith
-
--- the memory at a place among parts
-abbrev pub bytes_in : List MemoryPart → ℕ → ℕ
-bytes_in parts rank = option_map_or (λ (part : MemoryPart). part.bytes) (slice_get parts rank) 0
-
-abbrev pub first_in : List MemoryPart → ℕ → ℕ
-first_in parts rank = option_map_or (λ (part : MemoryPart). part.first_cell) (slice_get parts rank) 0
 
 abbrev pub cells_in : List MemoryPart → ℕ
 cells_in parts = sum_by (λ (part : MemoryPart). part.bytes / 4) parts

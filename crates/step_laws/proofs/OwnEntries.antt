@@ -9,18 +9,20 @@ use Rattle.rma_types.specs.declared.accesses.Step.{Step}
 use Rattle.rma_types.specs.declared.calls.Call.{Call}
 use Rattle.rma_types.specs.declared.schedules.Delay.{Delay}
 use Rattle.rma_types.specs.declared.scripts.Script.{Script}
+use Rattle.rma_types.proofs.ActionLaws.{name_made}
 use Rattle.board_rules.specs.Entries.{Row, is_creation, names_window}
-use Rattle.call_rules.specs.Actions.{Creation, creation_of}
+use Rattle.rma_types.specs.declared.actions.Creation.{Creation}
+use Rattle.rma_types.specs.Actions.{creation_of}
 use Rattle.call_rules.specs.Layout.{layout}
 use Rattle.call_rules.specs.WellFormed.{IsWellFormed}
+use Rattle.board_rules.proofs.EntryLaws.{names_it}
 use Rattle.lawful_runs.specs.Stages.{stage_of}
 use Rattle.step_runs.specs.Agents.{Agent}
 use Rattle.step_runs.specs.BoardSteps.{next_row}
 use Rattle.step_laws.proofs.Creations.{IsSoundRow, own_has_room}
 use Rattle.step_laws.proofs.EntryMoves.{HasBegun, IsAllowedEntry, with_row}
 use Rattle.step_laws.proofs.Flavors.{AreRegular}
-use Rattle.step_laws.proofs.EntryNumbers.{names_it}
-use Rattle.step_laws.proofs.Sound.{IsSoundRank, regular_push, other_push, name_made}
+use Rattle.step_laws.proofs.Sound.{IsSoundRank, regular_push, other_push}
 use Rattle.step_laws.specs.Inside.{bytes_at}
 
 -- ---- the rank's own entry
@@ -83,7 +85,3 @@ count_made call true win e = by_creation (creation_of call) refl
         (option_map_or (λ (creation : Creation). creation.win ∷ []) o [])
     by_creation None none = refl
     by_creation (Some creation) makes = ap (λ b. cond b 1 0) (names_it call creation win makes) ∙ one creation
-
-pub no_begin : (x y z : Bool) → (x && (false && y) && z) ≡ false
-no_begin true y z = refl
-no_begin false y z = refl

@@ -5,6 +5,7 @@ use Rattle.std.specs.Prelude.{◌&&◌, ◌||◌, ◌==◌, nat_lt, nat_le, map,
 use Rattle.std.specs.List.{filter, list_any, list_all, AllByRecursion}
 use Rattle.std.specs.Option.{option_map_or}
 use Rattle.std.proofs.lemmas.Bool.{and_parts, or_parts, not-false, eqb-true, ltb-true, ltb-false, le-ltb}
+use Rattle.list_laws.proofs.Each.{each_kept}
 use Rattle.rma_types.specs.declared.accesses.Access.{Access}
 use Rattle.rma_types.specs.declared.calls.Call.{Call}
 use Rattle.rma_types.specs.declared.calls.Flavor.{Flavor}
@@ -13,7 +14,12 @@ use Rattle.rma_types.specs.declared.classes.Class.TheVariants.{Disp, Range as Ra
 use Rattle.rma_types.specs.declared.scripts.Layout.{Layout}
 use Rattle.rma_types.specs.declared.scripts.Part.{Part}
 use Rattle.rma_types.specs.Datatypes.{size_of}
-use Rattle.call_rules.specs.Actions.{Action, Creates, Attaches, Moves, Creation, Transfer, Target, Own, Null, Named}
+use Rattle.rma_types.specs.declared.actions.Action.{Action}
+use Rattle.rma_types.specs.declared.actions.Creation.{Creation}
+use Rattle.rma_types.specs.declared.actions.Target.{Target}
+use Rattle.rma_types.specs.declared.actions.Transfer.{Transfer}
+use Rattle.rma_types.specs.declared.actions.Action.TheVariants.{Creates, Attaches, Moves}
+use Rattle.rma_types.specs.declared.actions.Target.TheVariants.{Own, Null, Named}
 use Rattle.call_rules.specs.Pieces.{numbers_from}
 use Rattle.call_rules.specs.Ranks.{natural, is_rank}
 use Rattle.call_rules.specs.Transfers.{rank_reached, bytes_of}
@@ -27,8 +33,9 @@ use Rattle.rank_rules.specs.Windows.{attached_to}
 use Rattle.rank_rules.specs.WindowTests.{is_outside, is_in_use, has_wrong_base, is_not_dynamic, address_in}
 use Rattle.rank_rules.specs.WindowTests.{is_misplaced, passes_end, is_unattached, part_reached, address_of}
 use Rattle.rank_rules.specs.WindowTests.{is_out_of_range, has_rank_and_count, place_tests, window_tests, window_class}
-use Rattle.step_laws.proofs.Lists.{each_mapped, each_kept, number_among}
-use Rattle.step_laws.proofs.OwnTests.{HasIssue, none_applies}
+use Rattle.rank_rules.proofs.ClassLaws.{none_applies}
+use Rattle.step_laws.proofs.Lists.{each_mapped, number_among}
+use Rattle.step_laws.proofs.OwnTests.{HasIssue}
 use Rattle.step_laws.specs.Inside.{bytes_at, LiesInMemory}
 pub use Rattle.step_laws.specs.Rooms.{FitsMemory, IsByAddress, IsRoomyWindow, EndsInMemory, AreRoomy}
 

@@ -1,18 +1,21 @@
 -- What follows where a rank does not refuse a call by its own tests.
-use Rattle.std.proofs.Common.{◌≡◌, ℕ, ◌<◌, Bool, true, false, cond, List, [], ◌∷◌, Option, Some, None, refl, sym, ◌∙◌}
-use Rattle.std.proofs.Common.{ap, subst, arith}
-use Rattle.std.specs.List.{AllByRecursion}
+use Rattle.std.proofs.Common.{◌≡◌, ℕ, ◌<◌, Bool, true, false, cond, [], ◌∷◌, Option, Some, None, refl, sym, ◌∙◌}
+use Rattle.std.proofs.Common.{subst, arith}
 use Rattle.std.specs.Option.{option_map_or}
-use Rattle.std.specs.Prelude.{nat_lt}
 use Rattle.rma_types.specs.declared.calls.Call.{Call}
-use Rattle.rma_types.specs.declared.classes.Class.{Class}
 use Rattle.rma_types.specs.declared.classes.Class.TheVariants.{Win}
-use Rattle.rma_types.specs.Classes.{class_number}
-use Rattle.call_rules.specs.Actions.{Action, Creates, Frees, Attaches, Detaches, Synchronises, Meets, Moves}
-use Rattle.call_rules.specs.Actions.{EndsRequest, Synchronisation, Fences, Posts, Starts, Completes, Waits, Locks}
-use Rattle.call_rules.specs.Actions.{Unlocks, Flushes, Syncs, Transfer, Target, Own, Null, Named, action_of}
-use Rattle.call_rules.specs.Actions.{transfer_in, transfer_of}
-use Rattle.rank_rules.specs.Classes.{Test, first_class, least_class}
+use Rattle.rma_types.specs.declared.actions.Action.{Action}
+use Rattle.rma_types.specs.declared.actions.Action.TheVariants.{Creates, Frees, Attaches, Detaches, Synchronises, Meets}
+use Rattle.rma_types.specs.declared.actions.Action.TheVariants.{Moves, EndsRequest}
+use Rattle.rma_types.specs.declared.actions.Synchronisation.{Synchronisation}
+use Rattle.rma_types.specs.declared.actions.Synchronisation.TheVariants.{Fences, Posts, Starts, Completes, Waits, Locks}
+use Rattle.rma_types.specs.declared.actions.Synchronisation.TheVariants.{Unlocks, Flushes, Syncs}
+use Rattle.rma_types.specs.declared.actions.Target.{Target}
+use Rattle.rma_types.specs.declared.actions.Transfer.{Transfer}
+use Rattle.rma_types.specs.declared.actions.Target.TheVariants.{Own, Null, Named}
+use Rattle.rma_types.specs.Actions.{action_of, transfer_in, transfer_of}
+use Rattle.rma_types.proofs.ActionLaws.{moves_it}
+use Rattle.rank_rules.specs.Classes.{first_class, least_class}
 use Rattle.rank_rules.specs.Courses.{Course, OneNull, OneIssue, LookUpAndIssue, OneFlush, OneRequest, ArriveAndLeave}
 use Rattle.rank_rules.specs.Courses.{EntryOrTested, OneEntry, is_dynamic, course_of_transfer, course_of_synchronisation}
 use Rattle.rank_rules.specs.Courses.{course_of_action, course_of, access_on, access_of}
@@ -21,21 +24,9 @@ use Rattle.rank_rules.specs.Knowledge.{Knowledge, own_class}
 use Rattle.rank_rules.specs.Requests.{request_class}
 use Rattle.rank_rules.specs.Windows.{Window, RankWindows, window_of_name}
 use Rattle.rank_rules.specs.WindowTests.{place_tests, window_tests, window_class}
+use Rattle.rank_rules.proofs.ClassLaws.{least_none}
 
 -- ---- calls that move data
-
-transfer_is : (a : Action) (t : Transfer) → transfer_in a ≡ Some t → a ≡ Moves t
-transfer_is (Creates creation) t e = absurd (cc e)
-transfer_is (Frees win) t e = absurd (cc e)
-transfer_is (Attaches win base bytes) t e = absurd (cc e)
-transfer_is (Detaches win base) t e = absurd (cc e)
-transfer_is (Synchronises win s) t e = absurd (cc e)
-transfer_is Meets t e = absurd (cc e)
-transfer_is (Moves transfer) t e = let is : transfer ≡ t = cc e in ap Moves is
-transfer_is (EndsRequest req) t e = absurd (cc e)
-
-pub moves_it : (call : Call) (t : Transfer) → transfer_of call ≡ Some t → action_of call ≡ Moves t
-moves_it call t e = transfer_is (action_of call) t e
 
 -- a call that has an Issue, directly or after a look-up, moves data
 abbrev pub HasIssue : Course → Type 0
@@ -86,17 +77,6 @@ access_is known call t window moves live = rw moves (rw live refl)
 
 -- ---- classes
 
-least_choice : (b : Bool) (class other : Class) → cond b (Some other) (Some class) ≡ None → ⊥
-least_choice true class other e = cc e
-least_choice false class other e = cc e
-
--- no class is the least where there is none
-pub least_none : (a b : Option Class) → least_class a b ≡ None → (a ≡ None) × (b ≡ None)
-least_none None other e = (refl, e)
-least_none (Some class) None e = absurd (cc e)
-least_none (Some class) (Some other) e = absurd
-    (least_choice (nat_lt (class_number other) (class_number class)) class other e)
-
 -- the rank's windows, its epochs and its requests each allow the call
 pub windows_allow : (known : Knowledge) (call : Call) → own_class known call ≡ None →
     window_class known.windows (action_of call) ≡ None
@@ -104,27 +84,6 @@ windows_allow known call e =
     (least_none (window_class known.windows (action_of call))
     (least_class (epoch_class known.windows.ranks known.epochs (action_of call))
     (request_class known.requests (action_of call))) e).0
-
-pub epochs_allow : (known : Knowledge) (call : Call) → own_class known call ≡ None →
-    epoch_class known.windows.ranks known.epochs (action_of call) ≡ None
-epochs_allow known call e =
-    (least_none (epoch_class known.windows.ranks known.epochs (action_of call))
-    (request_class known.requests (action_of call))
-    (least_none (window_class known.windows (action_of call))
-    (least_class (epoch_class known.windows.ranks known.epochs (action_of call))
-    (request_class known.requests (action_of call))) e).1).0
-
--- where no test applies, the first does not, nor do the others
-pub first_passed : (applies : Bool) (class : Class) (rest : List Test) →
-    first_class ((applies, class) ∷ rest) ≡ None → (applies ≡ false) × (first_class rest ≡ None)
-first_passed true class rest e = absurd (cc e)
-first_passed false class rest e = (refl, e)
-
--- so it is with each test
-pub none_applies : (tests : List Test) → first_class tests ≡ None → AllByRecursion (λ (one : Test). one.0 ≡ false) tests
-none_applies [] e = tt
-none_applies ((applies, class) ∷ rest) e = let passed = first_passed applies class rest e
-    in (passed.0, none_applies rest passed.1)
 
 -- a transfer that passes is on a live window, and its place is right
 pub transfer_passed : (known : RankWindows) (t : Transfer) → window_class known (Moves t) ≡ None →

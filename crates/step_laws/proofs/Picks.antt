@@ -5,13 +5,14 @@ use Rattle.std.specs.Prelude.{slice_get, ◌%◌, reverse}
 use Rattle.std.specs.List.{filter, AllByRecursion}
 use Rattle.std.specs.Option.{option_map_or}
 use Rattle.std.proofs.lemmas.Nat.{mod_below}
+use Rattle.list_laws.proofs.Each.{each_take, each_drop, each_append, each_front, each_back, each_at}
 use Rattle.rma_types.specs.declared.schedules.Order.{Order}
 use Rattle.rma_types.specs.declared.schedules.Order.TheVariants.{Robin, Reverse, Greedy, Seeded}
 use Rattle.call_rules.specs.Pieces.{numbers_from}
 use Rattle.step_runs.specs.Generator.{drawn_from}
 use Rattle.step_runs.specs.Schedules.{Schedule, in_order, turn_of, with_draw, pick_among, pick}
-use Rattle.step_laws.proofs.Lists.{each_take, each_drop, each_append, each_front, each_back, each_of_parts}
-use Rattle.step_laws.proofs.Lists.{each_reverse, each_unreversed, each_filter, none_filter, each_get, numbers_below}
+use Rattle.step_laws.proofs.Lists.{each_of_parts}
+use Rattle.step_laws.proofs.Lists.{each_reverse, each_unreversed, each_filter, none_filter, numbers_below}
 use Rattle.step_laws.proofs.Lists.{number_among}
 
 -- what holds of the ranks in one order holds of them all in another
@@ -62,7 +63,7 @@ drawn_is P schedule drawn ranks at next same all e =
       | None ↦ λ g h. absurd (cc h)
       | Some one ↦ λ g h.
           let is : (one, turn_of drawn one) ≡ next = cc h in
-          subst (λ (n : ℕ × Schedule). IsPickOf P schedule n) is (each_get P ranks at one all g, same)
+          subst (λ (n : ℕ × Schedule). IsPickOf P schedule n) is (each_at P ranks at one all g, same)
     ] in
     go (slice_get ranks at) refl e
 

@@ -4,12 +4,10 @@ use Rattle.std.proofs.Common.{◌≡◌, ℕ, zero, suc, ◌+◌, ◌-◌, ◌*�
 use Rattle.std.proofs.Common.{[], ◌∷◌, ◌++◌, length, Option, Some, None, refl, sym, ◌∙◌, ap, subst, arith, append_assoc}
 use Rattle.std.specs.Prelude.{◌&&◌, ◌==◌, slice_get, is_none}
 use Rattle.std.specs.List.{count_by, sum_by, filter, AllByRecursion}
-use Rattle.std.specs.Option.{option_map_or}
 use Rattle.std.proofs.lemmas.Bool.{and_left, and_right, ne_eqb, eq-eqb, cases_eq}
-use Rattle.std.proofs.lemmas.List.{append-nil}
 use Rattle.std.proofs.lemmas.List.Sums.{sum_by-append, sum_by-cons}
-use Rattle.rma_types.specs.declared.accesses.Step.{Step}
-use Rattle.rma_types.specs.declared.accesses.Step.TheVariants.{Arrive, Leave, One}
+use Rattle.list_laws.proofs.Each.{each_append, each_kept, each_at, each_get_or}
+use Rattle.list_laws.proofs.Lists.{get_append}
 use Rattle.rma_types.specs.declared.calls.Call.{Call}
 use Rattle.rma_types.specs.declared.calls.Flavor.{Flavor}
 use Rattle.rma_types.specs.declared.calls.Flavor.TheVariants.{Allocate, Create, Dynamic}
@@ -17,26 +15,31 @@ use Rattle.rma_types.specs.declared.schedules.Delay.{Delay}
 use Rattle.rma_types.specs.declared.scripts.Layout.{Layout}
 use Rattle.rma_types.specs.declared.scripts.Part.{Part}
 use Rattle.rma_types.specs.declared.scripts.Script.{Script}
+use Rattle.rma_types.proofs.ActionLaws.{creates_it}
 use Rattle.board_rules.specs.Board.{Allow, decide}
 use Rattle.board_rules.specs.Entries.{Row, Act, acts, is_arrive, is_creation, begins_window, names_window, creations}
 use Rattle.board_rules.specs.Entries.{window_of}
-use Rattle.call_rules.specs.Actions.{Action, Creates, Frees, Attaches, Detaches, Synchronises, Meets, Moves}
-use Rattle.call_rules.specs.Actions.{EndsRequest, Creation, Transfer, action_of, creation_in, creation_of, transfer_of}
+use Rattle.rma_types.specs.declared.actions.Action.{Action}
+use Rattle.rma_types.specs.declared.actions.Action.TheVariants.{Creates, Frees, Attaches, Detaches, Synchronises, Meets}
+use Rattle.rma_types.specs.declared.actions.Action.TheVariants.{Moves, EndsRequest}
+use Rattle.rma_types.specs.declared.actions.Creation.{Creation}
+use Rattle.rma_types.specs.declared.actions.Transfer.{Transfer}
+use Rattle.rma_types.specs.Actions.{creation_of, transfer_of}
 use Rattle.call_rules.specs.Layout.{layout}
 use Rattle.call_rules.specs.Ranks.{natural}
 use Rattle.call_rules.specs.WellFormed.{IsWellFormed, IsWrittenCall, IsWrittenAction}
+use Rattle.board_rules.proofs.EntryLaws.{arrive_is, begins_by}
 use Rattle.lawful_runs.specs.Logs.{calls_of}
 use Rattle.lawful_runs.specs.Stages.{Stage, stage_of}
 use Rattle.rank_rules.specs.Courses.{access_on}
 use Rattle.rank_rules.specs.Windows.{Window, OwnRange, RankWindows, window_of_name, next_number, is_same_flavor}
 use Rattle.rank_rules.specs.Windows.{part_at, range_made, with_window, is_attached_from, windows_after}
 use Rattle.step_runs.specs.Agents.{Agent, next_call}
-use Rattle.step_laws.proofs.Creations.{HasRoom, HasLists, IsSoundRow, IsSoundAct, MakesWith, creates_it}
+use Rattle.step_laws.proofs.Creations.{HasRoom, HasLists, IsSoundRow, IsSoundAct, MakesWith}
 use Rattle.step_laws.proofs.Flavors.{AreRegular, AreOfOneFlavor}
-use Rattle.step_laws.proofs.EntryNumbers.{IsNumberedAct, act_after, acts_push, begins_by}
+use Rattle.step_laws.proofs.EntryNumbers.{IsNumberedAct, act_after, acts_push}
 use Rattle.step_laws.proofs.Flavors.{same_as_new}
 use Rattle.step_laws.proofs.EntryNumbers.{creations_push, numbered_push}
-use Rattle.step_laws.proofs.Lists.{each_append, each_kept, each_get, each_get_or, get_append}
 use Rattle.step_laws.proofs.OwnRoom.{AreRoomy, IsRoomyWindow, FitsMemory, IsByAddress, EndsInMemory}
 use Rattle.step_laws.specs.Inside.{bytes_at, LiesInMemory, ArePendingInside, begun_names, names_so_far}
 
@@ -46,14 +49,9 @@ use Rattle.step_laws.specs.Inside.{bytes_at, LiesInMemory, ArePendingInside, beg
 pub small_names : (script : Script) → IsWellFormed script → (row : Row) → IsSoundRow script row →
     (creation : Creation) → creation_of row.call ≡ Some creation → creation.win < 32
 small_names script formed row sound creation makes =
-    let written = each_get IsWrittenCall (calls_of script row.rank) row.number row.call
+    let written = each_at IsWrittenCall (calls_of script row.rank) row.number row.call
     (each_get_or (AllByRecursion IsWrittenCall) script.calls row.rank [] tt formed.calls) sound.here in
     (subst IsWrittenAction (creates_it row.call creation makes) written).name
-
-arrive_is : (step : Step) → is_arrive step ≡ true → step ≡ Arrive
-arrive_is Arrive e = refl
-arrive_is Leave e = absurd (cc e)
-arrive_is One e = absurd (cc e)
 
 -- an entry that is allowed leaves each window of one flavor
 flavors_push : (script : Script) (rows : List Row) (row : Row) → IsWellFormed script → AreRegular script rows →
@@ -248,22 +246,3 @@ space_stays shapes known (Synchronises win s) = refl
 space_stays shapes known Meets = refl
 space_stays shapes known (Moves t) = refl
 space_stays shapes known (EndsRequest req) = refl
-
--- the names that a call adds
-abbrev pub name_made : Call → List ℕ
-name_made call = option_map_or (λ (creation : Creation). creation.win ∷ []) (creation_of call) []
-
-pub created_grows : (shapes : ℕ → List Part) (known : RankWindows) (call : Call) →
-    (windows_after shapes known (action_of call)).created ≡ known.created ++ name_made call
-created_grows shapes known call = by_action (action_of call)
-  where
-    by_action : (a : Action) → (windows_after shapes known a).created ≡ known.created ++ option_map_or
-        (λ (creation : Creation). creation.win ∷ []) (creation_in a) []
-    by_action (Creates creation) = refl
-    by_action (Frees win) = sym (append-nil known.created)
-    by_action (Attaches win base bytes) = sym (append-nil known.created)
-    by_action (Detaches win base) = sym (append-nil known.created)
-    by_action (Synchronises win s) = sym (append-nil known.created)
-    by_action Meets = sym (append-nil known.created)
-    by_action (Moves t) = sym (append-nil known.created)
-    by_action (EndsRequest req) = sym (append-nil known.created)

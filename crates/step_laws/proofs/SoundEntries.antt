@@ -6,6 +6,8 @@ use Rattle.std.specs.List.{count_by, AllByRecursion}
 use Rattle.std.specs.Option.{option_map_or}
 use Rattle.std.proofs.lemmas.Bool.{eq-eqb}
 use Rattle.std.proofs.lemmas.List.{append-nil}
+use Rattle.list_laws.proofs.Each.{each_at}
+use Rattle.list_laws.proofs.Truths.{false_inside}
 use Rattle.rma_types.specs.declared.accesses.Step.{Step}
 use Rattle.rma_types.specs.declared.accesses.Step.TheVariants.{Arrive, Leave, One}
 use Rattle.rma_types.specs.declared.calls.Call.{Call}
@@ -14,11 +16,16 @@ use Rattle.rma_types.specs.declared.calls.Flavor.TheVariants.{Dynamic}
 use Rattle.rma_types.specs.declared.schedules.Delay.{Delay}
 use Rattle.rma_types.specs.declared.scripts.Part.{Part}
 use Rattle.rma_types.specs.declared.scripts.Script.{Script}
+use Rattle.rma_types.proofs.ActionLaws.{transfer_makes_none, creates_it, name_made}
 use Rattle.rma_record.specs.declared.items.Item.{Item}
+use Rattle.rank_rules.proofs.WindowLaws.{created_grows}
 use Rattle.board_rules.specs.Entries.{Row, acts, is_arrive, is_creation, names_window, creations}
-use Rattle.call_rules.specs.Actions.{Creation, Transfer, action_of, creation_in, creation_of, transfer_of}
+use Rattle.rma_types.specs.declared.actions.Creation.{Creation}
+use Rattle.rma_types.specs.declared.actions.Transfer.{Transfer}
+use Rattle.rma_types.specs.Actions.{action_of, creation_in, creation_of, transfer_of}
 use Rattle.call_rules.specs.Layout.{layout}
 use Rattle.call_rules.specs.WellFormed.{IsWellFormed}
+use Rattle.board_rules.proofs.EntryLaws.{begins_by, new_number}
 use Rattle.lawful_runs.specs.Stages.{Stage, stage_of, calls_at, shapes_in}
 use Rattle.rank_rules.specs.Courses.{LookUpAndIssue, ArriveAndLeave, course_of}
 use Rattle.rank_rules.specs.Knowledge.{Knowledge, ends_call, learn}
@@ -26,21 +33,19 @@ use Rattle.rank_rules.specs.Windows.{RankWindows, window_number, next_number, is
 use Rattle.step_runs.specs.Agents.{Agent, next_call, keep_item, end_call, enter_call}
 use Rattle.step_runs.specs.BoardSteps.{next_row}
 use Rattle.step_laws.proofs.CallCourses.{collective_moves_none, one_entry_moves_none, one_entry_makes_none}
-use Rattle.step_laws.proofs.CallCourses.{transfer_makes_none, learns_call}
-use Rattle.step_laws.proofs.Creations.{HasRoom, HasLists, MakesWith, creates_it, parts_fit, parts_by_address}
+use Rattle.step_laws.proofs.CallCourses.{learns_call}
+use Rattle.step_laws.proofs.Creations.{HasRoom, HasLists, MakesWith, parts_fit, parts_by_address}
 use Rattle.step_laws.proofs.EntryMoves.{IsOneEntry, IsAllowedEntry, with_entry, IsTurnedAway, ByRefusal, ByTest}
 use Rattle.step_laws.proofs.EntryMoves.{with_row, EntryMove, TurnsAway, Arrives, LooksUp, Leaves, EntersOnce}
 use Rattle.step_laws.proofs.EntryMoves.{known_stays, look_up_opens, begun_kept}
 use Rattle.step_laws.proofs.Flavors.{AreRegular, same_flavor}
-use Rattle.step_laws.proofs.EntryNumbers.{act_after, acts_push, begins_by, creations_push, is_creation_if, new_number}
-use Rattle.step_laws.proofs.Lists.{each_get}
+use Rattle.step_laws.proofs.EntryNumbers.{act_after, acts_push, creations_push, is_creation_if}
 use Rattle.step_laws.proofs.LookUps.{look_up_lies}
 use Rattle.step_laws.proofs.OwnTests.{HasIssue, transfer_with_issue}
 use Rattle.step_laws.proofs.Sound.{IsSoundRank, HasArrived, regular_push, no_more_creations, still_arrived}
-use Rattle.step_laws.proofs.Sound.{MakesByAddress, windows_stay_roomy, rank_stays, space_stays, name_made}
-use Rattle.step_laws.proofs.Sound.{created_grows}
+use Rattle.step_laws.proofs.Sound.{MakesByAddress, windows_stay_roomy, rank_stays, space_stays}
 use Rattle.step_laws.specs.Inside.{bytes_at, begun_names, names_so_far}
-use Rattle.step_laws.proofs.OwnEntries.{IsSoundAt, own_row_sound, pushed_at, count_names, count_made, no_begin}
+use Rattle.step_laws.proofs.OwnEntries.{IsSoundAt, own_row_sound, pushed_at, count_names, count_made}
 
 -- ---- moves
 
@@ -127,7 +132,7 @@ looks_sound script delay rank agent rows call regular sound entry new course =
       space = sound.space;
       roomy = sound.roomy;
       numbers = λ win. no_more_creations rows row rank win
-          (no_begin (agent.rank == rank) (is_creation call) (names_window win call)) ∙ sound.numbers win
+          (false_inside (agent.rank == rank) (is_creation call) (names_window win call)) ∙ sound.numbers win
           ∙ ap (λ b. count_by (λ name. name == win)
           (agent.known.windows.created ++ begun_names b (next_call stage agent))) new
           ∙ ap (λ l. count_by (λ name. name == win) (agent.known.windows.created ++ l))
@@ -185,7 +190,7 @@ closes_sound script delay rank agent rows call step formed inside regular sound 
           (subst (λ r. HasRoom (bytes_at (layout script) r) (action_of call)) (sound.mine ∙ sym sound.whose)
           (own_row_sound script delay rank agent rows call step inside sound entry).room) sound.roomy;
       numbers = λ win. no_more_creations rows row rank win
-          (ap (λ b. agent.rank == rank && (b && is_creation call) && names_window win call) no_arrive ∙ no_begin
+          (ap (λ b. agent.rank == rank && (b && is_creation call) && names_window win call) no_arrive ∙ false_inside
           (agent.rank == rank) (is_creation call) (names_window win call))
           ∙ sound.numbers win
           ∙ ap (count_by (λ name. name == win))
@@ -232,7 +237,7 @@ leaves_by_address script delay rank agent rows call regular sound entry begun cr
     let number = next_number agent.known.windows.created creation.win in
     let flavor = regular.flavors number in
     let made : creation.flavor ≡ flavor.0 =
-    each_get (MakesWith flavor.0 number) (acts now) here.place here.act flavor.1 here.there here.begins here.number
+    each_at (MakesWith flavor.0 number) (acts now) here.place here.act flavor.1 here.there here.begins here.number
     creation (ap creation_of here.same ∙ makes) in
     parts_by_address script now number
     (subst (λ f. AllByRecursion (MakesWith f number) (acts now))
@@ -241,7 +246,7 @@ leaves_by_address script delay rank agent rows call regular sound entry begun cr
     is_dynamic_flavor : (f : Flavor) → is_same_flavor f Dynamic ≡ true → f ≡ Dynamic
     is_dynamic_flavor f e = same_flavor f Dynamic e
 
-entered_names : (stage : Stage) (agent : Agent) (call : Call) → agent.entered ≡ true →
+pub entered_names : (stage : Stage) (agent : Agent) (call : Call) → agent.entered ≡ true →
     next_call stage agent ≡ Some call →
     names_so_far stage agent ≡ agent.known.windows.created ++ name_made call
 entered_names stage agent call begun here =

@@ -5,17 +5,24 @@ use Rattle.std.specs.Prelude.{◌&&◌, ◌==◌, nat_lt, slice_get, is_none, re
 use Rattle.std.specs.List.{count_by, AllByRecursion}
 use Rattle.std.specs.Option.{option_map_or}
 use Rattle.std.proofs.lemmas.List.{append-nil}
+use Rattle.list_laws.proofs.Each.{each_append, each_removed, found_has}
 use Rattle.rma_types.specs.declared.accesses.Access.{Access}
 use Rattle.rma_types.specs.declared.calls.Call.{Call}
 use Rattle.rma_types.specs.declared.classes.Class.{Class}
 use Rattle.rma_types.specs.declared.schedules.Delay.{Delay}
 use Rattle.rma_types.specs.declared.scripts.Script.{Script}
+use Rattle.rma_types.proofs.ActionLaws.{transfer_makes_none, moves_it, name_made}
 use Rattle.rma_record.specs.declared.items.Item.{Item}
 use Rattle.rma_record.specs.declared.items.Item.TheVariants.{Issue, Null, Flush, Request, Refused, Ended}
+use Rattle.rank_rules.proofs.KnowledgeLaws.{epochs_allow}
 use Rattle.board_rules.specs.Entries.{Row, creations}
 use Rattle.call_rules.specs.declared.cells.Cell.{Cell}
-use Rattle.call_rules.specs.Actions.{Action, Creates, Frees, Attaches, Detaches, Synchronises, Meets, Moves}
-use Rattle.call_rules.specs.Actions.{EndsRequest, Creation, Transfer, action_of, creation_in, creation_of, transfer_of}
+use Rattle.rma_types.specs.declared.actions.Action.{Action}
+use Rattle.rma_types.specs.declared.actions.Action.TheVariants.{Creates, Frees, Attaches, Detaches, Synchronises, Meets}
+use Rattle.rma_types.specs.declared.actions.Action.TheVariants.{Moves, EndsRequest}
+use Rattle.rma_types.specs.declared.actions.Creation.{Creation}
+use Rattle.rma_types.specs.declared.actions.Transfer.{Transfer}
+use Rattle.rma_types.specs.Actions.{action_of, creation_in, creation_of, transfer_of}
 use Rattle.call_rules.specs.Layout.{layout}
 use Rattle.lawful_runs.specs.Accesses.{transfer_at}
 use Rattle.lawful_runs.specs.Logs.{calls_of}
@@ -34,13 +41,11 @@ use Rattle.step_runs.specs.Agents.{begins_with_entry, tries_entry}
 use Rattle.step_runs.specs.DataSteps.{OnMemory, with_touches, with_delivery, deliver, Move, just_delivers}
 use Rattle.step_runs.specs.DataSteps.{without_delivery, no_shapes, with_item, made_pending, with_issue, issue_of, issue}
 use Rattle.step_runs.specs.DataSteps.{draw, first_item, wait_or_go_on, judge, begin, go_on, end, move_of, data_step}
-use Rattle.step_laws.proofs.CallCourses.{transfer_makes_none}
 use Rattle.step_laws.proofs.DataWeights.{ended_now}
-use Rattle.step_laws.proofs.Lists.{each_append, each_removed, found_is}
 use Rattle.step_laws.proofs.OwnRoom.{AreRoomy, IsRoomyWindow, right_place, access_lies}
-use Rattle.step_laws.proofs.OwnTests.{HasIssue, moves_it, transfer_with_issue, windows_allow, epochs_allow}
+use Rattle.step_laws.proofs.OwnTests.{HasIssue, transfer_with_issue, windows_allow}
 use Rattle.step_laws.proofs.OwnTests.{transfer_passed, access_is}
-use Rattle.step_laws.proofs.Sound.{IsSoundRank, name_made}
+use Rattle.step_laws.proofs.Sound.{IsSoundRank}
 use Rattle.step_laws.specs.Inside.{bytes_at, LiesInMemory, IsPendingInside, ArePendingInside, begun_names, names_so_far}
 
 -- ---- calls without an entry
@@ -197,7 +202,7 @@ direct_lies script delay rank agent rows call sound own course t moves window li
     (subst (λ a. window_class known a ≡ None) is (windows_allow agent.known call own)) in
     let same : passed.0 ≡ window = cc (passed.1, live) in
     access_lies (layout script) known t window sound.roomy
-    (found_is (IsRoomyWindow (layout script)) (λ (w : Window). w.win == t.win) known.windows window
+    (found_has (IsRoomyWindow (layout script)) (λ (w : Window). w.win == t.win) known.windows window
     sound.roomy.windows live).0 live direct
     (right_place known agent.known.epochs window t (subst HasIssue (sym direct) tt)
     (subst (λ a. epoch_class known.ranks agent.known.epochs a ≡ None) is (epochs_allow agent.known call own))

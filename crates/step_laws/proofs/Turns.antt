@@ -9,6 +9,7 @@ use Rattle.rma_types.specs.declared.schedules.Order.{Order}
 use Rattle.call_rules.specs.declared.cells.Cell.{Cell}
 use Rattle.call_rules.specs.Pieces.{numbers_from}
 use Rattle.call_rules.specs.Ranks.{is_member}
+use Rattle.call_rules.proofs.NumbersFrom.{numbers_length}
 use Rattle.board_rules.specs.Entries.{Row}
 use Rattle.lawful_runs.specs.Stages.{Stage}
 use Rattle.rank_rules.specs.declared.pending.PendingAccess.{PendingAccess}
@@ -20,7 +21,7 @@ use Rattle.step_runs.specs.StepRun.{World, agent_at, turn_at_board, turn_on_memo
 use Rattle.step_runs.specs.StepRun.{run_from, first_world}
 use Rattle.step_laws.proofs.DataBegun.{data_begun}
 use Rattle.step_laws.proofs.EntryMoves.{HasBegun, EntryMoves, board_step_moves, moves_keep, begun_kept}
-use Rattle.step_laws.proofs.Lists.{each_set, length_numbers}
+use Rattle.step_laws.proofs.Lists.{each_set}
 use Rattle.step_laws.proofs.Picks.{MayGo, pick_is}
 
 -- the rank may have the turn
@@ -151,6 +152,6 @@ at_first stage order seed P each rank =
 
 pub first_is_regular : (stage : Stage) (order : Order) (seed : ℕ) → IsRegular stage (first_world stage order seed)
 first_is_regular stage order seed = record {
-  ranks = length-map (numbers_from 0 stage.script.ranks) (new_agent stage seed) ∙ length_numbers 0 stage.script.ranks;
+  ranks = length-map (numbers_from 0 stage.script.ranks) (new_agent stage seed) ∙ numbers_length 0 stage.script.ranks;
   begun = at_first stage order seed (λ _ a. HasBegun stage a) (λ rank some e. absurd (cc e));
 }

@@ -8,9 +8,10 @@ use Rattle.std.proofs.lemmas.List.{length-take}
 use Rattle.std.proofs.lemmas.List.Edits.{length-remove}
 use Rattle.std.proofs.lemmas.List.Quantifiers.{position-Some}
 use Rattle.std.proofs.lemmas.Option.{slice_get_within}
+use Rattle.list_laws.proofs.Lists.{some_within}
 use Rattle.rma_types.specs.declared.calls.Call.{Call}
 use Rattle.call_rules.specs.declared.cells.Cell.{Cell}
-use Rattle.call_rules.specs.Actions.{Transfer}
+use Rattle.rma_types.specs.declared.actions.Transfer.{Transfer}
 use Rattle.lawful_runs.specs.Accesses.{transfer_at}
 use Rattle.lawful_runs.specs.Stages.{Stage, calls_at}
 use Rattle.rank_rules.specs.Pending.{gives_way, first_in_way, way_in, way, must_wait, awaited}
@@ -137,11 +138,6 @@ delivered_weighs stage agent next at inside is =
   where
     one_less : (a p q c d : ℕ) → p + 1 ≡ q → a + p + c + d + 1 ≡ a + q + c + d
     one_less a p q c d e = omega arith
-
-some_within : {X : Type 0} (xs : List X) (i : ℕ) → i < length xs → (x : X) × (slice_get xs i ≡ Some x)
-some_within [] i inside = absurd (omega arith)
-some_within (x ∷ xs) zero inside = (x, refl)
-some_within (x ∷ xs) (suc i) inside = some_within xs i (omega arith)
 
 -- a delivery lowers what is left
 pub delivery_falls : (stage : Stage) (agent : Agent) (cells : List Cell) (at : ℕ) → at < length agent.pending →

@@ -14,7 +14,9 @@ use Rattle.rma_types.specs.declared.scripts.Script.{Script}
 use Rattle.rma_types.specs.Datatypes.{size_of}
 use Rattle.board_rules.specs.Entries.{creations}
 use Rattle.call_rules.specs.declared.elements.Piece.{Piece}
-use Rattle.call_rules.specs.Actions.{Creation, Transfer, creation_of}
+use Rattle.rma_types.specs.declared.actions.Creation.{Creation}
+use Rattle.rma_types.specs.declared.actions.Transfer.{Transfer}
+use Rattle.rma_types.specs.Actions.{creation_of}
 use Rattle.call_rules.specs.Layout.{layout, cells_of}
 use Rattle.call_rules.specs.Pieces.{pieces}
 use Rattle.call_rules.specs.WellFormed.{IsWellFormed}

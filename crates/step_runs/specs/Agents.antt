@@ -8,7 +8,7 @@ use Rattle.rma_types.specs.declared.schedules.Delay.TheVariants.{None as NoDelay
 use Rattle.rma_types.specs.declared.schedules.Delay.TheVariants.{Seeded as SeededDelay}
 use Rattle.rma_types.specs.declared.scripts.Part.{Part}
 use Rattle.rma_record.specs.declared.items.Item.{Item}
-use Rattle.call_rules.specs.Actions.{transfer_of}
+use Rattle.rma_types.specs.Actions.{transfer_of}
 use Rattle.lawful_runs.specs.Stages.{Stage, calls_at, first_knowledge}
 use Rattle.rank_rules.specs.Courses.{course_of, has_entry}
 use Rattle.rank_rules.specs.Knowledge.{Knowledge, learn, own_class}

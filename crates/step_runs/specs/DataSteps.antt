@@ -13,7 +13,8 @@ use Rattle.rma_types.specs.declared.scripts.Part.{Part}
 use Rattle.rma_record.specs.declared.items.Item.{Item}
 use Rattle.rma_record.specs.declared.items.Item.TheVariants.{Issue, Null, Flush, Request, Refused, Ended}
 use Rattle.call_rules.specs.declared.cells.Cell.{Cell}
-use Rattle.call_rules.specs.Actions.{Transfer, transfer_of}
+use Rattle.rma_types.specs.declared.actions.Transfer.{Transfer}
+use Rattle.rma_types.specs.Actions.{transfer_of}
 use Rattle.call_rules.specs.Pieces.{pieces}
 use Rattle.call_rules.specs.Touches.{touch_each}
 use Rattle.lawful_runs.specs.Accesses.{transfer_at}

@@ -9,7 +9,7 @@ use Rattle.rma_types.specs.declared.calls.Call.TheVariants.{Post, Start, Complet
 use Rattle.rma_types.specs.declared.calls.Call.TheVariants.{LockAll, UnlockAll, Flush, FlushAll, FlushLocal}
 use Rattle.rma_types.specs.declared.calls.Call.TheVariants.{FlushLocalAll, Sync, Barrier, Put, Get, Acc, GetAcc, Fop}
 use Rattle.rma_types.specs.declared.calls.Call.TheVariants.{Cas, Load, Store, WaitReq, TestReq}
-use Rattle.call_rules.specs.Actions.{target_of}
+use Rattle.rma_types.specs.Actions.{target_of}
 use Rattle.call_rules.specs.WellFormed.{IsNumber, IsWrittenTarget, IsWrittenCall}
 use Rattle.script_language.specs.declared.drafts.Draft.{Draft}
 use Rattle.script_language.specs.declared.faults.FaultKind.{FaultKind}

@@ -5,12 +5,10 @@ use Rattle.std.specs.Prelude.{filter}
 use Rattle.std.specs.List.{AllByRecursion, list_all, slice_split, prefix_len}
 use Rattle.std.proofs.lemmas.Bool.{leb-true}
 use Rattle.std.proofs.lemmas.Grind.{common_steps}
+use Rattle.list_laws.proofs.Each.{each_append}
+use Rattle.list_laws.proofs.Truths.{both_true}
 use Rattle.call_rules.specs.Text.{join_by_spaces}
 use Rattle.script_language.specs.Lines.{is_blank, has_bytes, tokens_of}
-
-pub both_true : (a b : Bool) → (a && b) ≡ true → (a ≡ true) × (b ≡ true)
-both_true true b e = (refl, e)
-both_true false b e = absurd cc
 
 -- a byte that is printed in a token: no blank, no line feed, no `#`
 abbrev pub is_plain_byte : ℕ → Bool
@@ -36,11 +34,6 @@ pub all_from : (p : ℕ → Bool) (P : ℕ → Type 0) → ((b : ℕ) → p b �
 all_from p P gives [] all = tt
 all_from p P gives (b ∷ bs) all = let t = both_true (p b) (list_all p bs) all in
     (gives b t.0, all_from p P gives bs t.1)
-
-pub all_append : {A : Type 0} (P : A → Type 0) (xs ys : List A) → AllByRecursion P xs → AllByRecursion P ys →
-    AllByRecursion P (xs ++ ys)
-all_append P [] ys all more = more
-all_append P (x ∷ xs) ys all more = (all.0, all_append P xs ys all.1 more)
 
 -- ---- splits
 
@@ -69,7 +62,7 @@ nowhere q low space [] plain = tt
 nowhere q low space (x ∷ []) plain = all_from is_plain_byte (λ b. eqb b q ≡ false) (λ b h. other_byte q b low h) x
     plain.0.bytes
 nowhere q low space (x ∷ y ∷ xs) plain =
-    all_append (λ b. eqb b q ≡ false) x (32 ∷ join_by_spaces (y ∷ xs))
+    each_append (λ b. eqb b q ≡ false) x (32 ∷ join_by_spaces (y ∷ xs))
     (all_from is_plain_byte (λ b. eqb b q ≡ false) (λ b h. other_byte q b low h) x plain.0.bytes)
     (space, nowhere q low space (y ∷ xs) plain.1)
 

@@ -7,6 +7,7 @@ use Rattle.std.specs.Str.{bytes_eq}
 use Rattle.std.proofs.lemmas.Bool.{le-leb, eqb-true, cases_lt}
 use Rattle.std.proofs.lemmas.Fmt.{decimal_injective}
 use Rattle.std.proofs.lemmas.Grind.{common_steps}
+use Rattle.list_laws.proofs.Truths.{both_true}
 use Rattle.rma_types.specs.declared.dtypes.Dtype.{Dtype}
 use Rattle.rma_types.specs.declared.dtypes.Dtype.TheVariants.{Int8, Int16, Int32, Uint8, Uint16, Uint32, Byte}
 use Rattle.call_rules.specs.Numbers.{signed_number, number_of, pattern_of, patterns_of}
@@ -16,7 +17,7 @@ use Rattle.script_language.specs.Integers.{integer_within, least_of, greatest_of
 use Rattle.script_language.specs.Spelling.{pattern_text}
 use Rattle.script_language.specs.Tokens.{pattern_read}
 use Rattle.script_language.specs.Words.{window_text, request_text, window_named, request_named}
-use Rattle.text_laws.proofs.Lines.{both_true, IsPlain}
+use Rattle.text_laws.proofs.Lines.{IsPlain}
 use Rattle.text_laws.proofs.Numbers.{IsShort, within_back, integer_plain, number_plain}
 
 same_number : (n : ℕ) → eqb n n ≡ true

@@ -9,6 +9,7 @@ use Rattle.std.specs.Str.Parse.{digits_value}
 use Rattle.std.proofs.lemmas.Bool.{le-leb}
 use Rattle.std.proofs.lemmas.Fmt.{decimal_by_steps, decimal_is_IsNumeral, length-decimal-le, decimal_nonempty}
 use Rattle.std.proofs.lemmas.Grind.{common_steps}
+use Rattle.list_laws.proofs.Each.{each_append}
 use Rattle.call_rules.specs.Ranks.{natural}
 use Rattle.call_rules.specs.Text.{number, integer}
 use Rattle.call_rules.specs.WellFormed.{IsUpTo}
@@ -16,7 +17,7 @@ use Rattle.script_language.specs.Answers.{◌>>=◌}
 use Rattle.script_language.specs.Integers.{is_digits, natural_of, integer_of, integer_within, integer_up_to, lowest}
 use Rattle.script_language.specs.Lines.{has_bytes}
 use Rattle.script_language.specs.Tokens.{natural_within, begins_number}
-use Rattle.text_laws.proofs.Lines.{IsPlain, is_plain_byte, all_append}
+use Rattle.text_laws.proofs.Lines.{IsPlain, is_plain_byte}
 
 -- decimal digits
 abbrev pub AreDigits : List ℕ → Type 0
@@ -25,7 +26,7 @@ AreDigits ds = AllByRecursion (λ b. (48 ≤ b) × (b ≤ 57)) ds
 decimal_digits : (n : ℕ) → n < 2 ^ 64 → AreDigits (decimal n)
 decimal_digits n h =
     decimal_by_steps (λ k ds. AreDigits ds) (λ k low. ((omega arith, omega arith), tt))
-    (λ k ds high front. all_append (λ b. (48 ≤ b) × (b ≤ 57)) ds ((48 + k % 10) ∷ []) front
+    (λ k ds high front. each_append (λ b. (48 ≤ b) × (b ≤ 57)) ds ((48 + k % 10) ∷ []) front
     ((omega arith, omega arith), tt)) n h
 
 digits_test : (ds : List ℕ) → AreDigits ds → list_all is_ascii_digit ds ≡ true

@@ -4,6 +4,7 @@ use Rattle.std.proofs.Common.{Ok, Err, Result, ℤ, refl, ap, sym, ◌∙◌, su
 use Rattle.std.specs.List.{AllByRecursion, flat_map}
 use Rattle.std.proofs.lemmas.Bool.{lt-ltb}
 use Rattle.std.proofs.lemmas.List.{append-nil}
+use Rattle.list_laws.proofs.Each.{each_append}
 use Rattle.rma_types.specs.declared.calls.Asserts.{Asserts}
 use Rattle.rma_types.specs.declared.calls.Lock.{Lock}
 use Rattle.rma_types.specs.declared.dtypes.Dtype.{Dtype}
@@ -26,7 +27,7 @@ use Rattle.script_language.specs.Integers.{plain_integer}
 use Rattle.script_language.specs.Spelling.{spelling_of, target_text, pattern_text}
 use Rattle.script_language.specs.Tokens.{token_read, pattern_read, tokens_read}
 use Rattle.script_language.specs.Words.{dtype_text, op_text, lock_text, all_assertions, window_text, request_text}
-use Rattle.text_laws.proofs.Lines.{IsPlain, all_append}
+use Rattle.text_laws.proofs.Lines.{IsPlain}
 use Rattle.text_laws.proofs.Numbers.{integer_plain, integer_begins, short_up_to, up_to_back}
 use Rattle.text_laws.proofs.Words.{lock_back, lock_plain, dtype_back, dtype_plain, op_back, op_plain, target_plain}
 use Rattle.text_laws.proofs.Words.{target_back}
@@ -257,10 +258,10 @@ places_plain acc fields (Peer ∷ places) said = (
   places_plain
       (fill acc fields Peer) fields places said.1,
 )
-places_plain acc fields (Group ∷ places) said = all_append IsPlain (map integer fields.group)
+places_plain acc fields (Group ∷ places) said = each_append IsPlain (map integer fields.group)
     (flat_map (spelling_of fields) places) (group_plain fields.group said.0.3.1)
     (places_plain (fill acc fields Group) fields places said.1)
-places_plain acc fields (Assertions ∷ places) said = all_append IsPlain (asserted fields.asserts)
+places_plain acc fields (Assertions ∷ places) said = each_append IsPlain (asserted fields.asserts)
     (flat_map (spelling_of fields) places) (assertions_plain fields.asserts all_assertions)
     (places_plain (fill acc fields Assertions) fields places said.1)
 places_plain acc fields (Target ∷ places) said =
@@ -289,6 +290,6 @@ places_plain acc fields (Value ∷ places) said = (
   places_plain
       (fill acc fields Value) fields places said.1,
 )
-places_plain acc fields (Values ∷ places) said = all_append IsPlain (map (pattern_text fields.dtype) fields.values)
+places_plain acc fields (Values ∷ places) said = each_append IsPlain (map (pattern_text fields.dtype) fields.values)
     (flat_map (spelling_of fields) places) (values_plain fields.dtype fields.values said.0.4)
     (places_plain (fill acc fields Values) fields places said.1)

@@ -4,6 +4,7 @@ use Rattle.std.proofs.Common.{Err, Result, refl, ap, ◌∙◌, arith}
 use Rattle.std.specs.Prelude.{filter, IfSome}
 use Rattle.std.specs.List.{AllByRecursion, list_all}
 use Rattle.std.proofs.lemmas.Bool.{leb-true, le-leb}
+use Rattle.list_laws.proofs.Truths.{both_true}
 use Rattle.rma_types.specs.declared.calls.Asserts.{Asserts}
 use Rattle.call_rules.specs.Numbers.{patterns_of}
 use Rattle.call_rules.specs.WellFormed.{IsNumber, IsUpTo, IsWindowName, IsRequestName, IsWrittenGroup}
@@ -26,7 +27,7 @@ use Rattle.script_language.specs.Spelling.{is_given}
 use Rattle.script_language.specs.Tokens.{token_read, begins_number, places_from, places_behind, Told, read_at}
 use Rattle.script_language.specs.Tokens.{tokens_read}
 use Rattle.script_language.specs.Words.{assertion_text, all_assertions}
-use Rattle.text_laws.proofs.Lines.{both_true, IsPlain, is_plain_byte}
+use Rattle.text_laws.proofs.Lines.{IsPlain, is_plain_byte}
 use Rattle.text_laws.proofs.Words.{assertion_plain}
 
 -- ---- one token

@@ -4,6 +4,7 @@ use Rattle.std.proofs.Common.{refl, ap, sym, ◌∙◌, subst, arith}
 use Rattle.std.specs.Prelude.{codes, IfSome}
 use Rattle.std.specs.Str.{bytes_eq}
 use Rattle.std.proofs.lemmas.Bool.{eqb-true}
+use Rattle.list_laws.proofs.Truths.{both_true}
 use Rattle.rma_types.specs.declared.calls.Lock.{Lock}
 use Rattle.rma_types.specs.declared.calls.Lock.TheVariants.{Shared, Exclusive}
 use Rattle.rma_types.specs.declared.dtypes.Dtype.{Dtype}
@@ -21,7 +22,7 @@ use Rattle.script_language.specs.Spelling.{target_text}
 use Rattle.script_language.specs.Tokens.{target_read, begins_number}
 use Rattle.script_language.specs.Words.{dtype_text, op_text, lock_text, assertion_text, dtype_named, op_named}
 use Rattle.script_language.specs.Words.{lock_named}
-use Rattle.text_laws.proofs.Lines.{both_true, IsPlain}
+use Rattle.text_laws.proofs.Lines.{IsPlain}
 use Rattle.text_laws.proofs.Numbers.{integer_plain, integer_begins, short_up_to, up_to_back}
 
 pub lock_back : (kind : Lock) → lock_named (lock_text kind) ≡ Some kind

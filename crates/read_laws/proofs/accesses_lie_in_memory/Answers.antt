@@ -1,6 +1,6 @@
 -- The clause is a theorem.
+use Rattle.list_laws.proofs.Members.{contains_in}
 use Rattle.order_rules.specs.CallSteps.{accesses_in}
-use Rattle.order_laws.proofs.Members.{contains_in}
 use Rattle.read_laws.proofs.InMemory.{of_transfers}
 use Rattle.read_laws.proofs.accesses_lie_in_memory.Goals as goal
 

@@ -1,0 +1,5 @@
+-- Laws of the definitions.
+pub mod ItemLaws
+pub mod LogLaws
+pub mod PairLaws
+pub mod TouchLaws

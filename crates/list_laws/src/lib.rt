@@ -1,0 +1,2 @@
+//! Laws of lists and numbers, for the proofs of other crates.
+#![tactic(auto)]
