@@ -10,7 +10,8 @@ use Rattle.rma_types.specs.CallWords.{word_of}
 use Rattle.rma_types.specs.Classes.{class_text}
 use Rattle.rma_record.specs.declared.items.Item.{Item}
 use Rattle.rma_record.specs.declared.items.Item.TheVariants.{Issue, Touch, Entry, Tested, Refused}
-use Rattle.call_rules.specs.Actions.{Transfer, is_testwin}
+use Rattle.rma_types.specs.declared.actions.Transfer.{Transfer}
+use Rattle.rma_types.specs.Actions.{is_testwin}
 use Rattle.call_rules.specs.Elements.{element_in}
 use Rattle.call_rules.specs.Numbers.{number_of}
 use Rattle.call_rules.specs.Pieces.{numbers_from, byte_in_cell, element_address}

@@ -1,7 +1,7 @@
 -- The call that a line says is one that a text can write.
 use Rattle.std.proofs.Common.{ℕ, Option, Some, None, ℤ, arith}
 use Rattle.std.specs.Prelude.{IfSome}
-use Rattle.call_rules.specs.Actions.{target_of}
+use Rattle.rma_types.specs.Actions.{target_of}
 use Rattle.call_rules.specs.WellFormed.{IsNumber, IsWrittenTarget, IsWrittenCall}
 use Rattle.script_language.specs.declared.fields.Fields.{Fields}
 use Rattle.script_language.specs.declared.forms.CallForm.{CallForm}

@@ -4,6 +4,7 @@ use Rattle.std.proofs.Common.{◌&&◌, cond, leb, List, [], ◌∷◌, length, 
 use Rattle.std.proofs.lemmas.Bool.{leb-true, le-leb}
 use Rattle.std.proofs.lemmas.Grind.{common_steps}
 use Rattle.std.proofs.lemmas.List.Sums.{sum_by-cons}
+use Rattle.list_laws.proofs.Truths.{both_true}
 use Rattle.rma_types.specs.declared.calls.Call.{Call}
 use Rattle.call_rules.specs.Layout.{call_bytes}
 use Rattle.script_language.specs.declared.faults.FaultKind.{FaultKind}
@@ -18,10 +19,6 @@ ok_from_if false x y e h = absurd cc
 pub err_from_if : {A E : Type 0} (b : Bool) (x : A) (e f : E) → cond b (Ok x) (Err e) ≡ Err f → (b ≡ false) × (e ≡ f)
 err_from_if true x e f h = absurd cc
 err_from_if false x e f h = (refl, cc)
-
-pub both_true : (a b : Bool) → (a && b) ≡ true → (a ≡ true) × (b ≡ true)
-both_true true b e = (refl, e)
-both_true false b e = absurd cc
 
 pub one_false : (a b : Bool) → (a && b) ≡ false → (a ≡ false) ⊎ (b ≡ false)
 one_false true b e = inr e

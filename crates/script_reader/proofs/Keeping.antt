@@ -7,6 +7,8 @@ use Rattle.std.proofs.lemmas.Bool.{leb-true}
 use Rattle.std.proofs.lemmas.Grind.{common_steps}
 use Rattle.std.proofs.Math.ListN.{length-set}
 use Rattle.std.proofs.lemmas.List.{length-map, length-replicate}
+use Rattle.list_laws.proofs.Each.{each_weaker, each_get_or, each_append}
+use Rattle.list_laws.proofs.Truths.{both_true}
 use Rattle.rma_types.specs.declared.calls.Call.{Call as MpiCall}
 use Rattle.call_rules.specs.Layout.{call_count, memory_of, IsWithinLimits}
 use Rattle.call_rules.specs.WellFormed.{IsWrittenCall, IsWellFormed}
@@ -20,9 +22,9 @@ use Rattle.script_language.specs.Drafts.{no_lines, is_begun, is_in_repeat, is_in
 use Rattle.script_language.specs.Drafts.{with_call}
 use Rattle.script_language.specs.Drafts.{with_line, script_of, is_within_limits, draft_within_limits}
 use Rattle.script_reader.specs.Sound.{IsSoundDraft, IsSoundLine}
-use Rattle.script_reader.proofs.Charging.{ok_from_if, both_true}
+use Rattle.script_reader.proofs.Charging.{ok_from_if}
 use Rattle.script_reader.proofs.Growing.{length-added_to}
-use Rattle.script_reader.proofs.TokenParts.{bound, all_append}
+use Rattle.script_reader.proofs.TokenParts.{bound}
 use Rattle.script_reader.proofs.CallsWritten.{call_written}
 
 -- ---- lists
@@ -33,24 +35,14 @@ all_set P [] i y all here = tt
 all_set P (x ∷ xs) zero y all here = (here, all.1)
 all_set P (x ∷ xs) (suc i) y all here = (all.0, all_set P xs i y all.1 here)
 
-all_get : {A : Type 0} (P : A → Type 0) (xs : List A) (i : ℕ) (d : A) → AllByRecursion P xs → P d → P (get_or xs i d)
-all_get P [] i d all else = else
-all_get P (x ∷ xs) zero d all else = all.0
-all_get P (x ∷ xs) (suc i) d all else = all_get P xs i d all.1 else
-
 all_replicate : {A : Type 0} (P : A → Type 0) (n : ℕ) (x : A) → P x → AllByRecursion P (replicate n x)
 all_replicate P zero x here = tt
 all_replicate P (suc n) x here = (here, all_replicate P n x here)
 
-all_weaker : {A : Type 0} (P Q : A → Type 0) → ((x : A) → P x → Q x) → (xs : List A) → AllByRecursion P xs →
-    AllByRecursion Q xs
-all_weaker P Q step [] all = tt
-all_weaker P Q step (x ∷ xs) all = (step x all.0, all_weaker P Q step xs all.1)
-
 all_repeated : (P : MpiCall → Type 0) (times : ℕ) (calls : List MpiCall) → AllByRecursion P calls →
     AllByRecursion P (repeat_calls times calls)
 all_repeated P zero calls all = tt
-all_repeated P (suc times) calls all = all_append P calls (repeat_calls times calls) all
+all_repeated P (suc times) calls all = each_append P calls (repeat_calls times calls) all
     (all_repeated P times calls all)
 
 all_added : (P : MpiCall → Type 0) (block : List ℕ) (added : List MpiCall) (lists : List (List MpiCall)) →
@@ -58,8 +50,8 @@ all_added : (P : MpiCall → Type 0) (block : List ℕ) (added : List MpiCall) (
     (added_to block added lists)
 all_added P [] added lists more all = all
 all_added P (rank ∷ block) added lists more all =
-    let here : AllByRecursion P (get_or lists rank [] ++ added) = all_append P (get_or lists rank []) added
-    (all_get (AllByRecursion P) lists rank [] all tt) more in
+    let here : AllByRecursion P (get_or lists rank [] ++ added) = each_append P (get_or lists rank []) added
+    (each_get_or (AllByRecursion P) lists rank [] tt all) more in
     all_added P block added (set lists rank (get_or lists rank [] ++ added)) more
     (all_set (AllByRecursion P) lists rank (get_or lists rank [] ++ added) all here)
 
@@ -99,7 +91,7 @@ call_kept draft call s written limits =
         block
             = s.block;
         calls = s.calls;
-        inside = all_append IsWrittenCall draft.inside (call ∷ []) s.inside
+        inside = each_append IsWrittenCall draft.inside (call ∷ []) s.inside
             (written, tt);
         limits = l;
       }
@@ -126,7 +118,7 @@ with_kept draft Ranks fields s stands f l = record {
   spaces = length-replicate fields.ranks None;
   lists = length-replicate fields.ranks [];
   few_bytes = all_replicate (λ (space : Option ℕ). IfSome space (λ bytes. bytes ≤ 65536)) fields.ranks None tt;
-  block = all_weaker (λ rank. rank < draft.ranks) (λ rank. rank < fields.ranks)
+  block = each_weaker (λ rank. rank < draft.ranks) (λ rank. rank < fields.ranks)
       (λ rank below. absurd (let none = ranks_untold draft stands in omega arith)) draft.block s.block;
   calls = all_replicate (AllByRecursion IsWrittenCall) fields.ranks [] tt;
   inside = s.inside;
@@ -148,7 +140,7 @@ with_kept draft Rank fields s stands f l = record {
   spaces = s.spaces;
   lists = s.lists;
   few_bytes = s.few_bytes;
-  block = (let told = ranks_told draft (both_true (is_begun draft) (not (is_in_repeat draft)) stands).0 in all_weaker
+  block = (let told = ranks_told draft (both_true (is_begun draft) (not (is_in_repeat draft)) stands).0 in each_weaker
       (λ rank. rank < bound draft) (λ rank. rank < draft.ranks) (λ rank below. omega arith) fields.members
       f.directive.members);
   calls = s.calls;

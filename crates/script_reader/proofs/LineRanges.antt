@@ -1,9 +1,11 @@
 -- What a line that reads says is within its ranges.
 use Rattle.std.proofs.Common.{◌≡◌, ℕ, ◌-◌, ◌<◌, ◌≤◌, Bool, true, false, ◌&&◌, ◌||◌, not, cond}
-use Rattle.std.proofs.Common.{List, [], ◌∷◌, Option, Some, None, Ok, Err, refl}
+use Rattle.std.proofs.Common.{List, [], ◌∷◌, None, Ok, Err, refl}
 use Rattle.std.proofs.Common.{sym, ◌∙◌, subst, arith, get_or}
 use Rattle.std.specs.Prelude.{is_some}
 use Rattle.std.specs.List.{list_all}
+use Rattle.list_laws.proofs.Options.{none_there}
+use Rattle.list_laws.proofs.Truths.{or_second, both_true}
 use Rattle.script_language.specs.declared.drafts.Draft.{Draft}
 use Rattle.script_language.specs.declared.faults.FaultKind.TheVariants.{Word, Shape}
 use Rattle.script_language.specs.declared.fields.Fields.{Fields}
@@ -26,7 +28,7 @@ use Rattle.script_language.specs.declared.forms.Form.{Form}
 use Rattle.script_language.specs.declared.forms.Form.TheVariants.{Ranks as RanksForm, Space, Rank, Repeat, End, Call}
 use Rattle.script_language.specs.Calls.{no_fields}
 use Rattle.script_reader.specs.Sound.{IsSoundLine, IsNewSpace}
-use Rattle.script_reader.proofs.Charging.{ok_from_if, both_true}
+use Rattle.script_reader.proofs.Charging.{ok_from_if}
 use Rattle.script_reader.proofs.TokenParts.{bind_ok, ok_same, chosen_ok, refused_ok, natural_most, bound, is_type}
 use Rattle.script_reader.proofs.TokenMembers.{IsFresh}
 use Rattle.script_reader.proofs.TokenRanges.{token_sound}
@@ -44,10 +46,6 @@ abbrev pub is_typed_first : List Place → Bool
 is_typed_first [] = true
 is_typed_first (place ∷ places) = not (needs_type place && names_type (place ∷ places)) && is_typed_first places
 
-or_right : (a b : Bool) → b ≡ true → (a || b) ≡ true
-or_right true b h = refl
-or_right false b h = h
-
 typed_from : (places : List Place) (token : List ℕ) → is_typed_first places ≡ true →
     is_typed_first (places_from places token) ≡ true
 typed_from [] token h = refl
@@ -64,7 +62,7 @@ names_from [] token h = h
 names_from (place ∷ places) token h =
     elim (is_group place && not (begins_number token)) as (λ b. names_type (cond b places (place ∷ places)) ≡ true →
     names_type (place ∷ places) ≡ true) [
-      | true ↦ λ e. or_right (is_type place) (names_type places) e
+      | true ↦ λ e. or_second (is_type place) (names_type places) e
       | false ↦ λ e. e
     ] h
 
@@ -82,7 +80,7 @@ names_behind place places h =
     elim (is_many place) as (λ b. names_type (cond b (place ∷ places) places) ≡ true →
     names_type (place ∷ places) ≡ true) [
       | true ↦ λ e. e
-      | false ↦ λ e. or_right (is_type place) (names_type places) e
+      | false ↦ λ e. or_second (is_type place) (names_type places) e
     ] h
 
 not_both : (a b c : Bool) → (not (a && b) && c) ≡ true → b ≡ true → a ≡ false
@@ -236,10 +234,6 @@ owner_new draft token rank begun h =
     let same : b.0 ≡ rank = ok_same c.1 in
     let most = natural_most 0 (draft.ranks - 1) token b.0 b.1 in
     (rw (← same) (omega arith), rw (← same) c.0)
-
-none_there : (o : Option ℕ) → is_some o ≡ false → o ≡ None
-none_there None h = refl
-none_there (Some x) h = absurd cc
 
 room_new : (draft : Draft) (tokens : List (List ℕ)) (rank : ℕ) (fields : Fields) → rank < draft.ranks →
     get_or draft.spaces rank None ≡ None → tokens_read draft (record no_fields { owner = rank })

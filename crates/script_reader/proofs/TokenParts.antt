@@ -6,11 +6,13 @@ use Rattle.std.specs.Prelude.{IfSome, int_le, find, codes}
 use Rattle.std.specs.List.{AllByRecursion, range_with_len}
 use Rattle.std.specs.Str.{bytes_eq}
 use Rattle.std.proofs.lemmas.Bool.{leb-true, ltb-true}
+use Rattle.list_laws.proofs.Each.{each_append}
+use Rattle.list_laws.proofs.Truths.{both_true}
 use Rattle.rma_types.specs.declared.dtypes.Dtype.{Dtype}
-use Rattle.rma_types.specs.declared.dtypes.Dtype.TheVariants.{Int8, Int16, Int32, Uint8, Uint16, Uint32, Byte}
 use Rattle.call_rules.specs.Numbers.{patterns_of, pattern_of}
 use Rattle.call_rules.specs.Ranks.{natural, is_member}
 use Rattle.call_rules.specs.WellFormed.{IsNumber, IsUpTo, IsWindowName, IsRequestName, IsWrittenGroup}
+use Rattle.call_rules.proofs.PatternLaws.{some_pattern}
 use Rattle.script_language.specs.declared.drafts.Draft.{Draft}
 use Rattle.script_language.specs.declared.faults.FaultKind.{FaultKind}
 use Rattle.script_language.specs.declared.faults.FaultKind.TheVariants.{Shape, Limit}
@@ -28,7 +30,7 @@ use Rattle.script_language.specs.Tokens.{natural_within, rank_read, members_read
 use Rattle.script_language.specs.Tokens.{target_read}
 use Rattle.script_language.specs.Words.{window_text, request_text, window_named, request_named}
 use Rattle.script_reader.specs.Sound.{AreSoundElements}
-use Rattle.script_reader.proofs.Charging.{ok_from_if, both_true}
+use Rattle.script_reader.proofs.Charging.{ok_from_if}
 
 -- ---- what a step gives
 
@@ -103,18 +105,9 @@ request_below token n h = named_below request_text token 0 64 n h
 
 -- ---- elements
 
-pub some_patterns : (dtype : Dtype) → 0 < patterns_of dtype
-some_patterns Int8 = omega arith
-some_patterns Int16 = omega arith
-some_patterns Int32 = omega arith
-some_patterns Uint8 = omega arith
-some_patterns Uint16 = omega arith
-some_patterns Uint32 = omega arith
-some_patterns Byte = omega arith
-
 pattern_fits : (dtype : Dtype) (z : ℤ) → pattern_of dtype z < patterns_of dtype
-pattern_fits dtype (pos n) = let some = some_patterns dtype in omega arith
-pattern_fits dtype (negsuc n) = let some = some_patterns dtype in omega arith
+pattern_fits dtype (pos n) = let some = some_pattern dtype in omega arith
+pattern_fits dtype (negsuc n) = let some = some_pattern dtype in omega arith
 
 pub pattern_below : (fields : Fields) (token : List ℕ) (n : ℕ) → pattern_read fields token ≡ Ok n →
     n < patterns_of fields.dtype
@@ -123,11 +116,6 @@ pattern_below fields token n h =
     (λ (z : ℤ). Ok (pattern_of fields.dtype z)) n h in
     let same : pattern_of fields.dtype b.0 ≡ n = ok_same b.2 in
     rw (← same) (pattern_fits fields.dtype b.0)
-
-pub all_append : {A : Type 0} (P : A → Type 0) (xs ys : List A) → AllByRecursion P xs → AllByRecursion P ys →
-    AllByRecursion P (xs ++ ys)
-all_append P [] ys all more = more
-all_append P (x ∷ xs) ys all more = (all.0, all_append P xs ys all.1 more)
 
 pub more_values : (fields : Fields) (patterns : List ℕ) (token : List ℕ) →
     AreSoundElements fields.dtype fields.values fields.compare fields.value → values_read fields token ≡ Ok patterns →
@@ -139,7 +127,7 @@ more_values fields patterns token s h =
     let few = ltb-true (length fields.values) 256 c.0 in
     let sound : AreSoundElements fields.dtype (fields.values ++ b.0 ∷ []) fields.compare fields.value = record {
       amount = rw (length-append fields.values (b.0 ∷ [])) (omega arith);
-      patterns = all_append (λ pattern. pattern < patterns_of fields.dtype) fields.values (b.0 ∷ []) s.patterns
+      patterns = each_append (λ pattern. pattern < patterns_of fields.dtype) fields.values (b.0 ∷ []) s.patterns
           (pattern_below fields token b.0 b.1, tt);
       compared = s.compared;
       stored = s.stored;
@@ -161,7 +149,7 @@ members_below draft members ranks token s h =
     let c = refused_ok (is_member b.0 members) (Ok (members ++ b.0 ∷ [])) Shape ranks b.2 in
     let most = natural_most 0 (draft.ranks - 1) token b.0 b.1 in
     subst (AllByRecursion (λ rank. rank < bound draft)) (ok_same c.1)
-    (all_append (λ rank. rank < bound draft) members (b.0 ∷ []) s (omega arith, tt))
+    (each_append (λ rank. rank < bound draft) members (b.0 ∷ []) s (omega arith, tt))
 
 pub group_written : (group ranks : List ℤ) (token : List ℕ) → IsWrittenGroup group → group_read group token ≡ Ok ranks →
     IsWrittenGroup ranks
@@ -172,7 +160,7 @@ group_written group ranks token s h =
     let few = ltb-true (length group) 16 c.0 in
     let sound : IsWrittenGroup (group ++ b.0 ∷ []) = (
       rw (length-append group (b.0 ∷ [])) (omega (arith, s.0)),
-      all_append IsNumber group (b.0 ∷ []) s.1
+      each_append IsNumber group (b.0 ∷ []) s.1
           (up_to 2147483647 token b.0 b.1, tt),
     ) in
     subst IsWrittenGroup (ok_same b.2) sound

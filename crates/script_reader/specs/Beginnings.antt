@@ -1,5 +1,5 @@
 -- The forms by the byte that begins their word.
-use Rattle.std.specs.Prelude.{ℕ, Bool, true, false, ◌==◌, List, [], ◌∷◌, filter}
+use Rattle.std.specs.Prelude.{ℕ, Bool, false, ◌==◌, List, [], ◌∷◌, filter}
 use Rattle.script_language.specs.declared.forms.Form.{Form}
 use Rattle.script_language.specs.Forms.{word_of_form, all_forms}
 

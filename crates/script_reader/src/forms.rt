@@ -2,12 +2,12 @@
 ghost use Rattle.std.specs.Prelude.{◌≡◌};
 ghost use Rattle.std.specs.List.{find};
 ghost use Rattle.std.specs.Str.{bytes_eq};
-ghost use Rattle.script_language.specs.Forms.{word_of_form, call_word};
+ghost use Rattle.script_language.specs.Forms.{word_of_form};
 ghost use Rattle.script_language.specs.Words.{form_named as the_form_named};
 ghost use Rattle.script_reader.specs.Beginnings.{forms_with};
 
 use crate::words::is_text;
-use script_language::{CallForm, Form};
+use script_language::{CallForm, Form, form_word};
 
 const WITH_A: [Form; 3] = [
     Form::Call(CallForm::Allocate),
@@ -73,64 +73,6 @@ const WITH_U: [Form; 2] = [
 
 const WITH_W: [Form; 2] = [Form::Call(CallForm::WaitWin), Form::Call(CallForm::WaitReq)];
 
-/// The word of a call's form.
-fn call_text(form: CallForm) -> &'static str
-    ensures { result.now ≡ call_word form }
-{
-    match form {
-        CallForm::Allocate => "allocate",
-        CallForm::Create => "create",
-        CallForm::Dynamic => "dynamic",
-        CallForm::Free => "free",
-        CallForm::Attach => "attach",
-        CallForm::Detach => "detach",
-        CallForm::Fence => "fence",
-        CallForm::Post => "post",
-        CallForm::Start => "start",
-        CallForm::Complete => "complete",
-        CallForm::WaitWin => "wait",
-        CallForm::TestWin => "testwin",
-        CallForm::LockOne => "lock",
-        CallForm::Unlock => "unlock",
-        CallForm::LockAll => "lock_all",
-        CallForm::UnlockAll => "unlock_all",
-        CallForm::Flush => "flush",
-        CallForm::FlushAll => "flush_all",
-        CallForm::FlushLocal => "flush_local",
-        CallForm::FlushLocalAll => "flush_local_all",
-        CallForm::Sync => "sync",
-        CallForm::Barrier => "barrier",
-        CallForm::Put => "put",
-        CallForm::RequestPut => "rput",
-        CallForm::Get => "get",
-        CallForm::RequestGet => "rget",
-        CallForm::Acc => "acc",
-        CallForm::RequestAcc => "racc",
-        CallForm::GetAcc => "getacc",
-        CallForm::RequestGetAcc => "rgetacc",
-        CallForm::Fop => "fop",
-        CallForm::Cas => "cas",
-        CallForm::Load => "load",
-        CallForm::Store => "store",
-        CallForm::WaitReq => "waitreq",
-        CallForm::TestReq => "testreq",
-    }
-}
-
-/// The word that begins a line of a form.
-fn form_text(form: Form) -> &'static str
-    ensures { result.now ≡ word_of_form form }
-{
-    match form {
-        Form::Ranks => "ranks",
-        Form::Space => "space",
-        Form::Rank => "rank",
-        Form::Repeat => "repeat",
-        Form::End => "end",
-        Form::Call(call) => call_text(call),
-    }
-}
-
 /// The forms whose words begin with the byte.
 fn forms_beginning(byte: u8) -> &'static [Form]
     ensures { result.now ≡ forms_with byte }
@@ -161,7 +103,7 @@ fn named_among(forms: &[Form], token: &[u8]) -> Option<Form>
     forms
         .iter()
         .copied()
-        .find(|form| is_text(form_text(*form), token))
+        .find(|form| is_text(form_word(*form), token))
 }
 
 /// The form whose word is the token.

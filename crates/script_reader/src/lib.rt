@@ -12,7 +12,6 @@ mod integers;
 mod lexing;
 mod numerals;
 mod parses;
-mod places;
 mod readers;
 mod tokens;
 mod totals;

@@ -11,11 +11,10 @@ use crate::copies::{append, expand};
 use crate::errors::ReadError;
 use crate::forms::form_named;
 use crate::lexing::{next_token, strip_comment};
-use crate::places::places_of;
 use crate::tokens::read_fields;
 use crate::totals::{Totals, call_size, space_size};
 use rma_types::{Call, Items, Script};
-use script_language::{Draft, FaultKind, Fields, Form};
+use script_language::{Draft, FaultKind, Fields, Form, form_places};
 use std::alloc::{AllocError, Global};
 use std::mem;
 
@@ -217,7 +216,7 @@ impl Reader {
         if !may_stand(&self.draft, form) {
             return Err(ReadError::Refused(FaultKind::Shape));
         }
-        let fields = read_fields(alloc, &self.draft, places_of(form), rest)?;
+        let fields = read_fields(alloc, &self.draft, form_places(form), rest)?;
         self.add(alloc, form, fields)
     }
 

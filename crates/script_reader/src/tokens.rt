@@ -2,8 +2,8 @@
 ghost use Rattle.std.specs.Prelude.{◌≡◌};
 ghost use Rattle.std.specs.List.{list_all};
 ghost use Rattle.script_language.specs.Calls.{no_fields as the_no_fields};
-ghost use Rattle.script_language.specs.Forms.{is_many as many, is_group as group};
-ghost use Rattle.script_language.specs.Tokens.{token_read, next_read, tokens_read, with_assertion as the_asserts_with};
+ghost use Rattle.script_language.specs.Forms.{is_many as many};
+ghost use Rattle.script_language.specs.Tokens.{token_read, next_read, tokens_read};
 ghost use Rattle.script_language.specs.Tokens.{begins_number as number_begins, places_from as the_places_from};
 ghost use Rattle.script_reader.specs.Answers.{Does, Gives};
 ghost use Rattle.script_reader.specs.Lexing.{tokens_in};
@@ -18,36 +18,8 @@ use crate::words::{
     assertion_named, dtype_named, lock_named, op_named, request_named, window_named,
 };
 use rma_types::{Asserts, Dtype, Items, Lock, Op};
-use script_language::{Assertion, Draft, FaultKind, Fields, Place};
+use script_language::{Draft, FaultKind, Fields, Place, asserts_with, is_group, is_many};
 use std::alloc::Global;
-
-/// The assertions with one more.
-fn asserts_with(asserts: Asserts, assertion: Assertion) -> Asserts
-    ensures { result ≡ the_asserts_with asserts assertion }
-{
-    match assertion {
-        Assertion::NoCheck => Asserts {
-            nocheck: true,
-            ..asserts
-        },
-        Assertion::NoStore => Asserts {
-            nostore: true,
-            ..asserts
-        },
-        Assertion::NoPut => Asserts {
-            noput: true,
-            ..asserts
-        },
-        Assertion::NoPrecede => Asserts {
-            noprecede: true,
-            ..asserts
-        },
-        Assertion::NoSucceed => Asserts {
-            nosucceed: true,
-            ..asserts
-        },
-    }
-}
 
 /// Reads a token at its place.
 fn tell(draft: &Draft, fields: &mut Fields, place: Place, token: &[u8]) -> Result<(), ReadError>
@@ -134,24 +106,6 @@ fn tell(draft: &Draft, fields: &mut Fields, place: Place, token: &[u8]) -> Resul
             Ok(())
         }
         Place::Values => add_value(fields, token),
-    }
-}
-
-fn is_many(place: Place) -> bool
-    ensures { result ≡ many place }
-{
-    match place {
-        Place::Members | Place::Group | Place::Assertions | Place::Values => true,
-        _ => false,
-    }
-}
-
-fn is_group(place: Place) -> bool
-    ensures { result ≡ group place }
-{
-    match place {
-        Place::Group => true,
-        _ => false,
     }
 }
 

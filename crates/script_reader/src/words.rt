@@ -3,107 +3,15 @@ ghost use Rattle.std.specs.Prelude.{◌≡◌, ℕ, ◌∷◌, ◌<◌, ◌≤�
 ghost use Rattle.std.specs.Fmt.{decimal};
 ghost use Rattle.std.specs.List.{find, range_with_len};
 ghost use Rattle.std.specs.Str.{bytes_eq};
-ghost use Rattle.script_language.specs.Words.{dtype_text, op_text, lock_text, assertion_text};
 ghost use Rattle.script_language.specs.Words.{dtype_named as the_dtype_named};
 ghost use Rattle.script_language.specs.Words.{op_named as the_op_named, lock_named as the_lock_named};
 ghost use Rattle.script_language.specs.Words.{assertion_named as the_assertion_named, window_named as the_window_named};
 ghost use Rattle.script_language.specs.Words.{request_named as the_request_named};
 
 use rma_types::{Dtype, Lock, Op};
-use script_language::Assertion;
-
-const DTYPES: [Dtype; 7] = [
-    Dtype::Int8,
-    Dtype::Int16,
-    Dtype::Int32,
-    Dtype::Uint8,
-    Dtype::Uint16,
-    Dtype::Uint32,
-    Dtype::Byte,
-];
-
-const OPS: [Op; 12] = [
-    Op::Replace,
-    Op::NoOp,
-    Op::Max,
-    Op::Min,
-    Op::Sum,
-    Op::Prod,
-    Op::Land,
-    Op::Band,
-    Op::Lor,
-    Op::Bor,
-    Op::Lxor,
-    Op::Bxor,
-];
-
-const LOCKS: [Lock; 2] = [Lock::Shared, Lock::Exclusive];
-
-const ASSERTIONS: [Assertion; 5] = [
-    Assertion::NoCheck,
-    Assertion::NoStore,
-    Assertion::NoPut,
-    Assertion::NoPrecede,
-    Assertion::NoSucceed,
-];
-
-/// The word of a datatype.
-fn dtype_word(x: Dtype) -> &'static str
-    ensures { result.now ≡ dtype_text x }
-{
-    match x {
-        Dtype::Int8 => "int8",
-        Dtype::Int16 => "int16",
-        Dtype::Int32 => "int32",
-        Dtype::Uint8 => "uint8",
-        Dtype::Uint16 => "uint16",
-        Dtype::Uint32 => "uint32",
-        Dtype::Byte => "byte",
-    }
-}
-
-/// The word of an operation.
-fn op_word(x: Op) -> &'static str
-    ensures { result.now ≡ op_text x }
-{
-    match x {
-        Op::Replace => "replace",
-        Op::NoOp => "no_op",
-        Op::Max => "max",
-        Op::Min => "min",
-        Op::Sum => "sum",
-        Op::Prod => "prod",
-        Op::Land => "land",
-        Op::Band => "band",
-        Op::Lor => "lor",
-        Op::Bor => "bor",
-        Op::Lxor => "lxor",
-        Op::Bxor => "bxor",
-    }
-}
-
-/// The word of a kind of lock.
-fn lock_word(x: Lock) -> &'static str
-    ensures { result.now ≡ lock_text x }
-{
-    match x {
-        Lock::Shared => "shared",
-        Lock::Exclusive => "exclusive",
-    }
-}
-
-/// The word of an assertion.
-fn assertion_word(x: Assertion) -> &'static str
-    ensures { result.now ≡ assertion_text x }
-{
-    match x {
-        Assertion::NoCheck => "nocheck",
-        Assertion::NoStore => "nostore",
-        Assertion::NoPut => "noput",
-        Assertion::NoPrecede => "noprecede",
-        Assertion::NoSucceed => "nosucceed",
-    }
-}
+use script_language::{
+    Assertion, assertion_word, assertions, dtype_word, dtypes, lock_word, locks, op_word, ops,
+};
 
 /// Whether a text is the token.
 pub fn is_text(text: &str, token: &[u8]) -> bool
@@ -115,7 +23,7 @@ pub fn is_text(text: &str, token: &[u8]) -> bool
 pub fn dtype_named(token: &[u8]) -> Option<Dtype>
     ensures { result ≡ the_dtype_named token.now }
 {
-    DTYPES
+    dtypes()
         .iter()
         .copied()
         .find(|x| is_text(dtype_word(*x), token))
@@ -124,13 +32,13 @@ pub fn dtype_named(token: &[u8]) -> Option<Dtype>
 pub fn op_named(token: &[u8]) -> Option<Op>
     ensures { result ≡ the_op_named token.now }
 {
-    OPS.iter().copied().find(|x| is_text(op_word(*x), token))
+    ops().iter().copied().find(|x| is_text(op_word(*x), token))
 }
 
 pub fn lock_named(token: &[u8]) -> Option<Lock>
     ensures { result ≡ the_lock_named token.now }
 {
-    LOCKS
+    locks()
         .iter()
         .copied()
         .find(|x| is_text(lock_word(*x), token))
@@ -139,7 +47,7 @@ pub fn lock_named(token: &[u8]) -> Option<Lock>
 pub fn assertion_named(token: &[u8]) -> Option<Assertion>
     ensures { result ≡ the_assertion_named token.now }
 {
-    ASSERTIONS
+    assertions()
         .iter()
         .copied()
         .find(|x| is_text(assertion_word(*x), token))

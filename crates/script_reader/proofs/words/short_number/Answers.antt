@@ -1,5 +1,5 @@
 -- A number below 100 has one digit or two.
-use Rattle.std.proofs.Common.{ap, ◌∙◌, ◌≡◌, ◌+◌, ◌*◌, arith}
+use Rattle.std.proofs.Common.{arith}
 use Rattle.script_reader.proofs.Numbered.{one_digit, two_digits, no_digit, few_digits}
 use Rattle.script_reader.proofs.words.short_number.Goals as goal
 
