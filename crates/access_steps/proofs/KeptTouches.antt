@@ -2,6 +2,7 @@
 use Rattle.std.proofs.Common.{◌≡◌, ℕ, ◌+◌, ◌≤◌, List, [], ◌∷◌, ◌++◌, length, map, refl, sym, ap, ◌∙◌, subst, arith}
 use Rattle.std.proofs.Common.{Option, Some, None, append_assoc, append-nil, length-append}
 use Rattle.std.proofs.lemmas.List.{length-map, map-append}
+use Rattle.list_laws.proofs.Each.{each_append}
 use Rattle.rma_record.specs.declared.items.Item.{Item}
 use Rattle.rma_record.specs.declared.items.Item.TheVariants.{Touch}
 use Rattle.call_rules.specs.declared.cells.Cell.{Cell}
@@ -10,7 +11,7 @@ use Rattle.cell_face.specs.Faces.{Face, Keeps}
 use Rattle.access_steps.specs.Plans.{PlannedTouch}
 use Rattle.access_steps.specs.TouchesMade.{MadeTouch, plan_of, item_of, update_by, updates_of, TouchesMade, TouchesKept}
 use Rattle.access_steps.specs.TouchesMade.{TouchesOne, TouchesNone}
-use Rattle.access_steps.proofs.MoreTouches.{all_append, all_map, TouchesMade-append}
+use Rattle.access_steps.proofs.MoreTouches.{all_map, TouchesMade-append}
 use Rattle.access_steps.proofs.OneTouch.{TouchesMade-none}
 
 -- before the first touch
@@ -45,7 +46,7 @@ kept_more before middle after knew knows kept_before kept_middle kept_after issu
           ∙ (append_assoc kept_before (map (item_of issue) kept.touches) (item ∷ [])
           ∙ ap (λ (ks : List Item). kept_before ++ ks) (sym (map-append (item_of issue) kept.touches (touch ∷ [])))));
       made = TouchesMade-append before middle after kept.touches (touch ∷ []) kept.made (one.made plan.element);
-      states = all_append (λ (t : MadeTouch). knows t.plan.cell t.seen) kept.touches (touch ∷ [])
+      states = each_append (λ (t : MadeTouch). knows t.plan.cell t.seen) kept.touches (touch ∷ [])
           (all_map (λ (t : MadeTouch). knew t.plan.cell t.seen) (λ (t : MadeTouch). knows t.plan.cell t.seen)
           (λ t k. keeps t.plan.cell t.seen k) kept.touches kept.states) (found, tt);
     }
@@ -65,11 +66,11 @@ kept_moved before middle after knew knows kept_before kept_after issue planned k
       (λ t k. keeps t.plan.cell t.seen k) kept.touches kept.states;
 }
 
-at_most_one : (cell : ℕ) (seen : Cell) (change : Option Change) → length (update_by cell seen change) ≤ 1
+pub at_most_one : (cell : ℕ) (seen : Cell) (change : Option Change) → length (update_by cell seen change) ≤ 1
 at_most_one cell seen None = omega arith
 at_most_one cell seen (Some change) = omega arith
 
-updates_fewer : (touches : List MadeTouch) → length (updates_of touches) ≤ length touches
+pub updates_fewer : (touches : List MadeTouch) → length (updates_of touches) ≤ length touches
 updates_fewer [] = omega arith
 updates_fewer (touch ∷ touches) = omega (
   arith,

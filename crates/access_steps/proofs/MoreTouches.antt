@@ -3,17 +3,12 @@ use Rattle.std.proofs.Common.{◌≡◌, ◌≤◌, List, [], ◌∷◌, ◌++�
 use Rattle.std.proofs.Common.{None, IfSome, append_assoc, length-append}
 use Rattle.std.specs.List.{AllByRecursion}
 use Rattle.std.specs.Option.{option_map}
+use Rattle.list_laws.proofs.Each.{each_append}
 use Rattle.call_rules.specs.declared.cells.Cell.{Cell}
 use Rattle.call_rules.specs.Touches.{cells_after}
 use Rattle.cell_face.specs.Faces.{Face, Update, low_at}
 use Rattle.access_steps.specs.TouchesMade.{MadeTouch, place_after, update_by, updates_of, Follows, IsInOrder}
 use Rattle.access_steps.specs.TouchesMade.{cells_left, SeesEach, TouchesMade}
-
--- the same fact of each element of both lists
-pub all_append : {X : Type 0} (P : X → Type 0) (xs ys : List X) → AllByRecursion P xs → AllByRecursion P ys →
-    AllByRecursion P (xs ++ ys)
-all_append P [] ys a b = b
-all_append P (x ∷ xs) ys a b = (a.0, all_append P xs ys a.1 b)
 
 -- a fact of each element from another one
 pub all_map : {X : Type 0} (P Q : X → Type 0) (f : (x : X) → P x → Q x) (xs : List X) → AllByRecursion P xs →
@@ -47,7 +42,7 @@ IsInOrder-append : (middle : Face) (xs ys : List MadeTouch) → IsInOrder xs →
     AllByRecursion (λ touch. low_at middle touch.plan.cell ≤ touch.seen.place) ys → IsInOrder (xs ++ ys)
 IsInOrder-append middle [] ys a b high low = b
 IsInOrder-append middle (x ∷ xs) ys a b high low = (
-  all_append (Follows x) xs ys a.0 (all_map (λ touch. low_at middle touch.plan.cell ≤ touch.seen.place) (Follows x)
+  each_append (Follows x) xs ys a.0 (all_map (λ touch. low_at middle touch.plan.cell ≤ touch.seen.place) (Follows x)
       (follow middle x high.0) ys low),
   IsInOrder-append middle xs ys a.1 b high.1 low,
 )
@@ -93,11 +88,11 @@ TouchesMade-append before middle after xs ys first then = record {
   told = then.told ∙ (ap (option_map (λ cells. cells_left cells ys)) first.told ∙ told_twice before.told xs ys);
   states = states_twice before.told xs ys first.states
       (subst (λ (told : Option (List Cell)). IfSome told (λ cells. SeesEach cells ys)) first.told then.states);
-  not_below = all_append (λ touch. low_at before touch.plan.cell ≤ touch.seen.place) xs ys first.not_below
+  not_below = each_append (λ touch. low_at before touch.plan.cell ≤ touch.seen.place) xs ys first.not_below
       (all_map (λ touch. low_at middle touch.plan.cell ≤ touch.seen.place)
       (λ touch. low_at before touch.plan.cell ≤ touch.seen.place)
       (λ touch low. omega (arith, first.stays.lows touch.plan.cell)) ys then.not_below);
-  raised = all_append (λ touch. place_after touch ≤ low_at after touch.plan.cell) xs ys
+  raised = each_append (λ touch. place_after touch ≤ low_at after touch.plan.cell) xs ys
       (all_map (λ touch. place_after touch ≤ low_at middle touch.plan.cell)
       (λ touch. place_after touch ≤ low_at after touch.plan.cell)
       (λ touch high. omega (arith, then.stays.lows touch.plan.cell)) xs first.raised) then.raised;

@@ -12,33 +12,25 @@ use Rattle.rma_types.specs.declared.dtypes.Dtype.TheVariants.{Int8, Int16, Int32
 use Rattle.rma_types.specs.declared.scripts.Layout.{Layout}
 use Rattle.rma_types.specs.Datatypes.{size_of}
 use Rattle.call_rules.specs.declared.elements.Change.{Change}
-use Rattle.call_rules.specs.Actions.{Action, Creates, Frees, Attaches, Detaches, Synchronises, Meets, Moves}
-use Rattle.call_rules.specs.Actions.{EndsRequest, Transfer, transfer_in, action_of}
+use Rattle.rma_types.specs.declared.actions.Transfer.{Transfer}
+use Rattle.rma_types.specs.Actions.{transfer_in, action_of}
 use Rattle.call_rules.specs.Elements.{Fits}
 use Rattle.call_rules.specs.Numbers.{patterns_of}
 use Rattle.call_rules.specs.declared.elements.Piece.{Piece}
 use Rattle.call_rules.specs.Pieces.{numbers_from, piece_at}
 use Rattle.call_rules.specs.Ranks.{natural}
 use Rattle.call_rules.specs.Transfers.{bytes_of, change_of, is_no_op}
-use Rattle.call_rules.specs.WellFormed.{IsWrittenTransfer, IsWrittenAction, IsWrittenCall}
+use Rattle.call_rules.specs.WellFormed.{IsWrittenTransfer, IsWrittenCall}
+use Rattle.call_rules.proofs.NumbersFrom.{numbers_length, numbers_last}
+use Rattle.call_rules.proofs.PatternLaws.{some_pattern}
+use Rattle.call_rules.proofs.WellFormedLaws.{written_in}
 use Rattle.access_steps.specs.Plans.{element_size, element_count, is_update, change_by, PlannedTouch, touch_at}
 use Rattle.access_steps.specs.Plans.{piece_of, planned_touch, planned_touches, IsAccessOf}
-
-numbers_from-suc : (first n : ℕ) → numbers_from first (suc n) ≡ numbers_from first n ++ (first + n) ∷ []
-numbers_from-suc first zero = let e : first ≡ first + 0 = omega arith in ap (λ (k : ℕ). k ∷ []) e
-numbers_from-suc first (suc n) =
-    let e : first + 1 + n ≡ first + suc n = omega arith in
-    ap (λ (ks : List ℕ). first ∷ ks)
-    (numbers_from-suc (first + 1) n ∙ ap (λ (k : ℕ). numbers_from (first + 1) n ++ k ∷ []) e)
-
-pub length-numbers_from : (first n : ℕ) → length (numbers_from first n) ≡ n
-length-numbers_from first zero = refl
-length-numbers_from first (suc n) = ap suc (length-numbers_from (first + 1) n)
 
 pub length-planned : (layout : Layout) (access : Access) (call : Call) (first n : ℕ) →
     length (planned_touches layout access call first n) ≡ n
 length-planned layout access call first n = length-map (numbers_from first n) (planned_touch layout access call)
-    ∙ length-numbers_from first n
+    ∙ numbers_length first n
 
 -- one element more
 pub planned_more : (layout : Layout) (access : Access) (call : Call) (from element : ℕ) → from ≤ element →
@@ -48,7 +40,7 @@ planned_more layout access call from element le =
     let more : element + 1 - from ≡ suc (element - from) = omega arith in
     let here : from + (element - from) ≡ element = omega arith in
     ap (planned_touches layout access call from) more
-    ∙ (ap (map (planned_touch layout access call)) (numbers_from-suc from (element - from))
+    ∙ (ap (map (planned_touch layout access call)) (numbers_last from (element - from))
     ∙ (map-append (planned_touch layout access call) (numbers_from from (element - from))
     ((from + (element - from)) ∷ [])
     ∙ ap (λ (k : ℕ). planned_touches layout access call from (element - from) ++ planned_touch layout access call k
@@ -94,15 +86,6 @@ inside Uint16 address e = omega arith
 inside Uint32 address e = omega arith
 inside Byte address e = omega arith
 
-some_pattern : (dtype : Dtype) → 0 < patterns_of dtype
-some_pattern Int8 = omega arith
-some_pattern Int16 = omega arith
-some_pattern Int32 = omega arith
-some_pattern Uint8 = omega arith
-some_pattern Uint16 = omega arith
-some_pattern Uint32 = omega arith
-some_pattern Byte = omega arith
-
 operand_below : (n : ℕ) (operands : List ℕ) (k : ℕ) → 0 < n → AllByRecursion (λ pattern. pattern < n) operands →
     get_or operands k 0 < n
 operand_below n [] k some all = some
@@ -112,16 +95,6 @@ operand_below n (x ∷ xs) (suc k) some all = operand_below n xs k some all.1
 choice_fits : (reads : Bool) (change : Change) → Fits change → ForSome (cond reads None (Some change)) Fits
 choice_fits true change fits = λ x e. absurd (cc)
 choice_fits false change fits = λ x e. let same : change ≡ x = cc in subst Fits same fits
-
-written_in : (action : Action) → IsWrittenAction action → IfSome (transfer_in action) IsWrittenTransfer
-written_in (Creates creation) w = tt
-written_in (Frees win) w = tt
-written_in (Attaches win base bytes) w = tt
-written_in (Detaches win base) w = tt
-written_in (Synchronises win synchronisation) w = tt
-written_in Meets w = tt
-written_in (Moves transfer) w = w
-written_in (EndsRequest req) w = tt
 
 fits_in : (o : Option Transfer) (element address : ℕ) → IfSome o IsWrittenTransfer → address % size_by o ≡ 0 →
     ForSome (option_and_then (λ (t : Transfer). change_of t element (address % 4)) o) Fits

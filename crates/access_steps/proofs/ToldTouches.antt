@@ -1,5 +1,5 @@
 -- Touches of a memory that tells its cells: the definition's touches, one after another.
-use Rattle.std.proofs.Common.{◌≡◌, ℕ, zero, suc, ◌+◌, ◌-◌, ◌*◌, ◌/◌, ◌%◌, ◌≤◌, List, [], ◌∷◌, ◌++◌, map, drop, refl}
+use Rattle.std.proofs.Common.{◌≡◌, ℕ, zero, suc, ◌+◌, ◌-◌, ◌/◌, ◌%◌, ◌≤◌, List, [], ◌∷◌, ◌++◌, map, drop, refl}
 use Rattle.std.proofs.Common.{sym, ap, ◌∙◌, arith, Option, Some, None, IfSome, IsSomeAnd}
 use Rattle.std.specs.Option.{option_map, option_map_or, option_and_then}
 use Rattle.rma_record.specs.declared.items.Item.{Item}
@@ -10,11 +10,13 @@ use Rattle.rma_types.specs.declared.scripts.Layout.{Layout}
 use Rattle.rma_types.specs.Datatypes.{size_of}
 use Rattle.call_rules.specs.declared.cells.Cell.{Cell}
 use Rattle.call_rules.specs.declared.elements.Piece.{Piece}
-use Rattle.call_rules.specs.Actions.{Transfer, transfer_of}
-use Rattle.call_rules.specs.Pieces.{numbers_from, piece_at, pieces}
+use Rattle.rma_types.specs.declared.actions.Transfer.{Transfer}
+use Rattle.rma_types.specs.Actions.{transfer_of}
+use Rattle.call_rules.specs.Pieces.{numbers_from, pieces}
 use Rattle.call_rules.specs.Ranks.{natural}
 use Rattle.call_rules.specs.Touches.{Touched, touch_each, cell_at, cells_after}
 use Rattle.call_rules.specs.Transfers.{bytes_of, change_of}
+use Rattle.call_rules.proofs.PieceLaws.{place_by}
 use Rattle.cell_face.specs.Faces.{Face}
 use Rattle.access_steps.specs.Plans.{PlannedTouch, element_count, planned_touches, IsAccessOf}
 use Rattle.access_steps.specs.TouchesMade.{MadeTouch, plan_of, item_of, cells_left, SeesEach, TouchesKept, IsTouchEach}
@@ -70,11 +72,7 @@ drop-numbers_from f (suc k) (suc n) first from m e s = drop-numbers_from f k n (
 abbrev count_by : Option Transfer → ℕ
 count_by o = option_map_or (λ (t : Transfer). natural t.count) o 0
 
-abbrev place_by : Option Transfer → Layout → Access → ℕ → Piece
-place_by o layout access element = piece_at layout access.target
-    (access.lo + element * option_map_or (λ (t : Transfer). size_of t.dtype) o 1)
-
-abbrev planned_by : Option Transfer → Layout → Access → ℕ → PlannedTouch
+abbrev pub planned_by : Option Transfer → Layout → Access → ℕ → PlannedTouch
 planned_by o layout access element = record {
   element = element;
   cell = (place_by o layout access element).cell;

@@ -8,7 +8,7 @@ use Rattle.call_rules.specs.declared.cells.Cell.{Cell}
 use Rattle.call_rules.specs.declared.elements.Change.{Change}
 use Rattle.call_rules.specs.Elements.{next}
 use Rattle.call_rules.specs.declared.elements.Piece.{Piece}
-use Rattle.call_rules.specs.Actions.{Transfer}
+use Rattle.rma_types.specs.declared.actions.Transfer.{Transfer}
 use Rattle.call_rules.specs.Touches.{cell_at, cells_after, touch_each}
 use Rattle.cell_face.specs.Faces.{Face, Update, Stays, Rose, low_at}
 use Rattle.access_steps.specs.Plans.{PlannedTouch}

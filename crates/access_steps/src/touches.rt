@@ -2,7 +2,7 @@
 ghost use Rattle.std.specs.Prelude.{◌≡◌, ◌+◌, ◌-◌, ◌*◌, ◌/◌, ◌%◌, ◌^◌, ◌<◌, ◌≤◌, ℕ, drop, false, Some, IsTrue, IsSome};
 ghost use Rattle.std.specs.Prelude.{IfOk, IfSome, IsSomeAnd, MatchResult, MatchBool, OnErr};
 ghost use Rattle.std.specs.Option.{ForSome};
-ghost use Rattle.call_rules.specs.Actions.{transfer_of};
+ghost use Rattle.rma_types.specs.Actions.{transfer_of};
 ghost use Rattle.call_rules.specs.Elements.{Fits, next};
 ghost use Rattle.call_rules.specs.Pieces.{pieces};
 ghost use Rattle.call_rules.specs.Touches.{touch_each};

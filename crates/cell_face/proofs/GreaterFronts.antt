@@ -3,7 +3,7 @@ use Rattle.std.proofs.Common.{◌≡◌, ℕ, zero, suc, ◌<◌, max, List, [],
 use Rattle.std.proofs.lemmas.List.{ext_get_or}
 use Rattle.cell_face.specs.Fronts.{greater}
 
-length-greater : (xs ys : List ℕ) → length xs ≡ length ys → length (greater xs ys) ≡ length xs
+pub length-greater : (xs ys : List ℕ) → length xs ≡ length ys → length (greater xs ys) ≡ length xs
 length-greater [] [] e = refl
 length-greater [] (y ∷ ys) e = absurd (omega arith)
 length-greater (x ∷ xs) [] e = refl

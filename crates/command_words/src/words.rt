@@ -128,6 +128,7 @@ fn options_in(matches: &ArgMatches) -> Option<Options>
 fn why_none(error: &Error) -> WordsFault
     ensures memory { kind_of error.now ≡ OutOfMemory → result ≡ WordsFault.NoMemory }
     ensures usage { result ≡ WordsFault.Usage → kind_of error.now ≢ OutOfMemory }
+    ensures no_memory { result ≡ WordsFault.NoMemory → kind_of error.now ≡ OutOfMemory }
 {
     match error.kind() {
         ErrorKind::OutOfMemory => WordsFault::NoMemory,

@@ -11,6 +11,7 @@ use Rattle.std.proofs.Common.{add-one}
 use Rattle.std.proofs.lemmas.List.{take-map, drop-map, map-append, map-set, set-append_left, set-append_right}
 use Rattle.std.proofs.lemmas.List.{append-nil, drop_more, take_more}
 use Rattle.std.proofs.lemmas.List.Edits.{length-remove, remove-append_left, remove-append_right}
+use Rattle.list_laws.proofs.Lists.{some_within}
 use Rattle.rank_rules.specs.declared.pending.PendingAccess.{PendingAccess}
 use Rattle.delivery_queue.specs.declared.begun.Begun.{Begun}
 use Rattle.delivery_queue.specs.Blocks.{joined, ones_in, accesses_of, touched_of, IsPlace}
@@ -121,11 +122,6 @@ set_same [] at x e = refl
 set_same (y ∷ xs) zero x e = let same : y ≡ x = grind (arith, e) in rw same refl
 set_same (y ∷ xs) (suc at) x e = ap (λ rest. y ∷ rest) (set_same xs at x e)
 
-pub exists_at : {X : Type 0} (xs : List X) (at : ℕ) → at < length xs → (x : X) × (slice_get xs at ≡ Some x)
-exists_at [] at l = absurd (omega arith)
-exists_at (x ∷ xs) zero l = (x, refl)
-exists_at (x ∷ xs) (suc at) l = exists_at xs at (omega arith)
-
 marked_at : (marks : Marks) (ones : List Begun) (at : ℕ) (one : Begun) →
     All (λ (one : Begun). IsMarked marks one.access) ones → slice_get ones at ≡ Some one → IsMarked marks one.access
 marked_at marks [] at one all e = cc
@@ -142,7 +138,7 @@ pub touched_in : (ones after : List Begun) (at count : ℕ) → at < length ones
     (accesses_of after ≡ accesses_of ones) × (touched_of after ≡ set (touched_of ones) at count)
     × (length after ≡ length ones)
 touched_in ones after at count l is =
-    let here = exists_at ones at l in
+    let here = some_within ones at l in
     let one = here.0 in
     let other : Begun = record { access = one.access; touched = count } in
     let e : after ≡ set ones at other = is one here.1 in
@@ -218,7 +214,7 @@ pub touched_kept : (marks : Marks) (total : ℕ) (ones after : List Begun) (at c
     after ≡ set ones at (record { access = one.access; touched = count })) →
     IsKept marks total ones → IsKept marks total after
 touched_kept marks total ones after at count l is kept =
-    let here = exists_at ones at l in
+    let here = some_within ones at l in
     let one : Begun = here.0 in
     let other : Begun = record { access = one.access; touched = count } in
     let marked : IsMarked marks one.access = marked_at marks ones at one kept.marked here.1 in

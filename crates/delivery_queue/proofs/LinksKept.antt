@@ -7,8 +7,9 @@ use Rattle.std.proofs.lemmas.Iterator.Adapters.{position_from-zero}
 use Rattle.std.proofs.lemmas.List.{take-append-le}
 use Rattle.rank_rules.specs.declared.pending.PendingAccess.{PendingAccess}
 use Rattle.rank_rules.specs.Pending.{gives_way, first_in_way, way}
+use Rattle.rank_rules.proofs.PendingLaws.{gives_way_to_earlier}
 use Rattle.delivery_queue.specs.Walked.{leads}
-use Rattle.delivery_queue.proofs.GivenWays.{way_step, gives_way_to_earlier}
+use Rattle.delivery_queue.proofs.GivenWays.{way_step}
 
 -- a search that begins to count one place earlier
 earlier_from : {X : Type 0} (p : X → Bool) (i at : ℕ) (xs : List X) → position_from p (i + 1) xs ≡ Some at →

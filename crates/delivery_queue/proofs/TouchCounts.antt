@@ -1,5 +1,5 @@
 -- How many items are kept of touches.
-use Rattle.std.proofs.Common.{◌≡◌, ℕ, zero, suc, ◌+◌, List, length, refl, ◌∙◌, ap, arith}
+use Rattle.std.proofs.Common.{◌≡◌, ℕ, ◌+◌, List, length, ◌∙◌, ap, arith}
 use Rattle.std.proofs.Common.{length-append}
 use Rattle.std.proofs.lemmas.List.{length-map}
 use Rattle.std.specs.Prelude.{map}
@@ -8,14 +8,11 @@ use Rattle.call_rules.specs.declared.cells.Cell.{Cell}
 use Rattle.rma_types.specs.declared.accesses.Access.{Access}
 use Rattle.rma_types.specs.declared.calls.Call.{Call}
 use Rattle.rma_types.specs.declared.scripts.Layout.{Layout}
+use Rattle.call_rules.proofs.NumbersFrom.{numbers_length}
 use Rattle.access_steps.specs.Plans.{planned_touch, planned_touches}
 use Rattle.access_steps.specs.TouchesMade.{TouchesKept, item_of, plan_of}
 use Rattle.call_rules.specs.Pieces.{numbers_from}
 use Rattle.cell_face.specs.Faces.{Face}
-
-numbers_length : (first count : ℕ) → length (numbers_from first count) ≡ count
-numbers_length first zero = refl
-numbers_length first (suc count) = grind (arith, numbers_length (first + 1) count)
 
 -- as many as there are plans
 pub kept_count : (layout : Layout) (access : Access) (call : Call) (from count : ℕ) (before after : Face)

@@ -9,7 +9,7 @@ use Rattle.access_steps.specs.Plans.{element_count, is_update, planned_touch, pl
 use Rattle.access_steps.specs.Plans.{IsAccessOf, IsTried, LiesWithin}
 use Rattle.access_steps.specs.TouchesMade.{TouchesKept, IsTouchEach}
 use Rattle.call_rules.specs.declared.cells.Cell.{Cell}
-use Rattle.call_rules.specs.Actions.{transfer_of}
+use Rattle.rma_types.specs.Actions.{transfer_of}
 use Rattle.call_rules.specs.Pieces.{pieces}
 use Rattle.cell_face.specs.Faces.{Face, cell_count}
 use Rattle.rma_record.specs.declared.items.Item.{Item}

@@ -3,7 +3,7 @@ ghost use Rattle.std.specs.Prelude.{◌≡◌, ◌+◌, ◌-◌, ◌≤◌, ◌<
 ghost use Rattle.std.specs.Prelude.{MatchBool};
 ghost use Rattle.access_steps.specs.Plans.{element_count, is_update, planned_touch, planned_touches, IsTried};
 ghost use Rattle.access_steps.specs.TouchesMade.{TouchesKept, IsTouchEach};
-ghost use Rattle.call_rules.specs.Actions.{transfer_of};
+ghost use Rattle.rma_types.specs.Actions.{transfer_of};
 ghost use Rattle.call_rules.specs.Pieces.{pieces};
 ghost use Rattle.cell_face.specs.Faces.{cell_count, Rose, Keeps};
 ghost use Rattle.delivery_queue.specs.Queues.{IsOfCall};

@@ -3,22 +3,21 @@ use Rattle.std.proofs.Common.{◌≡◌, ℕ, ◌+◌, false, List, [], ◌∷�
 use Rattle.std.specs.List.{list_any}
 use Rattle.std.proofs.lemmas.Bool.{eq-eqb, ne_eqb}
 use Rattle.std.proofs.lemmas.List.Folds.{list_any-append}
+use Rattle.list_laws.proofs.Tests.{any_map, any_alike}
 use Rattle.rma_types.specs.declared.calls.Lock.{Lock}
 use Rattle.rma_types.specs.declared.calls.Lock.TheVariants.{Shared as SharedLock, Exclusive as ExclusiveLock}
 use Rattle.board_rules.specs.Locks.{Held, do_clash}
 use Rattle.lock_table.specs.declared.targets.Target.{Target}
 use Rattle.lock_table.specs.declared.targets.Target.TheVariants.{Shared, Exclusive}
 use Rattle.lock_table.specs.HeldLocks.{NoTwoClash, lock, locks_at_target, locks_from, ranks_in}
-use Rattle.lock_table.proofs.RankMasks.{any_map}
-use Rattle.lock_table.proofs.TargetLocks.{any_pointwise}
 use Rattle.lock_table.proofs.TableLocks.{clash, from_alike, none_in}
 
 -- shared locks at a target do not clash
 shared_together : (window target rank : ℕ) (ranks : List ℕ) →
     list_any (do_clash (lock window target SharedLock rank)) (map (lock window target SharedLock) ranks) ≡ false
 shared_together window target rank ranks =
-    any_map (lock window target SharedLock) (do_clash (lock window target SharedLock rank)) ranks
-    ∙ (any_pointwise (λ other. do_clash (lock window target SharedLock rank) (lock window target SharedLock other))
+    any_map (do_clash (lock window target SharedLock rank)) (lock window target SharedLock) ranks
+    ∙ (any_alike (λ other. do_clash (lock window target SharedLock rank) (lock window target SharedLock other))
     (λ _. false) (λ other. clash window target SharedLock rank target SharedLock other
     ∙ rw (eq-eqb target target refl) refl) ranks
     ∙ none_in ranks)

@@ -1,6 +1,6 @@
 -- What a test finds among the ranks of a mask, and of a mask with a bit set or cleared.
 use Rattle.std.proofs.Common.{◌≡◌, ℕ, zero, suc, ◌+◌, ◌-◌, ◌*◌, ◌%◌, ◌^◌, ◌<◌, ◌≤◌, Bool, true, false, not, ◌&&◌, ◌||◌}
-use Rattle.std.proofs.Common.{cond, eqb, List, [], ◌∷◌, map, refl, ap, sym, ◌∙◌, arith, ⊎_elim}
+use Rattle.std.proofs.Common.{eqb, List, [], ◌∷◌, refl, ap, sym, ◌∙◌, arith, ⊎_elim}
 use Rattle.std.specs.List.{list_any, filter}
 use Rattle.std.specs.Int.{bit_at, w16}
 use Rattle.std.specs.Prelude.{bit_and, bit_or}
@@ -9,46 +9,15 @@ use Rattle.std.proofs.lemmas.Nat.{one_shl, pow_pos}
 use Rattle.std.proofs.lemmas.Nat.Bits.{bit_at_set_same, bit_at_set_other, bit_at_clear_same, bit_at_clear_other}
 use Rattle.std.proofs.lemmas.Nat.Bits.{and_pow, same_from_bits_below, bit_at-zero, bit_at-lt}
 use Rattle.std.proofs.Math.Nat.{zero-mul}
+use Rattle.list_laws.proofs.Tests.{any_filter}
 use Rattle.call_rules.specs.Pieces.{numbers_from}
+use Rattle.call_rules.proofs.NumbersFrom.{any_numbers, no_number}
 use Rattle.lock_table.specs.HeldLocks.{ranks_in}
-
-pub any_filter : {X : Type 0} (keep test : X → Bool) (xs : List X) → list_any test (filter keep xs) ≡ list_any
-    (λ x. keep x && test x) xs
-any_filter keep test [] = refl
-any_filter keep test (x ∷ xs) =
-    elim (keep x) as (λ b. list_any test (cond b (x ∷ filter keep xs) (filter keep xs)) ≡
-    ((b && test x) || list_any (λ y. keep y && test y) xs)) [
-      | true ↦ ap (λ t. test x || t) (any_filter keep test xs)
-      | false ↦ any_filter keep test xs
-    ]
-
-pub any_map : {X Y : Type 0} (f : X → Y) (test : Y → Bool) (xs : List X) → list_any test (map f xs) ≡ list_any
-    (λ x. test (f x)) xs
-any_map f test [] = refl
-any_map f test (x ∷ xs) = ap (λ t. test (f x) || t) (any_map f test xs)
 
 pub any_in : (test : ℕ → Bool) (ranks mask : ℕ) → list_any test (ranks_in ranks mask) ≡ list_any
     (λ rank. eqb (bit_at mask rank) 1 && test rank) (numbers_from 0 ranks)
 unfolding ranks_in
-any_in test ranks mask = any_filter (λ rank. eqb (bit_at mask rank) 1) test (numbers_from 0 ranks)
-
-pub any_alike : (p q : ℕ → Bool) (first count : ℕ) → ((r : ℕ) → first ≤ r → r < first + count → p r ≡ q r) →
-    list_any p (numbers_from first count) ≡ list_any q (numbers_from first count)
-any_alike p q first zero same = refl
-any_alike p q first (suc count) same =
-    let here : p first ≡ q first = same first (omega arith) (omega arith) in
-    let later : list_any p (numbers_from (first + 1) count) ≡ list_any q (numbers_from (first + 1) count) =
-    any_alike p q (first + 1) count (λ r low high. same r (omega arith) (omega arith)) in
-    cc
-
-pub any_none : (p : ℕ → Bool) (first count : ℕ) → ((r : ℕ) → first ≤ r → r < first + count → p r ≡ false) →
-    list_any p (numbers_from first count) ≡ false
-any_none p first zero none = refl
-any_none p first (suc count) none =
-    let here : p first ≡ false = none first (omega arith) (omega arith) in
-    let later : list_any p (numbers_from (first + 1) count) ≡ false = any_none p (first + 1) count
-    (λ r low high. none r (omega arith) (omega arith)) in
-    rw (here, later) refl
+any_in test ranks mask = any_filter test (λ rank. eqb (bit_at mask rank) 1) (numbers_from 0 ranks)
 
 pub each_none : (p : ℕ → Bool) (first count : ℕ) → list_any p (numbers_from first count) ≡ false → (r : ℕ) → first ≤ r →
     r < first + count → p r ≡ false
@@ -77,7 +46,7 @@ any_only test rank first zero low high = absurd (omega arith)
 any_only test rank first (suc count) low high = ⊎_elim
     (λ e.
     let none : list_any (λ r. eqb r rank && test r) (numbers_from (first + 1) count) ≡ false =
-    any_none _ (first + 1) count (λ r l h. rw (ne_eqb r rank (λ same. omega arith)) refl) in
+    no_number _ (first + 1) count (λ r l h. rw (ne_eqb r rank (λ same. omega arith)) refl) in
     rw (none, eq-eqb first rank (sym e), e) (or_nothing (test first)))
     (λ ne.
     let other : eqb first rank ≡ false = ne_eqb first rank (λ same. ne (sym same)) in
@@ -90,14 +59,14 @@ any_only test rank first (suc count) low high = ⊎_elim
 
 -- a mask is zero exactly where no rank is in it
 pub none_in_zero : (test : ℕ → Bool) (ranks : ℕ) → list_any test (ranks_in ranks 0) ≡ false
-none_in_zero test ranks = any_in test ranks 0 ∙ any_none _ 0 ranks (λ r low high. rw (bit_at-zero r) refl)
+none_in_zero test ranks = any_in test ranks 0 ∙ no_number _ 0 ranks (λ r low high. rw (bit_at-zero r) refl)
 
 pub some_in : (mask : ℕ) → mask < 2 ^ 16 → list_any (λ (_ : ℕ). true) (ranks_in 16 mask) ≡ not (eqb mask 0)
 some_in mask small = any_in (λ _. true) 16 mask ∙ ⊎_elim
     (λ e.
     let zero : eqb mask 0 ≡ true = eq-eqb mask 0 e in
     let none : list_any (λ rank. eqb (bit_at mask rank) 1 && true) (numbers_from 0 16) ≡ false =
-    any_none (λ rank. eqb (bit_at mask rank) 1 && true) 0 16
+    no_number (λ rank. eqb (bit_at mask rank) 1 && true) 0 16
     (λ r low high. no_bit mask r (ap (λ m. bit_at m r) e ∙ bit_at-zero r)) in
     cc)
     (λ ne. rw (ne_eqb mask 0 ne) (⊎_elim (λ yes. yes)
@@ -137,7 +106,7 @@ is_in mask rank within =
   where
     flipped : list_any (λ r. eqb r rank) (ranks_in 16 mask) ≡ eqb (bit_at mask rank) 1
     flipped = any_in (λ r. eqb r rank) 16 mask
-        ∙ (any_alike _ _ 0 16 (λ r low high. swap (eqb (bit_at mask r) 1) (eqb r rank))
+        ∙ (any_numbers _ _ 0 16 (λ r low high. swap (eqb (bit_at mask r) 1) (eqb r rank))
         ∙ any_only (λ r. eqb (bit_at mask r) 1) rank 0 16 (omega arith) (omega arith))
       where
         swap : (a b : Bool) → (a && b) ≡ (b && a)
@@ -157,7 +126,7 @@ pub any_set : (test : ℕ → Bool) (mask rank : ℕ) → rank < 16 →
 any_set test mask rank within =
     let new = bit_or mask (1 * 2 ^ rank % 65536) in
     any_in test 16 new
-    ∙ (any_alike (λ r. eqb (bit_at new r) 1 && test r)
+    ∙ (any_numbers (λ r. eqb (bit_at new r) 1 && test r)
     (λ r. (eqb (bit_at mask r) 1 && test r) || (eqb r rank && test r)) 0 16 at
     ∙ (any_or (λ r. eqb (bit_at mask r) 1 && test r) (λ r. eqb r rank && test r) (numbers_from 0 16)
     ∙ rw (any_only test rank 0 16 (omega arith) (omega arith), any_in test 16 mask) refl))
@@ -190,7 +159,8 @@ pub any_cleared : (test : ℕ → Bool) (mask rank : ℕ) → rank < 16 →
 any_cleared test mask rank within =
     let new = bit_and mask (65535 - 1 * 2 ^ rank % 65536) in
     any_in test 16 new
-    ∙ (any_alike (λ r. eqb (bit_at new r) 1 && test r) (λ r. eqb (bit_at mask r) 1 && (not (eqb r rank) && test r)) 0 16
+    ∙ (any_numbers (λ r. eqb (bit_at new r) 1 && test r) (λ r. eqb (bit_at mask r) 1 && (not (eqb r rank) && test r)) 0
+    16
     at
     ∙ sym (any_in (λ r. not (eqb r rank) && test r) 16 mask))
   where

@@ -5,6 +5,8 @@ use Rattle.std.specs.List.{list_any}
 use Rattle.std.proofs.lemmas.Bool.{eq-eqb, ne_eqb}
 use Rattle.std.proofs.lemmas.List.{take_more, length-take-le}
 use Rattle.std.proofs.lemmas.List.Folds.{list_any-append}
+use Rattle.list_laws.proofs.Tests.{any_filter, any_alike}
+use Rattle.list_laws.proofs.Truths.{or_false, or_true}
 use Rattle.rma_types.specs.declared.calls.Lock.{Lock}
 use Rattle.rma_types.specs.declared.calls.Lock.TheVariants.{Shared as SharedLock, Exclusive as ExclusiveLock}
 use Rattle.board_rules.specs.Locks.{Held, is_given_back, excludes, do_clash}
@@ -12,15 +14,15 @@ use Rattle.lock_table.specs.declared.targets.Target.{Target}
 use Rattle.lock_table.specs.declared.targets.Target.TheVariants.{Shared, Exclusive}
 use Rattle.lock_table.specs.HeldLocks.{lock, ranks_in, kept, locks_at_target, locks_from, is_holder, is_held_by}
 use Rattle.lock_table.specs.HeldLocks.{HasSameLocks}
-use Rattle.lock_table.proofs.RankMasks.{any_filter, no_rank_in_zero}
-use Rattle.lock_table.proofs.TargetLocks.{shared_any, any_pointwise}
+use Rattle.lock_table.proofs.RankMasks.{no_rank_in_zero}
+use Rattle.lock_table.proofs.TargetLocks.{shared_any}
 
 -- two tests that agree on the locks of a target
 pub target_alike : (p q : Held → Bool) (window target : ℕ) →
     ((kind : Lock) (holder : ℕ) → p (lock window target kind holder) ≡ q (lock window target kind holder)) →
     (one : Target) → list_any p (locks_at_target window target one) ≡ list_any q (locks_at_target window target one)
 target_alike p q window target same (Shared holders) =
-    shared_any window target holders p ∙ (any_pointwise _ _ (λ rank. same SharedLock rank) (ranks_in 16 holders)
+    shared_any window target holders p ∙ (any_alike _ _ (λ rank. same SharedLock rank) (ranks_in 16 holders)
     ∙ sym (shared_any window target holders q))
 target_alike p q window target same (Exclusive holder) = ap (λ b. b || false) (same ExclusiveLock holder)
 
@@ -44,10 +46,6 @@ pub none_in : {X : Type 0} (xs : List X) → list_any (λ (_ : X). false) xs ≡
 none_in [] = refl
 none_in (x ∷ xs) = none_in xs
 
-or_nothing : (b : Bool) → (b || false) ≡ b
-or_nothing true = refl
-or_nothing false = refl
-
 -- a test that only locks at one target can pass
 pub table_any : (p q : Held → Bool) (window first i : ℕ) (targets : List Target) (d : Target) → i < length targets →
     ((target : ℕ) → target ≢ first + i → (kind : Lock) (holder : ℕ) → p (lock window target kind holder) ≡ false) →
@@ -59,7 +57,7 @@ table_any p q window first zero (one ∷ others) d within other here =
     ∙ (ap (λ b. list_any p (locks_at_target window first one) || b)
     (from_alike p (λ _. false) window (first + 1) (λ target low. other target (λ e. absurd (omega arith))) others
     ∙ none_in (locks_from window (first + 1) others))
-    ∙ (or_nothing (list_any p (locks_at_target window first one)) ∙ at_first))
+    ∙ (or_false (list_any p (locks_at_target window first one)) ∙ at_first))
   where
     at_first : list_any p (locks_at_target window first one) ≡ list_any q (locks_at_target window (first + 0) one)
     at_first = let e : first + 0 ≡ first = omega arith in
@@ -157,7 +155,7 @@ pub from_append : (window first : ℕ) (targets : List Target) (one : Target) (t
 from_append window first [] one test =
     let e : first + 0 ≡ first = omega arith in
     rw e (list_any-append test (locks_at_target window first one) []
-    ∙ or_nothing (list_any test (locks_at_target window first one)))
+    ∙ or_false (list_any test (locks_at_target window first one)))
 from_append window first (other ∷ targets) one test =
     let e : first + suc (length targets) ≡ (first + 1) + length targets = omega arith in
     list_any-append test (locks_at_target window first other) (locks_from window (first + 1) (targets ++ one ∷ []))
@@ -233,7 +231,7 @@ granted window i rank kind targets after d within more test =
     plus : (test : Held → Bool) (held : List Held) (new : Held) → list_any test (held ++ new ∷ []) ≡
         (list_any test held || test new)
     plus test held new = list_any-append test held (new ∷ []) ∙ ap (λ b. list_any test held || b)
-        (or_nothing (test new))
+        (or_false (test new))
 
 -- a lock less at one target
 pub released : (window i rank : ℕ) (targets : List Target) (after d : Target) → i < length targets →
@@ -245,8 +243,8 @@ released window i rank targets after d within less test =
     table_kept keep test window 0 i targets after d within
     (λ target ne kind holder. rw (ne_eqb target i (λ same. ne (same ∙ sym e)))
     (stays (eqb holder rank && eqb window window)))
-    (rw e (less test ∙ any_filter keep test (locks_at_target window i (get_or targets i d))))
-    ∙ sym (any_filter keep test (locks_from window 0 targets))
+    (rw e (less test ∙ any_filter test keep (locks_at_target window i (get_or targets i d))))
+    ∙ sym (any_filter test keep (locks_from window 0 targets))
   where
     stays : (b : Bool) → not (b && false) ≡ true
     stays true = refl
@@ -267,10 +265,6 @@ none_more window i targets d within test before here =
     let e : 0 + length (take i targets) ≡ i = omega (arith, long) in
     rw (take_more targets i d within) (from_append window 0 (take i targets) (get_or targets i d) test
     ∙ rw (before, e, here) refl)
-
-or_true : (b : Bool) → (b || true) ≡ true
-or_true true = refl
-or_true false = refl
 
 -- a lock at one target is one of the table
 pub some_at : (window i : ℕ) (targets : List Target) (d : Target) → i < length targets → (test : Held → Bool) →

@@ -5,13 +5,14 @@ use Rattle.std.specs.List.{list_any}
 use Rattle.std.specs.Prelude.{bit_and, bit_or}
 use Rattle.std.proofs.lemmas.Bool.{eq-eqb}
 use Rattle.std.proofs.lemmas.List.Folds.{list_any-append}
+use Rattle.list_laws.proofs.Tests.{any_alike, any_filter, any_map}
 use Rattle.rma_types.specs.declared.calls.Lock.{Lock}
 use Rattle.rma_types.specs.declared.calls.Lock.TheVariants.{Shared as SharedLock, Exclusive as ExclusiveLock}
 use Rattle.board_rules.specs.Locks.{Held, is_given_back, excludes}
 use Rattle.lock_table.specs.declared.targets.Target.{Target}
 use Rattle.lock_table.specs.declared.targets.Target.TheVariants.{Shared, Exclusive}
 use Rattle.lock_table.specs.HeldLocks.{lock, ranks_in, kept, is_holder, locks_at_target}
-use Rattle.lock_table.proofs.RankMasks.{any_filter, any_map, some_in, is_in, any_set, any_cleared, none_in_zero}
+use Rattle.lock_table.proofs.RankMasks.{some_in, is_in, any_set, any_cleared, none_in_zero}
 
 abbrev pub shared : ℕ → ℕ → ℕ → List Held
 shared window target holders = map (lock window target SharedLock) (ranks_in 16 holders)
@@ -19,7 +20,7 @@ shared window target holders = map (lock window target SharedLock) (ranks_in 16 
 pub shared_any : (window target holders : ℕ) (test : Held → Bool) →
     list_any test (shared window target holders) ≡ list_any (λ rank. test (lock window target SharedLock rank))
     (ranks_in 16 holders)
-shared_any window target holders test = any_map (lock window target SharedLock) test (ranks_in 16 holders)
+shared_any window target holders test = any_map test (lock window target SharedLock) (ranks_in 16 holders)
 
 pub shared_held : (window target holders : ℕ) → holders < 2 ^ 16 → not (eqb holders 0) ≡ list_any (λ (_ : Held). true)
     (shared window target holders)
@@ -63,11 +64,6 @@ shared_with window target holders rank within test =
     last true = refl
     last false = refl
 
-pub any_pointwise : {X : Type 0} (p q : X → Bool) → ((x : X) → p x ≡ q x) → (xs : List X) →
-    list_any p xs ≡ list_any q xs
-any_pointwise p q same [] = refl
-any_pointwise p q same (x ∷ xs) = rw (same x, any_pointwise p q same xs) refl
-
 -- a lock of this window and target is given back by its holder alone
 pub given_back_here : (window target : ℕ) (kind : Lock) (rank holder : ℕ) →
     is_given_back rank window (Some (pos target)) (lock window target kind holder) ≡ eqb holder rank
@@ -84,10 +80,10 @@ pub shared_without : (window target holders rank : ℕ) → rank < 16 → (test 
 shared_without window target holders rank within test =
     shared_any window target (bit_and holders (65535 - 1 * 2 ^ rank % 65536)) test
     ∙ (any_cleared (λ r. test (lock window target SharedLock r)) holders rank within
-    ∙ sym (any_filter (λ one. not (is_given_back rank window (Some (pos target)) one)) test
+    ∙ sym (any_filter test (λ one. not (is_given_back rank window (Some (pos target)) one))
     (shared window target holders)
     ∙ (shared_any window target holders (λ one. not (is_given_back rank window (Some (pos target)) one) && test one)
-    ∙ any_pointwise _ _ (λ r. ap (λ b. not b && test (lock window target SharedLock r))
+    ∙ any_alike _ _ (λ r. ap (λ b. not b && test (lock window target SharedLock r))
     (given_back_here window target SharedLock rank r)) (ranks_in 16 holders))))
 
 pub exclusive_without_same : (window target rank holder : ℕ) → holder ≡ rank → (test : Held → Bool) →
@@ -95,7 +91,7 @@ pub exclusive_without_same : (window target rank holder : ℕ) → holder ≡ ra
     (kept rank window target (lock window target ExclusiveLock holder ∷ []))
 exclusive_without_same window target rank holder e test =
     shared_any window target 0 test ∙ (none_in_zero (λ r. test (lock window target SharedLock r)) 16
-    ∙ sym (any_filter (λ one. not (is_given_back rank window (Some (pos target)) one)) test
+    ∙ sym (any_filter test (λ one. not (is_given_back rank window (Some (pos target)) one))
     (lock window target ExclusiveLock holder ∷ [])
     ∙ gone))
   where

@@ -1,10 +1,12 @@
 -- Distinct ranks below 16 are at most 16, and stay distinct as one more comes or one goes.
-use Rattle.std.proofs.Common.{◌≡◌, ℕ, zero, suc, ◌+◌, ◌<◌, ◌≤◌, ◌==◌, Bool, true, false, not, ◌&&◌, ◌||◌, nat_lt, List}
-use Rattle.std.proofs.Common.{[], ◌∷◌, ◌++◌, length, filter, refl, sym, ◌∙◌, ap, subst, arith, cond, length-append}
-use Rattle.std.proofs.lemmas.Bool.{false≢true, and_parts, and_from, or_parts, or_from, not-true, not_from_false}
+use Rattle.std.proofs.Common.{◌≡◌, ℕ, zero, suc, ◌<◌, ◌≤◌, ◌==◌, Bool, true, false, not, List}
+use Rattle.std.proofs.Common.{[], ◌∷◌, ◌++◌, length, refl, sym, ap, subst, arith, cond, length-append}
+use Rattle.std.proofs.lemmas.Bool.{false≢true, and_parts, and_from, or_parts, not-true, not_from_false}
 use Rattle.std.proofs.lemmas.Bool.{ltb-true, lt-ltb, eqb-true, eqb-false, ne_eqb}
-use Rattle.std.specs.Prelude.{ℤ, pos, negsuc, Option, Some}
+use Rattle.std.specs.Prelude.{ℤ, pos, negsuc, Some}
+use Rattle.list_laws.proofs.Tests.{without}
 use Rattle.call_rules.specs.Ranks.{is_member, is_rank, natural}
+use Rattle.call_rules.proofs.RankLaws.{absent_without, absent_stays, absent_append}
 use Rattle.rank_rules.specs.Epochs.{AccessEpoch, Idle, FenceUnused, FenceUsed, StartTo, LocksAt, LockAll, may_lock}
 use Rattle.rank_rules.specs.Epochs.{targets_locked}
 use Rattle.rank_epochs.specs.Distinct.{are_distinct_ranks, has_distinct_targets}
@@ -21,26 +23,6 @@ AreBelow-from_test (x ∷ xs) h =
     let first = and_parts _ _ parts.0 in
     (ltb-true x 16 first.0, not-true _ first.1, AreBelow-from_test xs parts.1)
 
--- the list without a rank
-abbrev without : ℕ → List ℕ → List ℕ
-without n xs = filter (λ one. not (one == n)) xs
-
-is_member-without : (x n : ℕ) (xs : List ℕ) → is_member x xs ≡ false → is_member x (without n xs) ≡ false
-is_member-without x n [] h = refl
-is_member-without x n (y ∷ ys) h =
-    let parts = or_parts _ _ h in
-    let rest = is_member-without x n ys parts.1 in
-    elim (y == n) as (λ b. is_member x (cond (not b) (y ∷ without n ys) (without n ys)) ≡ false) [
-      | true ↦ rest
-      | false ↦ or_from _ _ parts.0 rest
-    ]
-
-without-absent : (n : ℕ) (xs : List ℕ) → is_member n xs ≡ false → without n xs ≡ xs
-without-absent n [] h = refl
-without-absent n (y ∷ ys) h =
-    let parts = or_parts _ _ h in
-    ap (λ b. cond (not b) (y ∷ without n ys) (without n ys)) parts.0 ∙ ap (λ zs. y ∷ zs) (without-absent n ys parts.1)
-
 AreBelow-without : (n : ℕ) (xs : List ℕ) → AreBelow (suc n) xs → AreBelow n (without n xs)
 AreBelow-without n [] h = tt
 AreBelow-without n (y ∷ ys) h = by_test (AreBelow-without n ys h.2) (y == n) refl
@@ -51,7 +33,7 @@ AreBelow-without n (y ∷ ys) h = by_test (AreBelow-without n ys h.2) (y == n) r
     by_test rest false e =
         let other : ¬ (y ≡ n) = eqb-false y n e in
         let low : y < suc n = h.0 in
-        (omega arith, is_member-without y n ys h.1, rest)
+        (omega arith, absent_without y n ys h.1, rest)
 
 length-without : (n : ℕ) (xs : List ℕ) → AreBelow (suc n) xs → length xs ≤ suc (length (without n xs))
 length-without n [] h = omega arith
@@ -61,7 +43,7 @@ length-without n (y ∷ ys) h = by_test (length-without n ys h.2) (y == n) refl
         → suc (length ys) ≤ suc (length (cond (not b) (y ∷ without n ys) (without n ys)))
     by_test rest true e =
         let absent : is_member n ys ≡ false = subst (λ (k : ℕ). is_member k ys ≡ false) (eqb-true y n e) h.1 in
-        let same : without n ys ≡ ys = without-absent n ys absent in
+        let same : without n ys ≡ ys = absent_stays n ys absent in
         let long : length (without n ys) ≡ length ys = ap length same in
         omega arith
     by_test rest false e = omega arith
@@ -74,13 +56,6 @@ AreBelow-length (suc n) xs h =
     let one : length xs ≤ suc (length (without n xs)) = length-without n xs h in
     omega arith
 
-is_member-append : (x rank : ℕ) (xs : List ℕ) → is_member x xs ≡ false → (rank == x) ≡ false
-    → is_member x (xs ++ rank ∷ []) ≡ false
-is_member-append x rank [] h other = or_from _ _ other refl
-is_member-append x rank (y ∷ ys) h other =
-    let parts = or_parts _ _ h in
-    or_from _ _ parts.0 (is_member-append x rank ys parts.1 other)
-
 -- a rank more that was not there leaves them distinct
 pub are_distinct_ranks-append : (xs : List ℕ) (rank : ℕ) → are_distinct_ranks xs ≡ true
     → is_member rank xs ≡ false → rank < 16 → are_distinct_ranks (xs ++ rank ∷ []) ≡ true
@@ -90,7 +65,7 @@ are_distinct_ranks-append (x ∷ xs) rank h absent low =
     let first = and_parts _ _ parts.0 in
     let apart = or_parts _ _ absent in
     let other : (rank == x) ≡ false = ne_eqb rank x (λ same. eqb-false x rank apart.0 (sym same)) in
-    let alone = is_member-append x rank xs (not-true _ first.1) other in
+    let alone = absent_append x rank xs (not-true _ first.1) other in
     and_from _ _ (and_from _ _ first.0 (not_from_false _ alone)) (are_distinct_ranks-append xs rank parts.1 apart.1 low)
 
 -- a rank less leaves them distinct
@@ -101,7 +76,7 @@ are_distinct_ranks-without (x ∷ xs) rank h =
     let parts = and_parts _ _ h in
     let first = and_parts _ _ parts.0 in
     let rest = are_distinct_ranks-without xs rank parts.1 in
-    let alone = is_member-without x rank xs (not-true _ first.1) in
+    let alone = absent_without x rank xs (not-true _ first.1) in
     elim (x == rank) as (λ b. are_distinct_ranks (cond (not b) (x ∷ without rank xs) (without rank xs)) ≡ true) [
       | true ↦ rest
       | false ↦ and_from _ _ (and_from _ _ first.0 (not_from_false _ alone)) rest

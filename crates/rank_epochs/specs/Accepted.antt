@@ -1,6 +1,6 @@
 -- A call that the rank does not refuse for its arguments or its epochs.
 use Rattle.std.specs.Prelude.{ℕ, ◌≡◌, ◌≤◌, List, None}
-use Rattle.call_rules.specs.Actions.{Action}
+use Rattle.rma_types.specs.declared.actions.Action.{Action}
 use Rattle.rank_rules.specs.Epochs.{Epochs}
 use Rattle.rank_rules.specs.EpochTests.{epoch_class}
 

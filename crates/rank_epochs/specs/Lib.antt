@@ -1,5 +1,4 @@
 -- What contracts see of a rank's epochs.
 pub mod Accepted
 pub mod Distinct
-pub mod Reach
 pub mod Views

@@ -1,17 +1,16 @@
 //! The epochs of a rank on one window.
-ghost use Rattle.std.specs.Prelude.{◌≡◌, ◌≤◌, ◌==◌, ◌&&◌, ◌||◌, not, if◌then◌else◌, length, IsTrue, Some, filter};
+ghost use Rattle.std.specs.Prelude.{◌≡◌, ◌≤◌, ◌==◌, false, not, if◌then◌else◌, length, IsTrue, Some, filter};
 ghost use Rattle.std.specs.List.{list_all};
 ghost use Rattle.call_rules.specs.Ranks.{is_rank as is_rank_of, members_of as members};
-ghost use Rattle.call_rules.specs.Actions.{Fences};
+ghost use Rattle.call_rules.specs.WellFormed.{IsWrittenSynchronisation};
 ghost use Rattle.rank_rules.specs.Epochs as rules;
-ghost use Rattle.rank_rules.specs.EpochTests.{has_wrong_assert};
-ghost use Rattle.rank_epochs.specs.Reach.{may_reach_by, reach_class_of};
+ghost use Rattle.rank_rules.specs.EpochTests as tests;
 
 use crate::access::AccessEpoch;
+use crate::classes::has_more_than_nocheck;
 use crate::exposure::ExposureEpoch;
-use crate::ranks::{Ranks, is_rank, members_of, natural};
-use rank_rules::first_class;
-use rma_types::{Asserts, Class};
+use crate::ranks::{Ranks, members_of, natural};
+use rma_types::{Asserts, Synchronisation, Target, Transfer};
 use std::marker::Model;
 use std::mem;
 
@@ -47,109 +46,125 @@ impl WindowEpochs {
         }
     }
 
-    pub fn may_begin(&self) -> bool
-        ensures { result ≡ rules.may_begin self.now.access }
-    {
-        self.access.may_begin()
-    }
-
     pub fn may_free(&self) -> bool
         ensures { result ≡ rules.may_free self.now }
     {
         self.access.may_begin() && !self.exposure.is_posted()
     }
 
-    pub fn may_fence(&self) -> bool
-        ensures { result ≡ ((rules.may_begin self.now.access || rules.is_fence_used self.now.access)
-            && not (rules.is_exposed self.now.exposure)) }
-    {
-        (self.access.may_begin() || self.access.is_fence_used()) && !self.exposure.is_posted()
-    }
-
-    pub fn is_wrong_fence(&self, asserts: &Asserts) -> bool
-        ensures { result ≡ has_wrong_assert self.now (Fences asserts.now) }
-    {
-        asserts.nocheck || (asserts.noprecede && self.access.is_fence_used())
-    }
-
-    pub fn may_post(&self) -> bool
-        ensures { result ≡ (not (rules.is_fence_used self.now.access) &&
-            not (rules.is_exposed self.now.exposure)) }
-    {
-        !self.access.is_fence_used() && !self.exposure.is_posted()
-    }
-
-    pub fn is_start_epoch(&self) -> bool
-        ensures { result ≡ rules.is_start_epoch self.now.access }
-    {
-        self.access.is_start_epoch()
-    }
-
-    pub fn is_posted(&self) -> bool
-        ensures { result ≡ rules.is_exposed self.now.exposure }
-    {
-        self.exposure.is_posted()
-    }
-
-    pub fn may_lock(&self, target: i32) -> bool
-        ensures { result ≡ rules.may_lock self.now.access (Some target) }
-    {
-        self.access.may_begin()
-            || (self.access.is_passive() && !self.access.is_passive_at(natural(target)))
-    }
-
-    pub fn may_unlock(&self, target: i32) -> bool
-        ensures { result ≡ rules.may_unlock self.now.access (Some target) }
-    {
-        self.access.is_locked(natural(target))
-    }
-
-    pub fn is_lock_all(&self) -> bool
-        ensures { result ≡ rules.is_lock_all self.now.access }
-    {
-        self.access.is_lock_all()
-    }
-
-    pub fn is_passive(&self) -> bool
-        ensures { result ≡ rules.is_passive self.now.access }
-    {
-        self.access.is_passive()
-    }
-
-    pub fn may_flush(&self, target: i32) -> bool
-        ensures { result ≡ rules.may_flush self.now.access (Some target) }
-    {
-        self.access.is_passive_at(natural(target))
-    }
-
-    /// Whether an RMA call may reach the target; a request form is for passive targets alone (MPI 3.1, section 11.3.5).
-    fn may_reach(&self, target: i32, has_request: bool) -> bool
-        ensures { result ≡ may_reach_by self.now.access has_request target }
-    {
-        let target = natural(target);
-        if has_request {
-            self.access.is_passive_at(target)
-        } else {
-            self.access.may_reach(target)
-        }
-    }
-
-    /// The class of an RMA call by its target and the epochs. MPI_PROC_NULL may be named in all.
-    pub fn reach_class(&self, target: Option<i32>, has_request: bool, ranks: u8) -> Option<Class>
-        ensures { result ≡ reach_class_of ranks self.now.access has_request target }
+    fn may_lock(&self, target: &Option<i32>) -> bool
+        ensures { result ≡ rules.may_lock self.now.access target.now }
     {
         match target {
-            None => None,
-            Some(rank) => first_class(&[
-                (!is_rank(rank, ranks), Class::Rank),
-                (!self.may_reach(rank, has_request), Class::Sync),
-            ]),
+            None => self.access.may_begin(),
+            Some(target) => {
+                self.access.may_begin()
+                    || (self.access.is_passive() && !self.access.is_passive_at(natural(*target)))
+            }
         }
     }
 
-    /// A fence is done.
-    pub fn fence(&mut self, asserts: &Asserts)
-        ensures { self.new ≡ rules.after_synchronisation self.old (Fences asserts.now) }
+    fn may_unlock(&self, target: &Option<i32>) -> bool
+        ensures { result ≡ rules.may_unlock self.now.access target.now }
+    {
+        match target {
+            None => self.access.is_lock_all(),
+            Some(target) => self.access.is_locked(natural(*target)),
+        }
+    }
+
+    fn may_flush(&self, target: &Option<i32>) -> bool
+        ensures { result ≡ rules.may_flush self.now.access target.now }
+    {
+        match target {
+            None => self.access.is_passive(),
+            Some(target) => self.access.is_passive_at(natural(*target)),
+        }
+    }
+
+    pub fn may_synchronise(&self, synchronisation: &Synchronisation<'_>) -> bool
+        ensures { result ≡ rules.may_synchronise self.now synchronisation.now }
+    {
+        match synchronisation {
+            Synchronisation::Fences(_) => {
+                (self.access.may_begin() || self.access.is_fence_used())
+                    && !self.exposure.is_posted()
+            }
+            Synchronisation::Posts(_, _) => {
+                !self.access.is_fence_used() && !self.exposure.is_posted()
+            }
+            Synchronisation::Starts(_, _) => self.access.may_begin(),
+            Synchronisation::Completes => self.access.is_start_epoch(),
+            Synchronisation::Waits { .. } => self.exposure.is_posted(),
+            Synchronisation::Locks(_, target, _) => self.may_lock(target),
+            Synchronisation::Unlocks(target) => self.may_unlock(target),
+            Synchronisation::Flushes { target, .. } => self.may_flush(target),
+            Synchronisation::Syncs => self.access.is_passive(),
+        }
+    }
+
+    /// Whether there is an assertion that is not for the call, or that says of a fence epoch with RMA calls that it
+    /// had none (MPI 3.1, section 11.5.5).
+    pub fn has_wrong_assert(&self, synchronisation: &Synchronisation<'_>) -> bool
+        ensures { result ≡ tests.has_wrong_assert self.now synchronisation.now }
+    {
+        match synchronisation {
+            Synchronisation::Fences(asserts) => {
+                asserts.nocheck || (asserts.noprecede && self.access.is_fence_used())
+            }
+            Synchronisation::Posts(_, asserts) => asserts.noprecede || asserts.nosucceed,
+            Synchronisation::Starts(_, asserts) | Synchronisation::Locks(_, _, asserts) => {
+                has_more_than_nocheck(asserts)
+            }
+            Synchronisation::Completes
+            | Synchronisation::Waits { .. }
+            | Synchronisation::Unlocks(_)
+            | Synchronisation::Flushes { .. }
+            | Synchronisation::Syncs => false,
+        }
+    }
+
+    /// Whether the transfer may reach its target; a request form is for passive targets alone (MPI 3.1, section 11.3.5).
+    pub fn may_move(&self, transfer: &Transfer<'_>) -> bool
+        ensures { result ≡ rules.may_move self.now.access transfer.now }
+    {
+        match transfer.target {
+            Target::Own | Target::Null => true,
+            Target::Named(rank) => {
+                let rank = natural(rank);
+                if transfer.request.is_some() {
+                    self.access.is_passive_at(rank)
+                } else {
+                    self.access.may_reach(rank)
+                }
+            }
+        }
+    }
+
+    /// Brings the epochs to what they are after the accepted call.
+    pub fn synchronise(&mut self, synchronisation: &Synchronisation<'_>)
+        requires written { IsWrittenSynchronisation synchronisation.now }
+        requires ranks { tests.names_wrong_rank 16 synchronisation.now ≡ false }
+        requires allowed { IsTrue (rules.may_synchronise self.old synchronisation.now) }
+        ensures { self.new ≡ rules.after_synchronisation self.old synchronisation.now }
+    {
+        match synchronisation {
+            Synchronisation::Fences(asserts) => self.fence(asserts),
+            Synchronisation::Posts(group, _) => self.post(group.as_slice()),
+            Synchronisation::Starts(group, _) => {
+                self.access = AccessEpoch::StartTo(members_of(group.as_slice()));
+            }
+            Synchronisation::Completes => self.access = AccessEpoch::Idle,
+            Synchronisation::Waits { .. } => self.exposure = ExposureEpoch::Unexposed,
+            Synchronisation::Locks(_, target, _) => self.lock(target),
+            Synchronisation::Unlocks(target) => self.unlock(target),
+            Synchronisation::Flushes { .. } | Synchronisation::Syncs => {}
+        }
+    }
+
+    fn fence(&mut self, asserts: &Asserts)
+        ensures { self.new ≡ record self.old
+            { access = if asserts.now.nosucceed then rules.Idle else rules.FenceUnused } }
     {
         self.access = if asserts.nosucceed {
             AccessEpoch::Idle
@@ -159,7 +174,7 @@ impl WindowEpochs {
     }
 
     /// The group is exposed to; a fence epoch without an RMA call ends.
-    pub fn post(&mut self, group: &[i32])
+    fn post(&mut self, group: &[i32])
         requires few { length group.now ≤ 16 }
         requires ranks { IsTrue (list_all (is_rank_of 16) group.now) }
         ensures access { self.new.access ≡
@@ -172,31 +187,19 @@ impl WindowEpochs {
         self.exposure = ExposureEpoch::PostTo(members_of(group));
     }
 
-    /// A start epoch towards the group begins.
-    pub fn start(&mut self, group: &[i32])
-        requires few { length group.now ≤ 16 }
-        requires ranks { IsTrue (list_all (is_rank_of 16) group.now) }
-        ensures { self.new ≡ record self.old { access = rules.StartTo (members group.now) } }
+    fn lock(&mut self, target: &Option<i32>)
+        requires rank { tests.is_wrong_rank 16 target.now ≡ false }
+        requires free { IsTrue (rules.may_lock self.old.access target.now) }
+        ensures { self.new ≡ record self.old
+            { access = rules.after_lock self.old.access target.now } }
     {
-        self.access = AccessEpoch::StartTo(members_of(group));
+        match target {
+            None => self.access = AccessEpoch::LockAll,
+            Some(target) => self.lock_one(*target),
+        }
     }
 
-    /// The access epoch ends.
-    pub fn end_access(&mut self)
-        ensures { self.new ≡ record self.old { access = rules.Idle } }
-    {
-        self.access = AccessEpoch::Idle;
-    }
-
-    /// The exposure epoch ends.
-    pub fn end_exposure(&mut self)
-        ensures { self.new ≡ record self.old { exposure = rules.Unexposed } }
-    {
-        self.exposure = ExposureEpoch::Unexposed;
-    }
-
-    /// The target is locked.
-    pub fn lock(&mut self, target: i32)
+    fn lock_one(&mut self, target: i32)
         requires rank { IsTrue (is_rank_of 16 target) }
         requires free { IsTrue (rules.may_lock self.old.access (Some target)) }
         ensures { self.new ≡ record self.old
@@ -207,15 +210,18 @@ impl WindowEpochs {
         self.access = AccessEpoch::LocksAt(targets);
     }
 
-    /// All targets are locked.
-    pub fn lock_all(&mut self)
-        ensures { self.new ≡ record self.old { access = rules.LockAll } }
+    fn unlock(&mut self, target: &Option<i32>)
+        ensures { self.new ≡ record self.old
+            { access = rules.after_unlock self.old.access target.now } }
     {
-        self.access = AccessEpoch::LockAll;
+        match target {
+            None => self.access = AccessEpoch::Idle,
+            Some(target) => self.unlock_one(*target),
+        }
     }
 
     /// The target is unlocked; no lock at all is no epoch.
-    pub fn unlock(&mut self, target: i32)
+    fn unlock_one(&mut self, target: i32)
         ensures { self.new ≡ record self.old
             { access = rules.after_unlock self.old.access (Some target) } }
     {
@@ -226,8 +232,22 @@ impl WindowEpochs {
         }
     }
 
-    /// An RMA call is issued, which uses a fence epoch.
-    pub fn use_fence(&mut self)
+    /// A transfer is issued: one that reaches a named rank, and has no request, uses a fence epoch.
+    pub fn transfer(&mut self, transfer: &Transfer<'_>)
+        ensures { self.new ≡ record self.old
+            { access = rules.after_transfer self.old.access transfer.now } }
+    {
+        match transfer.target {
+            Target::Own | Target::Null => {}
+            Target::Named(_) => {
+                if transfer.request.is_none() {
+                    self.use_fence();
+                }
+            }
+        }
+    }
+
+    fn use_fence(&mut self)
         ensures { self.new ≡ record self.old { access = rules.after_use self.old.access } }
     {
         if self.access.is_fence_unused() {

@@ -14,7 +14,8 @@ use Rattle.rma_types.specs.declared.dtypes.Dtype.{Dtype}
 use Rattle.rma_record.specs.declared.items.Item.{Item}
 use Rattle.rma_record.specs.declared.items.Item.TheVariants.{Issue, Null, Touch, Flush, Request, Entry, Tested, Refused}
 use Rattle.rma_record.specs.declared.items.Item.TheVariants.{Ended}
-use Rattle.call_rules.specs.Actions.{Transfer, transfer_of, is_testwin}
+use Rattle.rma_types.specs.declared.actions.Transfer.{Transfer}
+use Rattle.rma_types.specs.Actions.{transfer_of, is_testwin}
 use Rattle.call_rules.specs.Pieces.{numbers_from}
 use Rattle.call_rules.specs.Text.{integer, number}
 use Rattle.lawful_runs.specs.Accesses.{transfer_at}

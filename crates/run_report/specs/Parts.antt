@@ -7,7 +7,8 @@ use Rattle.rma_types.specs.declared.calls.Call.{Call}
 use Rattle.rma_types.specs.declared.dtypes.Dtype.{Dtype}
 use Rattle.rma_record.specs.declared.items.Item.{Item}
 use Rattle.rma_record.specs.declared.items.Item.TheVariants.{Touch}
-use Rattle.call_rules.specs.Actions.{Transfer, transfer_of}
+use Rattle.rma_types.specs.declared.actions.Transfer.{Transfer}
+use Rattle.rma_types.specs.Actions.{transfer_of}
 use Rattle.call_rules.specs.Text.{integer}
 use Rattle.run_report.specs.Chains.{links}
 use Rattle.run_texts.specs.Answers.{item_answers, fetched_integer, wait_answer}

@@ -2,7 +2,7 @@
 ghost use Rattle.std.specs.Prelude.{◌≡◌, ◌<◌, length, is_none, slice_get, IfSome};
 ghost use Rattle.std.specs.List.{list_any};
 ghost use Rattle.std.specs.Option.{option_copied};
-ghost use Rattle.call_rules.specs.Actions.{transfer_of};
+ghost use Rattle.rma_types.specs.Actions.{transfer_of};
 ghost use Rattle.rank_rules.specs.Knowledge.{ends_call};
 ghost use Rattle.run_report.specs.Chains.{AreChains};
 ghost use Rattle.run_texts.specs.Answers.{ends as does_end, first_left as first_left_of, standing_call};
@@ -10,7 +10,7 @@ ghost use Rattle.run_texts.specs.Answers.{ends as does_end, first_left as first_
 use crate::chains::Chains;
 use crate::runs::has_ended;
 use rma_record::Item;
-use rma_types::{Call, Step};
+use rma_types::{Action, Call, Step};
 
 /// The call of a number.
 pub(crate) fn call_at(calls: &[Call], call: usize) -> Option<&Call>
@@ -23,15 +23,8 @@ pub(crate) fn call_at(calls: &[Call], call: usize) -> Option<&Call>
 fn moves_nothing(call: &Call) -> bool
     ensures { result ≡ is_none (transfer_of call.now) }
 {
-    match call {
-        Call::Put { .. }
-        | Call::Get { .. }
-        | Call::Acc { .. }
-        | Call::GetAcc { .. }
-        | Call::Fop { .. }
-        | Call::Cas { .. }
-        | Call::Load { .. }
-        | Call::Store { .. } => false,
+    match call.action() {
+        Action::Moves(_) => false,
         _ => true,
     }
 }

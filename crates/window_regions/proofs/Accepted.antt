@@ -4,7 +4,7 @@ use Rattle.std.specs.Prelude.{None, pos, int_lt, ◌+ℤ◌}
 use Rattle.std.proofs.lemmas.Bool.{or_parts, ltb-false}
 use Rattle.rma_types.specs.declared.classes.Class.{Class}
 use Rattle.rma_types.specs.declared.classes.Class.TheVariants.{Win, Flavor, Size, Base, Attach}
-use Rattle.call_rules.specs.Actions.{Attaches}
+use Rattle.rma_types.specs.declared.actions.Action.TheVariants.{Attaches}
 use Rattle.rank_rules.specs.Classes.{first_class}
 use Rattle.rank_rules.specs.Windows.{RankWindows, is_live}
 use Rattle.rank_rules.specs.WindowTests.{window_class, is_not_dynamic, is_outside, is_in_use}

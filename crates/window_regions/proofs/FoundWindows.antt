@@ -7,7 +7,8 @@ use Rattle.std.specs.List.{find}
 use Rattle.std.specs.Option.{option_map_or}
 use Rattle.rma_types.specs.declared.calls.Flavor.TheVariants.{Dynamic}
 use Rattle.rma_types.specs.declared.classes.Class.TheVariants.{Win, Disp, Range as RangeClass}
-use Rattle.call_rules.specs.Actions.{Transfer, Own}
+use Rattle.rma_types.specs.declared.actions.Transfer.{Transfer}
+use Rattle.rma_types.specs.declared.actions.Target.TheVariants.{Own}
 use Rattle.call_rules.specs.Ranks.{natural}
 use Rattle.rank_rules.specs.Classes.{first_class}
 use Rattle.rank_rules.specs.Ranges.{covers}

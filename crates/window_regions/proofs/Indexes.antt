@@ -6,21 +6,18 @@ use Rattle.std.specs.List.{list_any}
 use Rattle.std.proofs.lemmas.List.Elements.{All-filter, All-get_or, All-from_get_or}
 use Rattle.std.proofs.lemmas.List.Folds.{list_any-append}
 use Rattle.std.proofs.lemmas.List.Kept.{AllPairs-filter}
+use Rattle.list_laws.proofs.Tests.{any_alike, any_filter, any_map}
+use Rattle.list_laws.proofs.Truths.{or_false}
 use Rattle.rank_rules.specs.Ranges.{Range, do_overlap, is_taken}
 use Rattle.rank_rules.specs.Windows.{OwnRange}
 use Rattle.window_regions.specs.Ascending.{IsBefore, IsAscending}
 use Rattle.window_regions.specs.Indexed.{IsIndexed}
 use Rattle.window_regions.proofs.Searches.{no_range}
-use Rattle.window_regions.proofs.RangeTests.{list_any-agree, list_any-filter, list_any-map}
 
 and-swap : (a b c : Bool) → (a && (b && c)) ≡ (b && (a && c))
 and-swap true b c = refl
 and-swap false true c = refl
 and-swap false false c = refl
-
-or-false : (a : Bool) → (a || false) ≡ a
-or-false true = refl
-or-false false = refl
 
 or-swap : (a b c : Bool) → (a || (b || c)) ≡ (b || (a || c))
 or-swap true true c = refl
@@ -46,15 +43,15 @@ pub IsIndexed-filter : (q : OwnRange → Bool) (ranges created attached : List O
     → IsIndexed (filter q ranges) (filter q created) (filter q attached)
 IsIndexed-filter q ranges created attached so = record {
   of_created = λ test.
-      list_any-filter test q created
+      any_filter test q created
       ∙ so.of_created (λ own. q own && test own)
-      ∙ list_any-agree _ _ (λ (own : OwnRange). and-swap (not own.is_attached) (q own) (test own)) ranges
-      ∙ sym (list_any-filter (λ (own : OwnRange). not own.is_attached && test own) q ranges);
+      ∙ any_alike _ _ (λ (own : OwnRange). and-swap (not own.is_attached) (q own) (test own)) ranges
+      ∙ sym (any_filter (λ (own : OwnRange). not own.is_attached && test own) q ranges);
   of_attached = λ test.
-      list_any-filter test q attached
+      any_filter test q attached
       ∙ so.of_attached (λ own. q own && test own)
-      ∙ list_any-agree _ _ (λ (own : OwnRange). and-swap own.is_attached (q own) (test own)) ranges
-      ∙ sym (list_any-filter (λ (own : OwnRange). own.is_attached && test own) q ranges);
+      ∙ any_alike _ _ (λ (own : OwnRange). and-swap own.is_attached (q own) (test own)) ranges
+      ∙ sym (any_filter (λ (own : OwnRange). own.is_attached && test own) q ranges);
   ascending = IsAscending-filter q attached so.ascending;
 }
 
@@ -75,7 +72,7 @@ IsIndexed-created ranges created attached win base bytes so = record {
       ∙ sym (list_any-append (λ (own : OwnRange). not own.is_attached && test own) ranges _);
   of_attached = λ test.
       so.of_attached test
-      ∙ sym (or-false _)
+      ∙ sym (or_false _)
       ∙ sym (list_any-append (λ (own : OwnRange). own.is_attached && test own) ranges _);
   ascending = so.ascending;
 }
@@ -106,7 +103,7 @@ pub taken_by_parts : (ranges created attached : List OwnRange) (base bytes : ℕ
     ≡ (list_any (λ (own : OwnRange). do_overlap (record { base = base; bytes = bytes }) own.range) created
     || list_any (λ (own : OwnRange). do_overlap (record { base = base; bytes = bytes }) own.range) attached)
 taken_by_parts ranges created attached base bytes so =
-    list_any-map (do_overlap (record { base = base; bytes = bytes })) (λ (own : OwnRange). own.range) ranges
+    any_map (do_overlap (record { base = base; bytes = bytes })) (λ (own : OwnRange). own.range) ranges
     ∙ list_any-parts (λ (own : OwnRange). do_overlap (record { base = base; bytes = bytes }) own.range) (λ
     (own : OwnRange). own.is_attached) ranges
     ∙ ap (λ b. b || list_any (λ (own : OwnRange). own.is_attached && do_overlap

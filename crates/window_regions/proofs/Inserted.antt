@@ -6,6 +6,7 @@ use Rattle.std.specs.List.{list_any}
 use Rattle.std.proofs.lemmas.Bool.{cases_lt, or_parts, false≢true}
 use Rattle.std.proofs.lemmas.List.Edits.{length-insert, get_or-insert_below, get_or-insert_at, get_or-insert_above}
 use Rattle.std.proofs.lemmas.List.Folds.{list_any-append, list_any_at}
+use Rattle.list_laws.proofs.Truths.{or_false}
 use Rattle.rank_rules.specs.Ranges.{do_overlap, is_taken}
 use Rattle.rank_rules.specs.Windows.{OwnRange}
 use Rattle.window_regions.specs.Ascending.{end_of, IsBefore, IsAscending, IsFirstPast}
@@ -117,10 +118,6 @@ or-to_end true false = refl
 or-to_end false true = refl
 or-to_end false false = refl
 
-or-false : (a : Bool) → (a || false) ≡ a
-or-false true = refl
-or-false false = refl
-
 -- a range that is attached comes to the ranges
 pub IsIndexed-attached : (ranges created attached : List OwnRange) (win base bytes at : ℕ)
     → IsIndexed ranges created attached → 0 < bytes
@@ -132,7 +129,7 @@ pub IsIndexed-attached : (ranges created attached : List OwnRange) (win base byt
 IsIndexed-attached ranges created attached win base bytes at so some free first = record {
   of_created = λ test.
       so.of_created test
-      ∙ sym (or-false _)
+      ∙ sym (or_false _)
       ∙ sym (list_any-append (λ (own : OwnRange). not own.is_attached && test own) ranges _);
   of_attached = λ test.
       list_any-insert test attached at own

@@ -1,7 +1,6 @@
 -- Proofs of the code of this crate.
 pub mod Accepted
 pub mod Alone
-pub mod Counts
 pub mod FoundWindows
 pub mod Indexes
 pub mod Inserted

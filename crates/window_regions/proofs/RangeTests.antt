@@ -1,44 +1,21 @@
 -- Tests of lists of ranges.
-use Rattle.std.proofs.Common.{◌≡◌, ℕ, ◌==◌, Bool, true, false, ◌&&◌, ◌||◌, List, [], ◌∷◌, map, filter, refl, sym, ◌∙◌}
-use Rattle.std.proofs.Common.{ap, cond}
+use Rattle.std.proofs.Common.{◌≡◌, ℕ, ◌==◌, Bool, true, false, ◌&&◌, List, [], ◌∷◌, map, filter, refl, sym, ◌∙◌}
+use Rattle.std.proofs.Common.{ap}
 use Rattle.std.specs.List.{list_any, list_all}
+use Rattle.list_laws.proofs.Tests.{any_alike, any_map, any_filter}
 use Rattle.call_rules.specs.Pieces.{numbers_from}
 use Rattle.rank_rules.specs.Ranges.{has_byte, covers}
 use Rattle.rank_rules.specs.Windows.{OwnRange, is_attached_from}
 use Rattle.window_regions.specs.Ascending.{is_attached_byte}
-
-pub list_any-agree : {X : Type 0} (p q : X → Bool) → ((x : X) → p x ≡ q x) →
-    (xs : List X) → list_any p xs ≡ list_any q xs
-list_any-agree p q h [] = refl
-list_any-agree p q h (x ∷ xs) = ap (λ b. b || list_any p xs) (h x) ∙ ap (λ b. q x || b) (list_any-agree p q h xs)
 
 pub list_all-agree : {X : Type 0} (p q : X → Bool) → ((x : X) → p x ≡ q x) →
     (xs : List X) → list_all p xs ≡ list_all q xs
 list_all-agree p q h [] = refl
 list_all-agree p q h (x ∷ xs) = ap (λ b. b && list_all p xs) (h x) ∙ ap (λ b. q x && b) (list_all-agree p q h xs)
 
-pub list_any-map : {X Y : Type 0} (p : Y → Bool) (f : X → Y) (xs : List X) → list_any p (map f xs) ≡ list_any
-    (λ x. p (f x)) xs
-list_any-map p f [] = refl
-list_any-map p f (x ∷ xs) = ap (λ b. p (f x) || b) (list_any-map p f xs)
-
-pub list_any-filter : {X : Type 0} (p q : X → Bool) (xs : List X) → list_any p (filter q xs) ≡ list_any
-    (λ x. q x && p x) xs
-list_any-filter p q [] = refl
-list_any-filter p q (x ∷ xs) =
-    elim (q x) as (λ b. list_any p (cond b (x ∷ filter q xs) (filter q xs)) ≡ (b && p x || list_any
-    (λ y. q y && p y) xs)) [
-      | true ↦ ap (λ b. p x || b) (list_any-filter p q xs)
-      | false ↦ list_any-filter p q xs
-    ]
-
 and-again : (a b c : Bool) → (a && ((a && b) && c)) ≡ ((a && b) && c)
 and-again true b c = refl
 and-again false b c = refl
-
-and-assoc : (a b c : Bool) → ((a && b) && c) ≡ (a && (b && c))
-and-assoc true b c = refl
-and-assoc false b c = refl
 
 -- the bytes that are attached to a window, among all ranges and among those that are attached
 pub covers-attached : (ranges attached : List OwnRange) (win lo len : ℕ)
@@ -54,11 +31,11 @@ covers-attached ranges attached win lo len same = list_all-agree _ _ each (numbe
         (own : OwnRange). own.is_attached && own.win == win) ranges))
     each address =
         same (is_attached_byte win address)
-        ∙ list_any-agree _ _ (λ (own : OwnRange). and-again own.is_attached (own.win == win)
+        ∙ any_alike _ _ (λ (own : OwnRange). and-again own.is_attached (own.win == win)
         (has_byte address own.range)) ranges
-        ∙ sym (list_any-filter (λ (own : OwnRange). has_byte address own.range) (λ
+        ∙ sym (any_filter (λ (own : OwnRange). has_byte address own.range) (λ
         (own : OwnRange). own.is_attached && own.win == win) ranges)
-        ∙ sym (list_any-map (has_byte address) (λ (own : OwnRange). own.range) (filter (λ
+        ∙ sym (any_map (has_byte address) (λ (own : OwnRange). own.range) (filter (λ
         (own : OwnRange). own.is_attached && own.win == win) ranges))
 
 -- a range that is attached to a window and begins at a base, likewise
@@ -68,5 +45,5 @@ pub list_any-is_attached_from : (ranges attached : List OwnRange) (win base : �
     → list_any (is_attached_from win base) attached ≡ list_any (is_attached_from win base) ranges
 list_any-is_attached_from ranges attached win base same =
     same (is_attached_from win base)
-    ∙ list_any-agree _ _ (λ (own : OwnRange). and-again own.is_attached (own.win == win)
+    ∙ any_alike _ _ (λ (own : OwnRange). and-again own.is_attached (own.win == win)
     (own.range.base == base)) ranges

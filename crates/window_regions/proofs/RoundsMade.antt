@@ -5,7 +5,7 @@ use Rattle.std.specs.Prelude.{◌==◌, ◌≢◌, nat_lt, replicate, slice_inde
 use Rattle.std.specs.List.{count_by}
 use Rattle.std.proofs.lemmas.Bool.{eq-eqb, ne_eqb, cases_eq, lt-ltb}
 use Rattle.std.proofs.lemmas.List.{get_or-set_same, get_or-set_other, get_or-replicate, length-replicate}
-use Rattle.std.proofs.lemmas.List.Sums.{sum_by-append, sum_by-cons}
+use Rattle.list_laws.proofs.Tests.{one_more}
 use Rattle.window_regions.specs.RoundsMade.{AreRounds, AreFewRounds, with_round}
 
 -- no window is made
@@ -15,17 +15,6 @@ none_made = record {
   counts = λ win below. get_or-replicate 32 win 0 0 below;
   few = λ win below. let e : slice_index (replicate 32 0) win ≡ 0 = get_or-replicate 32 win 0 0 below in omega arith;
 }
-
-counted : (created : List ℕ) (win name : ℕ) → count_by (λ one. one == name) (created ++ win ∷ []) ≡
-    count_by (λ one. one == name) created + cond (win == name) 1 0
-counted created win name =
-    let f : ℕ → ℕ = λ one. cond (one == name) 1 0 in
-    sums (count_by (λ one. one == name) (created ++ win ∷ [])) (count_by (λ one. one == name) created)
-    (count_by (λ one. one == name) (win ∷ [])) (cond (win == name) 1 0)
-    (sum_by-append f created (win ∷ [])) (sum_by-cons f win [])
-  where
-    sums : (a b c d : ℕ) → a ≡ b + c → c ≡ d + 0 → a ≡ b + d
-    sums a b c d e g = omega arith
 
 elsewhere : (rounds : List ℕ) (win value name : ℕ) (b : Bool) → name ≢ win →
     slice_index (cond b (slice_set rounds win value) rounds) name ≡ slice_index rounds name
@@ -62,7 +51,7 @@ one_made created rounds win old few = record {
         (subst (λ n. name < n) (sym old.length) below)
         ∙ (ap (λ n. n + 1) (old.counts name below)
         ∙ (ap (λ b. count_by (λ one. one == name) created + cond b 1 0) (sym (eq-eqb name name refl))
-        ∙ sym (counted created name name))))
+        ∙ sym (one_more created name name))))
 
     other : (name : ℕ) → name < 32 → (win ≡ name → ⊥) → slice_index (with_round rounds win) name ≡
         count_by (λ one. one == name) (created ++ win ∷ [])
@@ -71,7 +60,7 @@ one_made created rounds win old few = record {
         ∙ (old.counts name below
         ∙ (plain (count_by (λ one. one == name) created)
         ∙ (ap (λ b. count_by (λ one. one == name) created + cond b 1 0) (sym (ne_eqb win name apart))
-        ∙ sym (counted created win name))))
+        ∙ sym (one_more created win name))))
 
     by_name : (name : ℕ) → name < 32 → slice_index (with_round rounds win) name ≡
         count_by (λ one. one == name) (created ++ win ∷ [])

@@ -1,5 +1,5 @@
 -- What a search among ascending ranges finds.
-use Rattle.std.proofs.Common.{◌≡◌, ℕ, zero, suc, ◌+◌, ◌<◌, ◌≤◌, Bool, true, false, nat_lt, nat_le, List, length}
+use Rattle.std.proofs.Common.{◌≡◌, ℕ, ◌+◌, ◌<◌, ◌≤◌, true, false, nat_lt, nat_le, List, length}
 use Rattle.std.proofs.Common.{slice_index_or, refl, sym, ◌∙◌, ap, subst, arith, inl, inr}
 use Rattle.std.specs.Prelude.{◌⊎◌}
 use Rattle.std.specs.List.{list_any, list_all}
@@ -9,6 +9,7 @@ use Rattle.std.proofs.lemmas.Bool.{cases_lt, cases_Bool, leb-true, le-leb, leb-f
 use Rattle.std.proofs.lemmas.Bool.{le-ltb, lt-leb, and_parts, and_from, and_left, and_right, ne_eqb}
 use Rattle.std.proofs.lemmas.List.{get_or_default}
 use Rattle.std.proofs.lemmas.List.Recursion.{or_at, or_from_places}
+use Rattle.call_rules.proofs.NumbersFrom.{all_numbers, not_all_numbers}
 use Rattle.rank_rules.specs.Ranges.{Range, do_overlap}
 use Rattle.rank_rules.specs.Windows.{OwnRange, is_attached_from}
 use Rattle.window_regions.specs.Ascending.{end_of, IsAscending, IsFirstPast, is_attached_byte}
@@ -230,29 +231,6 @@ bytes_of_range xs win address a at own lt is has le within =
     or_at (list_any (is_attached_byte win a)) (is_attached_byte win a) refl (λ x rest. refl) xs at own lt
     (subst (λ (o : OwnRange). is_attached_byte win a o ≡ true) is there)
 
--- a test of numbers from one on holds of all where it holds of each
-pub list_all-numbers_from : (p : ℕ → Bool) (low len : ℕ) → ((a : ℕ) → low ≤ a → a < low + len → p a ≡ true)
-    → list_all p (numbers_from low len) ≡ true
-list_all-numbers_from p low zero h = refl
-list_all-numbers_from p low (suc len) h =
-    and_from _ _ (h low (omega arith) (omega arith))
-    (list_all-numbers_from p (low + 1) len (λ a le lt. h a (omega arith) (omega arith)))
-
--- and fails where it fails of one
-pub list_all-numbers_from_fails : (p : ℕ → Bool) (low len a : ℕ) → low ≤ a → a < low + len → p a ≡ false
-    → list_all p (numbers_from low len) ≡ false
-list_all-numbers_from_fails p low zero a le lt h = absurd (omega arith)
-list_all-numbers_from_fails p low (suc len) a le lt h = by_place (cases_lt low a) (list_all-numbers_from_fails p
-    (low + 1) len a)
-  where
-    by_place : ((low < a) ⊎ (a ≤ low))
-        → (low + 1 ≤ a → a < low + 1 + len → p a ≡ false → list_all p (numbers_from (low + 1) len) ≡ false)
-        → list_all p (numbers_from low (suc len)) ≡ false
-    by_place (inl later) rest = and_right _ _ (rest (omega arith) (omega arith) h)
-    by_place (inr here) rest =
-        let same : a ≡ low = omega arith in
-        and_left _ _ (subst (λ (k : ℕ). p k ≡ false) same h)
-
 -- the ranges before a place end by an address, those from there on end past it, and the bytes up to it are attached
 pub record IsCoveredUpTo (xs : List OwnRange) (win low at address : ℕ) : Type 0 where
   pub reached : low ≤ address
@@ -305,7 +283,7 @@ pub covered_whole : (xs : List OwnRange) (win low len at address : ℕ) → IsCo
     → low + len ≤ address
     → true ≡ list_all (λ (a : ℕ). list_any (is_attached_byte win a) xs) (numbers_from low len)
 covered_whole xs win low len at address so reached =
-    sym (list_all-numbers_from (λ (a : ℕ). list_any (is_attached_byte win a) xs) low len
+    sym (all_numbers (λ (a : ℕ). list_any (is_attached_byte win a) xs) low len
     (λ a le lt. so.covered a le (omega arith)))
 
 -- where the next byte is in no range, not each byte is
@@ -314,7 +292,7 @@ pub gap_found : (xs : List OwnRange) (win low len at address : ℕ) (d : OwnRang
     → (at < length xs → is_attached_byte win address (slice_index_or xs at d) ≡ false)
     → false ≡ list_all (λ (a : ℕ). list_any (is_attached_byte win a) xs) (numbers_from low len)
 gap_found xs win low len at address d up so more here =
-    sym (list_all-numbers_from_fails (λ (a : ℕ). list_any (is_attached_byte win a) xs) low len address so.reached more
+    sym (not_all_numbers (λ (a : ℕ). list_any (is_attached_byte win a) xs) low len address so.reached more
     (byte_nowhere xs win address at d up so.first here))
 
 -- and past the last range the address alone tells

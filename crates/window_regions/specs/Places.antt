@@ -8,7 +8,7 @@ use Rattle.rma_types.specs.declared.dtypes.Dtype.{Dtype}
 use Rattle.rma_types.specs.declared.scripts.Part.{Part}
 use Rattle.rma_types.specs.Datatypes.{size_of}
 use Rattle.rank_rules.specs.Classes.{first_class}
-use Rattle.call_rules.specs.Actions.{Transfer}
+use Rattle.rma_types.specs.declared.actions.Transfer.{Transfer}
 use Rattle.call_rules.specs.Transfers.{rank_reached}
 use Rattle.rank_rules.specs.Windows.{RankWindows, window_of_name, no_part}
 use Rattle.rank_rules.specs.WindowTests.{address_in, address_of, is_misplaced, passes_end}

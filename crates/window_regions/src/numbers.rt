@@ -1,9 +1,7 @@
 //! The numbers of calls.
-ghost use Rattle.std.specs.Prelude.{◌≡◌, ◌≤◌, pos, length};
+ghost use Rattle.std.specs.Prelude.{◌≡◌, ◌≤◌};
 ghost use Rattle.call_rules.specs.Ranks.{is_rank as is_rank_of, natural as natural_of};
 ghost use Rattle.call_rules.specs.WellFormed.{IsUpTo};
-
-use rma_types::Bits;
 
 /// An integer as an address or a number of bytes: a negative one counts as 0.
 pub fn natural(z: i32) -> u32
@@ -20,18 +18,10 @@ pub fn is_rank(z: i32, ranks: u8) -> bool
 }
 
 /// The elements of a call, at most 256; a count below 0 counts as 0.
-pub fn few_elements(count: i32) -> u32
+pub fn few_elements(count: i64) -> u32
     requires { IsUpTo 256 count }
     ensures value { result ≡ natural_of count }
     ensures few { result ≤ 256 }
 {
-    natural(count)
-}
-
-/// The number of values of a call.
-pub fn count_of(values: &Bits) -> i32
-    requires { length values.now ≤ 256 }
-    ensures { result ≡ pos (length values.now) }
-{
-    values.len() as i32
+    if count < 0 { 0 } else { count as u32 }
 }

@@ -3,7 +3,8 @@ ghost use Rattle.std.specs.Prelude.{◌≡◌, ℕ, ◌<◌, ◌≤◌, [], true
 ghost use Rattle.std.specs.Option.{option_map_or};
 ghost use Rattle.rma_types.specs.declared.calls.Flavor.TheVariants.{Dynamic as DynamicFlavor};
 ghost use Rattle.rma_types.specs.declared.classes.Class.TheVariants.{Win as WinClass};
-ghost use Rattle.call_rules.specs.Actions.{action_of, Attaches};
+ghost use Rattle.rma_types.specs.declared.actions.Action.TheVariants.{Attaches};
+ghost use Rattle.rma_types.specs.Actions.{action_of};
 ghost use Rattle.call_rules.specs.WellFormed.{IsWrittenCall};
 ghost use Rattle.rank_rules.specs.WindowTests as tests;
 ghost use Rattle.rank_rules.specs.Windows as rules;
@@ -14,11 +15,10 @@ ghost use Rattle.window_regions.specs.RoundsMade.{AreRounds, AreFewRounds, with_
 mod accesses;
 mod classes;
 
-use crate::numbers::count_of;
 use crate::own::{OwnRanges, make_range};
 use crate::places::{Range, place};
 use crate::window::{Shape, Window, leave};
-use rma_types::{Call, Class, Dtype, Flavor, NoMemory};
+use rma_types::{Action, Call, Class, Dtype, NoMemory};
 use std::alloc::Global;
 use std::marker::Model;
 
@@ -101,96 +101,13 @@ impl WindowTable {
         requires { IsWrittenCall call.now }
         ensures { result ≡ tests.window_class self.now (action_of call.now) }
     {
-        match call {
-            Call::Allocate { win, bytes, unit } => {
-                self.creation_class(*win, Flavor::Allocate, 0, *bytes, *unit)
-            }
-            Call::Create {
-                win,
-                base,
-                bytes,
-                unit,
-            } => self.creation_class(*win, Flavor::Create, *base, *bytes, *unit),
-            Call::Dynamic { win } => self.creation_class(*win, Flavor::Dynamic, 0, 0, 1),
-            Call::Free { win } => self.live_class(*win),
-            Call::Attach { win, base, bytes } => self.attach_class(*win, *base, *bytes),
-            Call::Detach { win, base } => self.detach_class(*win, *base),
-            Call::Fence { win, .. } => self.live_class(*win),
-            Call::Post { win, .. } => self.live_class(*win),
-            Call::Start { win, .. } => self.live_class(*win),
-            Call::Complete { win } => self.live_class(*win),
-            Call::WaitWin { win } => self.live_class(*win),
-            Call::TestWin { win } => self.live_class(*win),
-            Call::LockOne { win, .. } => self.live_class(*win),
-            Call::Unlock { win, .. } => self.live_class(*win),
-            Call::LockAll { win, .. } => self.live_class(*win),
-            Call::UnlockAll { win } => self.live_class(*win),
-            Call::Flush { win, .. } => self.live_class(*win),
-            Call::FlushAll { win } => self.live_class(*win),
-            Call::FlushLocal { win, .. } => self.live_class(*win),
-            Call::FlushLocalAll { win } => self.live_class(*win),
-            Call::Sync { win } => self.live_class(*win),
-            Call::Barrier => None,
-            Call::Put {
-                win,
-                target,
-                disp,
-                dtype,
-                values,
-                ..
-            } => self.reach_class(*win, *target, *disp, *dtype, count_of(values)),
-            Call::Get {
-                win,
-                target,
-                disp,
-                dtype,
-                count,
-                ..
-            } => self.reach_class(*win, *target, *disp, *dtype, *count),
-            Call::Acc {
-                win,
-                target,
-                disp,
-                dtype,
-                values,
-                ..
-            } => self.reach_class(*win, *target, *disp, *dtype, count_of(values)),
-            Call::GetAcc {
-                win,
-                target,
-                disp,
-                dtype,
-                values,
-                ..
-            } => self.reach_class(*win, *target, *disp, *dtype, count_of(values)),
-            Call::Fop {
-                win,
-                target,
-                disp,
-                dtype,
-                ..
-            } => self.reach_class(*win, *target, *disp, *dtype, 1),
-            Call::Cas {
-                win,
-                target,
-                disp,
-                dtype,
-                ..
-            } => self.reach_class(*win, *target, *disp, *dtype, 1),
-            Call::Load {
-                win,
-                disp,
-                dtype,
-                count,
-            } => self.own_class(*win, *disp, *dtype, *count),
-            Call::Store {
-                win,
-                disp,
-                dtype,
-                values,
-            } => self.own_class(*win, *disp, *dtype, count_of(values)),
-            Call::WaitReq { .. } => None,
-            Call::TestReq { .. } => None,
+        match call.action() {
+            Action::Creates(creation) => self.creation_class(creation),
+            Action::Frees { win } | Action::Synchronises(win, _) => self.live_class(win),
+            Action::Attaches { win, base, bytes } => self.attach_class(win, base, bytes),
+            Action::Detaches { win, base } => self.detach_class(win, base),
+            Action::Moves(transfer) => self.transfer_class(&transfer),
+            Action::Meets | Action::EndsRequest { .. } => None,
         }
     }
 

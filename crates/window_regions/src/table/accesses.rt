@@ -1,20 +1,17 @@
 //! The access of a call on its live window: MPI 3.1, sections 11.2 and 11.3.
-ghost use Rattle.std.specs.Prelude.{◌≡◌, ◌*◌, ◌<◌, ◌^◌, Some, None, IfSome};
+ghost use Rattle.std.specs.Prelude.{◌≡◌, Some, None, IfSome};
 ghost use Rattle.std.specs.Option.{option_map_or};
-ghost use Rattle.rma_types.specs.Datatypes.{size_of};
-ghost use Rattle.call_rules.specs.Actions.{target_of, transfer_of};
-ghost use Rattle.call_rules.specs.Ranks.{natural as natural_of};
-ghost use Rattle.call_rules.specs.Transfers.{rank_reached};
+ghost use Rattle.rma_types.specs.Actions.{transfer_of};
+ghost use Rattle.call_rules.specs.Transfers.{rank_reached as rank_reached_by};
 ghost use Rattle.call_rules.specs.WellFormed.{IsUpTo, IsWrittenCall};
-ghost use Rattle.rank_rules.specs.Courses.{access_of};
-ghost use Rattle.rank_rules.specs.Windows.{part_at, window_of_name};
-ghost use Rattle.rank_rules.specs.WindowTests.{address_in};
+ghost use Rattle.rank_rules.specs.Courses.{access_of, access_on};
+ghost use Rattle.rank_rules.specs.Windows.{window_of_name};
 ghost use Rattle.window_regions.specs.Places.{HasSmallPlace};
 
 use super::WindowTable;
-use crate::numbers::{count_of, few_elements, natural};
+use crate::numbers::{few_elements, natural};
 use crate::places::{Range, elements_in};
-use rma_types::{Access, Call, Dtype, Kind};
+use rma_types::{Access, Action, Call, Target, Transfer};
 
 impl WindowTable {
     /// The access of a call that moves data, on its live window (MPI 3.1, sections 11.2 and 11.3); none of another
@@ -24,153 +21,49 @@ impl WindowTable {
         requires small { IfSome (transfer_of call.now) (HasSmallPlace self.now) }
         ensures { result ≡ access_of self.now call.now }
     {
-        match call {
-            Call::Put {
-                win,
-                target,
-                disp,
-                dtype,
-                values,
-                ..
-            } => self.access_to(*win, *target, *disp, *dtype, count_of(values), Kind::Put),
-            Call::Get {
-                win,
-                target,
-                disp,
-                dtype,
-                count,
-                ..
-            } => self.access_to(*win, *target, *disp, *dtype, *count, Kind::Get),
-            Call::Acc {
-                win,
-                target,
-                disp,
-                dtype,
-                op,
-                values,
-                ..
-            }
-            | Call::GetAcc {
-                win,
-                target,
-                disp,
-                dtype,
-                op,
-                values,
-                ..
-            } => {
-                let kind = Kind::Acc {
-                    op: *op,
-                    dtype: *dtype,
-                };
-                self.access_to(*win, *target, *disp, *dtype, count_of(values), kind)
-            }
-            Call::Fop {
-                win,
-                target,
-                disp,
-                dtype,
-                op,
-                ..
-            } => {
-                let kind = Kind::Acc {
-                    op: *op,
-                    dtype: *dtype,
-                };
-                self.access_to(*win, *target, *disp, *dtype, 1, kind)
-            }
-            Call::Cas {
-                win,
-                target,
-                disp,
-                dtype,
-                ..
-            } => {
-                let kind = Kind::Cas { dtype: *dtype };
-                self.access_to(*win, *target, *disp, *dtype, 1, kind)
-            }
-            Call::Load {
-                win,
-                disp,
-                dtype,
-                count,
-            } => self.access_at(*win, self.rank, *disp, *dtype, *count, Kind::Load),
-            Call::Store {
-                win,
-                disp,
-                dtype,
-                values,
-            } => self.access_at(
-                *win,
-                self.rank,
-                *disp,
-                *dtype,
-                count_of(values),
-                Kind::Store,
-            ),
-            _ => None,
+        match call.action() {
+            Action::Moves(transfer) => self.access_on(&transfer),
+            Action::Creates(_)
+            | Action::Frees { .. }
+            | Action::Attaches { .. }
+            | Action::Detaches { .. }
+            | Action::Synchronises(_, _)
+            | Action::Meets
+            | Action::EndsRequest { .. } => None,
         }
     }
 
-    /// So many elements, from a displacement on, at the rank that a target reaches.
-    fn access_to(
-        &self,
-        win: u8,
-        target: Option<i32>,
-        disp: i32,
-        dtype: Dtype,
-        count: i32,
-        kind: Kind,
-    ) -> Option<Access>
-        requires few { IsUpTo 256 count }
-        requires rank { rank_reached self.now.rank (target_of target) < 256 }
-        requires small { IfSome (window_of_name self.now win) (λ window.
-            address_in (part_at window.parts (rank_reached self.now.rank (target_of target))) disp < 2 ^ 32) }
-        ensures { let rank = rank_reached self.now.rank (target_of target) in
-            result ≡ option_map_or (λ window. Some (record {
-              window = window.number;
-              target = rank;
-              lo = address_in (part_at window.parts rank) disp;
-              len = natural_of count * size_of dtype;
-              kind = kind;
-            })) (window_of_name self.now win) None }
+    /// The rank whose memory a transfer of this rank reaches.
+    fn rank_reached(&self, target: Target) -> u32
+        ensures { result ≡ rank_reached_by self.now.rank target }
     {
         match target {
-            None => self.access_at(win, self.rank, disp, dtype, count, kind),
-            Some(rank) => self.access_at(win, natural(rank) as u8, disp, dtype, count, kind),
+            Target::Own | Target::Null => u32::from(self.rank),
+            Target::Named(rank) => natural(rank),
         }
     }
 
-    /// So many elements, from a displacement on, at a rank.
-    fn access_at(
-        &self,
-        win: u8,
-        rank: u8,
-        disp: i32,
-        dtype: Dtype,
-        count: i32,
-        kind: Kind,
-    ) -> Option<Access>
-        requires few { IsUpTo 256 count }
-        requires small { IfSome (window_of_name self.now win) (λ window.
-            address_in (part_at window.parts rank) disp < 2 ^ 32) }
-        ensures { result ≡ option_map_or (λ window. Some (record {
-          window = window.number;
-          target = rank;
-          lo = address_in (part_at window.parts rank) disp;
-          len = natural_of count * size_of dtype;
-          kind = kind;
-        })) (window_of_name self.now win) None }
+    fn access_on(&self, transfer: &Transfer<'_>) -> Option<Access>
+        requires few { IsUpTo 256 transfer.now.count }
+        requires small { HasSmallPlace self.now transfer.now }
+        ensures { result ≡ option_map_or (λ window. Some (access_on self.now transfer.now window))
+            (window_of_name self.now transfer.now.win) None }
     {
-        let window = self.window(win)?;
-        let part = window.part(u32::from(rank));
-        let Range { lo, len } = elements_in(part, disp, dtype, few_elements(count));
+        let window = self.window(transfer.win)?;
+        let rank = self.rank_reached(transfer.target);
+        let count = few_elements(transfer.count);
+        let Range { lo, len } = elements_in(
+            window.part(rank),
+            transfer.disp,
+            transfer.dtype,
+            count,
+        );
         Some(Access {
             window: window.number(),
-            target: rank,
+            target: rank as u8,
             lo,
             len,
-            kind,
+            kind: transfer.kind,
         })
     }
 }

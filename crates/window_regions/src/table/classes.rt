@@ -1,9 +1,8 @@
 //! The class of a call by each of its tests: MPI 3.1, sections 11.2 and 11.3.
-ghost use Rattle.std.specs.Prelude.{◌≡◌, None};
+ghost use Rattle.std.specs.Prelude.{◌≡◌};
 ghost use Rattle.std.specs.Option.{option_copied};
-ghost use Rattle.call_rules.specs.Actions.{Creates, Attaches, Detaches, Frees, Moves, Own};
-ghost use Rattle.call_rules.specs.Actions.{target_of, get_transfer};
-ghost use Rattle.rma_types.specs.declared.accesses.Kind.TheVariants.{Get as GetKind, Load as LoadKind};
+ghost use Rattle.rma_types.specs.declared.actions.Action.TheVariants.{Creates, Attaches, Detaches, Frees, Moves};
+ghost use Rattle.rma_types.specs.declared.actions.Target.TheVariants.{Own, Named};
 ghost use Rattle.call_rules.specs.WellFormed.{IsUpTo};
 ghost use Rattle.rank_rules.specs.Ranges.{covers};
 ghost use Rattle.rank_rules.specs.WindowTests as tests;
@@ -15,7 +14,7 @@ use crate::numbers::{few_elements, is_rank, natural};
 use crate::places::{Range, address};
 use crate::window::{Window, find_window};
 use rank_rules::first_class;
-use rma_types::{Class, Dtype, Flavor};
+use rma_types::{Class, Creation, Flavor, Target, Transfer};
 
 impl WindowTable {
     pub(super) fn window(&self, win: u8) -> Option<&Window>
@@ -74,22 +73,16 @@ impl WindowTable {
         first_class(&[(!self.is_live(win), Class::Win)])
     }
 
-    pub(super) fn creation_class(
-        &self,
-        win: u8,
-        flavor: Flavor,
-        base: i32,
-        bytes: i32,
-        unit: i32,
-    ) -> Option<Class>
-        ensures { result ≡ tests.window_class self.now (Creates (record {
-          win = win;
-          flavor = flavor;
-          base = base;
-          bytes = bytes;
-          unit = unit;
-        })) }
+    pub(super) fn creation_class(&self, creation: Creation) -> Option<Class>
+        ensures { result ≡ tests.window_class self.now (Creates creation) }
     {
+        let Creation {
+            win,
+            flavor,
+            base,
+            bytes,
+            unit,
+        } = creation;
         first_class(&[
             (self.is_live(win), Class::Win),
             (bytes < 0, Class::Size),
@@ -137,49 +130,63 @@ impl WindowTable {
         }
     }
 
-    /// The class of a load or a store.
-    pub(super) fn own_class(&self, win: u8, disp: i32, dtype: Dtype, count: i32) -> Option<Class>
-        requires { IsUpTo 256 count }
-        ensures { result ≡ tests.window_class self.now
-            (Moves (get_transfer None win Own disp dtype LoadKind count)) }
+    /// The class of a transfer; one at MPI_PROC_NULL needs the window to be live, and nothing else.
+    pub(super) fn transfer_class(&self, transfer: &Transfer<'_>) -> Option<Class>
+        requires { IsUpTo 256 transfer.now.count }
+        ensures { result ≡ tests.window_class self.now (Moves transfer.now) }
     {
-        if count < 0 {
-            return self.live_class(win);
-        }
-        let count = few_elements(count);
-        if self.is_dynamic(win) {
-            self.attached_class(win, address(disp, dtype, count))
-        } else {
-            self.resolve(win, self.rank, disp, dtype, count).err()
+        match transfer.target {
+            Target::Own => self.own_class(transfer),
+            Target::Null => self.live_class(transfer.win),
+            Target::Named(rank) => self.reach_class(transfer, rank),
         }
     }
 
-    /// The class of an RMA call; one at MPI_PROC_NULL needs the window to be live, and nothing else.
-    pub(super) fn reach_class(
-        &self,
-        win: u8,
-        target: Option<i32>,
-        disp: i32,
-        dtype: Dtype,
-        count: i32,
-    ) -> Option<Class>
-        requires { IsUpTo 256 count }
-        ensures { result ≡ tests.window_class self.now
-            (Moves (get_transfer None win (target_of target) disp dtype GetKind count)) }
+    /// The class of a load or a store.
+    fn own_class(&self, transfer: &Transfer<'_>) -> Option<Class>
+        requires few { IsUpTo 256 transfer.now.count }
+        requires own { transfer.now.target ≡ Own }
+        ensures { result ≡ tests.window_class self.now (Moves transfer.now) }
     {
-        match target {
-            None => self.live_class(win),
-            Some(target) => {
-                if count < 0 || !is_rank(target, self.ranks) {
-                    return self.live_class(win);
-                }
-                let count = few_elements(count);
-                if self.is_dynamic(win) {
-                    address(disp, dtype, count).err()
-                } else {
-                    self.resolve(win, target as u8, disp, dtype, count).err()
-                }
-            }
+        let Transfer {
+            win,
+            disp,
+            dtype,
+            count,
+            ..
+        } = transfer;
+        if *count < 0 {
+            return self.live_class(*win);
+        }
+        let count = few_elements(*count);
+        if self.is_dynamic(*win) {
+            self.attached_class(*win, address(*disp, *dtype, count))
+        } else {
+            self.resolve(*win, self.rank, *disp, *dtype, count).err()
+        }
+    }
+
+    /// The class of an RMA call at a named rank.
+    fn reach_class(&self, transfer: &Transfer<'_>, rank: i32) -> Option<Class>
+        requires few { IsUpTo 256 transfer.now.count }
+        requires named { transfer.now.target ≡ Named rank }
+        ensures { result ≡ tests.window_class self.now (Moves transfer.now) }
+    {
+        let Transfer {
+            win,
+            disp,
+            dtype,
+            count,
+            ..
+        } = transfer;
+        if *count < 0 || !is_rank(rank, self.ranks) {
+            return self.live_class(*win);
+        }
+        let count = few_elements(*count);
+        if self.is_dynamic(*win) {
+            address(*disp, *dtype, count).err()
+        } else {
+            self.resolve(*win, rank as u8, *disp, *dtype, count).err()
         }
     }
 }

@@ -1,5 +1,5 @@
-use Rattle.delivery_queue.proofs.NumberBits.{one_more}
+use Rattle.list_laws.proofs.Numbers.{bit_more}
 use Rattle.delivery_queue.proofs.number_sets.NumberSet.with_bit.Goals as goal
 
 pub returns : goal.returns
-returns c = λ other. one_more c.args.self.bits c.args.bit other c.requires
+returns c = λ other. bit_more c.args.self.bits c.args.bit other c.requires

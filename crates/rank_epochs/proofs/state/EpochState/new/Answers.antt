@@ -1,7 +1,7 @@
 -- Each window has no epochs, and so has the list of all.
-use Rattle.std.proofs.Common.{rules, arith, ◌≡◌, ◌<◌, ℕ, ◌+◌, ◌∙◌, sym, length, slice_index_or}
+use Rattle.std.proofs.Common.{rules, arith, ◌≡◌, ◌<◌, ◌∙◌, sym, length, slice_index_or}
 use Rattle.std.proofs.lemmas.List.{same_lists, get_or-replicate, length-replicate}
-use Rattle.rank_rules.specs.Epochs.{Epochs, first_epochs, no_epochs}
+use Rattle.rank_rules.specs.Epochs.{no_epochs}
 use Rattle.rank_epochs.proofs.state.EpochState.new.Goals as goal
 
 pub returns : goal.returns

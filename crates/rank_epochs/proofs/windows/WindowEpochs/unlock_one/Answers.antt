@@ -1,11 +1,10 @@
 -- The targets that are left are distinct.
-use Rattle.std.proofs.Common.{rules, ◌≡◌, ◌==◌, not, ℕ, List, filter, ◌∙◌, ap, subst, sym, true}
-use Rattle.call_rules.specs.Ranks.{natural}
+use Rattle.std.proofs.Common.{◌≡◌, ◌==◌, not, ℕ, List, filter, ◌∙◌, ap, subst, sym, true}
 use Rattle.rank_rules.specs.Epochs.{targets_locked}
 use Rattle.rank_epochs.specs.Distinct.{are_distinct_ranks}
 use Rattle.rank_epochs.specs.Views.{access_of}
 use Rattle.rank_epochs.proofs.DistinctRanks.{distinct_after_unlock}
-use Rattle.rank_epochs.proofs.windows.WindowEpochs.unlock.Goals as goal
+use Rattle.rank_epochs.proofs.windows.WindowEpochs.unlock_one.Goals as goal
 
 pub invariant_of-self : goal.invariant_of-self
 invariant_of-self c =

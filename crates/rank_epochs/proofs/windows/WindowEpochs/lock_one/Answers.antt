@@ -1,12 +1,12 @@
 -- A target that may be locked finds room among the others, and is none of them.
-use Rattle.std.proofs.Common.{rules, arith, ◌≡◌, ◌<◌, ℕ, List, ◌∷◌, [], ◌++◌, ◌∙◌, ap, subst, sym, length, true, lit<}
+use Rattle.std.proofs.Common.{rules, ◌≡◌, ◌<◌, ℕ, List, ◌∷◌, [], ◌++◌, ◌∙◌, ap, subst, sym, length, true, lit<}
 use Rattle.std.specs.Prelude.{Some}
 use Rattle.call_rules.specs.Ranks.{natural}
 use Rattle.rank_rules.specs.Epochs.{Epochs, may_lock, targets_locked}
 use Rattle.rank_epochs.specs.Distinct.{are_distinct_ranks}
 use Rattle.rank_epochs.specs.Views.{access_of}
 use Rattle.rank_epochs.proofs.DistinctRanks.{room_for_lock, distinct_after_lock}
-use Rattle.rank_epochs.proofs.windows.WindowEpochs.lock.Goals as goal
+use Rattle.rank_epochs.proofs.windows.WindowEpochs.lock_one.Goals as goal
 
 pub push-requires : goal.push-requires
 push-requires c =
