@@ -1,9 +1,10 @@
 -- Where an access is listed.
-use Rattle.std.proofs.Common.{◌≡◌, ℕ, zero, suc, ◌+◌, ◌*◌, ◌<◌, ◌≤◌, ◌⊎◌, inl, inr, true, List, [], ◌∷◌, ◌++◌}
+use Rattle.std.proofs.Common.{◌≡◌, ℕ, ◌+◌, ◌*◌, ◌<◌, ◌≤◌, ◌⊎◌, inl, inr, true, List, [], ◌∷◌, ◌++◌}
 use Rattle.std.proofs.Common.{length, get_or, refl, ap, sym, subst, ◌∙◌, arith}
 use Rattle.std.specs.Prelude.{Contains, if◌then◌else◌, replicate, slice_index, slice_set}
 use Rattle.std.proofs.lemmas.Bool.{cases_eq, cases_lt, eq-eqb, ne_eqb}
 use Rattle.std.proofs.lemmas.List.{get_or_append_left, get_or_push, get_or-set_other, get_or-set_same, length-append}
+use Rattle.list_laws.proofs.Lists.{zeros}
 use Rattle.rma_types.specs.declared.accesses.Access.{Access}
 use Rattle.access_index.specs.Indexes.{BelongsTo, HasAccesses, IsComplete, IsSound, KeepsListed, access_at, block_group}
 use Rattle.access_index.specs.Indexes.{no_access, window_group, with_access}
@@ -19,11 +20,6 @@ use Rattle.access_index.specs.declared.regions.Region.TheVariants.{Block, Window
 
 none : {X : Type 0} (x : X) (xs : List X) → xs ≡ [] → Contains xs x → ⊥
 none x xs empty has = absurd (omega (arith, has.1, ap length empty))
-
-zeros : (n k : ℕ) → slice_index (replicate n 0) k ≡ 0
-zeros zero k = refl
-zeros (suc n) zero = refl
-zeros (suc n) (suc k) = zeros n k
 
 pub empty_index : (index : AccessIndex) → index.counts ≡ replicate 256 0 →
     ((region : Region) → classes_in index.classes region ≡ []) →
@@ -116,7 +112,8 @@ module _ (rows : ℕ → List Access) (rank : ℕ) (a : Access) where
 
   -- the earlier ones stay
   pub stays : (other o : ℕ) → o < length (rows other) →
-      (o < length (with_access rows rank a other)) × (access_at (with_access rows rank a) other o ≡ access_at rows other o)
+      (o < length (with_access rows rank a other))
+      × (access_at (with_access rows rank a) other o ≡ access_at rows other o)
   stays other o within = elim (cases_eq other rank) [
     | inl same ↦
         let here : with_access rows rank a other ≡ rows other ++ a ∷ [] =
@@ -144,7 +141,11 @@ module _ (rows : ℕ → List Access) (rank : ℕ) (a : Access) where
     belongs = λ group o has.
         let one = sound.belongs group o has in
         let stay = stays group.class.rank o one.there in
-        record { there = stay.0; placed = subst (IsIn group.region group.class group.class.rank) (sym stay.1) one.placed };
+        record {
+          there = stay.0;
+          placed = subst (IsIn group.region group.class group.class.rank) (sym stay.1)
+              one.placed;
+        };
     rises = sound.rises;
     classes = sound.classes;
     regions = sound.regions;

@@ -1,8 +1,9 @@
 -- Keys that are equal by their test are one.
-use Rattle.std.proofs.Common.{◌≡◌, Bool, true, false, refl, rules}
+use Rattle.std.proofs.Common.{◌≡◌, true, refl, rules}
 use Rattle.std.specs.Prelude.{◌&&◌, ◌==◌}
 use Rattle.std.specs.Bool.{beq}
 use Rattle.std.proofs.lemmas.Bool.{and_parts, and_from, eqb-true, eq-eqb, false≢true}
+use Rattle.list_laws.proofs.Truths.{bool_same, bool_self}
 use Rattle.access_index.specs.contracts.regions.Cast.{the_type as cast_type}
 use denote.Enum.Bare.{sameb, same_true}
 use Rattle.access_index.specs.declared.regions.Cast.{Cast}
@@ -39,16 +40,6 @@ cast_self Swap = refl
 cast_self Read = refl
 cast_self Store = refl
 cast_self Load = refl
-
-bool_self : (a : Bool) → beq a a ≡ true
-bool_self true = refl
-bool_self false = refl
-
-bool_same : (a b : Bool) → beq a b ≡ true → a ≡ b
-bool_same true true e = refl
-bool_same true false e = absurd (false≢true e)
-bool_same false true e = absurd (false≢true e)
-bool_same false false e = refl
 
 pub group_self : (a : Group) → group_eq a a ≡ true
 group_self a =

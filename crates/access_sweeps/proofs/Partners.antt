@@ -1,8 +1,9 @@
 -- Partners that are found by a sweep.
-use Rattle.std.proofs.Common.{◌≡◌, ℕ, ◌<◌, ◌≤◌, ◌⊎◌, inl, inr, Bool, true, false, not, List, [], ◌∷◌, length, Option, Some, None}
+use Rattle.std.proofs.Common.{◌≡◌, ℕ, ◌<◌, ◌≤◌, ◌⊎◌, inl, inr, Bool, true, false, not, List, [], ◌∷◌, length, Option}
+use Rattle.std.proofs.Common.{Some, None}
 use Rattle.std.proofs.Common.{zero, suc, get_or, map}
-use Rattle.judged_points.specs.Alike.{judged_by}
-use Rattle.judged_points.specs.declared.accesses.JudgedPoints.{JudgedPoints}
+use Rattle.first_points.specs.Alike.{judged_by}
+use Rattle.first_points.specs.declared.accesses.JudgedPoints.{JudgedPoints}
 use Rattle.std.proofs.Common.{refl, ap, sym, subst, ◌∙◌, arith}
 use Rattle.std.specs.Prelude.{◌||◌, ◌&&◌, if◌then◌else◌, nat_lt, slice_index, slice_set}
 use Rattle.std.specs.Option.{is_some, option_map_or}

@@ -7,7 +7,7 @@ use Rattle.rma_types.specs.declared.findings.Model.{Model}
 use Rattle.order_rules.specs.Ordered.{JudgedAccess, is_ordered}
 use Rattle.order_rules.specs.Rules.{forbidden_kind}
 use Rattle.vector_clocks.specs.Marks.{before_in}
-use Rattle.judged_points.specs.Alike.{judged_by}
+use Rattle.first_points.specs.Alike.{judged_by}
 use Rattle.access_sweeps.specs.Labels.{do_stand, label_of}
 use Rattle.access_sweeps.specs.Places.{judged_at}
 use Rattle.access_sweeps.specs.declared.kinds.Label.{Label}

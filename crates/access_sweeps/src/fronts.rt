@@ -2,13 +2,13 @@
 ghost use Rattle.std.specs.Prelude.{◌≡◌, ◌≤◌, ◌<◌, ◌⊎◌, ◌||◌, ℕ, true, false, length, slice_index};
 ghost use Rattle.order_rules.specs.Ordered.{is_ordered as is_ordered_by};
 ghost use Rattle.vector_clocks.specs.Marks.{before_in};
-ghost use Rattle.judged_points.specs.Alike.{judged_by};
+ghost use Rattle.first_points.specs.Alike.{judged_by};
 ghost use Rattle.access_sweeps.specs.Labels.{do_stand as do_labels_stand, label_of as label_by};
 ghost use Rattle.access_sweeps.specs.Sweeps.{IsChoice, IsWithin, do_both_stand, first_at};
 
 use crate::kinds::{Label, do_stand, label_of};
 use crate::order::is_ordered;
-use judged_points::JudgedPoints;
+use first_points::JudgedPoints;
 use vector_clocks::Clocks;
 
 /// Accesses by their places, which accesses of another list pass: whether their operations count.

@@ -2,9 +2,9 @@
 ghost use Rattle.std.specs.Prelude.{◌≡◌};
 ghost use Rattle.order_rules.specs.Ordered.{is_ordered as is_ordered_by};
 ghost use Rattle.vector_clocks.specs.Marks.{before_in};
-ghost use Rattle.judged_points.specs.Alike.{judged_by};
+ghost use Rattle.first_points.specs.Alike.{judged_by};
 
-use judged_points::{JudgedPoints, do_reach, points_towards};
+use first_points::{JudgedPoints, do_reach, points_towards};
 use rma_rules::part_of;
 use vector_clocks::Clocks;
 

@@ -3,12 +3,13 @@ ghost use Rattle.std.specs.Prelude.{◌≡◌, ◌≤◌, ◌<◌, ◌⊎◌, le
 ghost use Rattle.rma_types.specs.declared.findings.Model.{Model as ModelValue};
 ghost use Rattle.vector_clocks.specs.Marks.{before_in};
 ghost use Rattle.access_sweeps.specs.Places.{AreLeastOf, ArePartners, IsLeastOf, NoneRises};
-ghost use Rattle.access_sweeps.specs.Sweeps.{DoAllStand, HaveLabel, IsFrontFrom, IsSwept, IsWithin, accesses_of, improved, improved_at};
+ghost use Rattle.access_sweeps.specs.Sweeps.{DoAllStand, HaveLabel, IsFrontFrom, IsSwept, IsWithin, accesses_of};
+ghost use Rattle.access_sweeps.specs.Sweeps.{improved, improved_at};
 
 use crate::fronts::{Front, Passed};
 use crate::kinds::{Label, do_stand, label_of};
 use crate::order::is_ordered;
-use judged_points::JudgedPoints;
+use first_points::JudgedPoints;
 use vector_clocks::Clocks;
 
 /// Two lists of accesses by their places, and whether the operations of accumulates count between them.

@@ -1,45 +1,36 @@
 -- The change of each touch of a lawful run fits its cell.
 use Rattle.std.proofs.Common.{◌≡◌, ℕ, zero, suc, ◌<◌, Bool, true, false, cond, List, [], ◌∷◌, Option, Some, None, refl}
-use Rattle.std.proofs.Common.{sym, subst, arith}
+use Rattle.std.proofs.Common.{sym, subst}
 use Rattle.std.specs.Prelude.{IfSome, slice_get, slice_index}
 use Rattle.std.specs.List.{AllByRecursion}
 use Rattle.std.specs.Option.{option_map_or}
-use Rattle.rma_types.specs.declared.dtypes.Dtype.{Dtype}
-use Rattle.rma_types.specs.declared.dtypes.Dtype.TheVariants.{Int8, Int16, Int32, Uint8, Uint16, Uint32, Byte}
+use Rattle.list_laws.proofs.Each.{each_at}
+use Rattle.list_laws.proofs.Members.{all_members, In, filter_in}
 use Rattle.rma_types.specs.declared.calls.Call.{Call}
 use Rattle.rma_types.specs.declared.schedules.Delay.{Delay}
 use Rattle.rma_types.specs.declared.scripts.Script.{Script}
 use Rattle.rma_record.specs.declared.runs.Run.{Run}
 use Rattle.call_rules.specs.declared.elements.Change.{Change}
-use Rattle.call_rules.specs.Actions.{Action, Creates, Frees, Attaches, Detaches, Synchronises, Meets, Moves}
-use Rattle.call_rules.specs.Actions.{EndsRequest, Transfer, transfer_in, transfer_of, action_of}
+use Rattle.rma_types.specs.declared.actions.Transfer.{Transfer}
+use Rattle.rma_types.specs.Actions.{transfer_of, action_of}
 use Rattle.call_rules.specs.Elements.{Fits}
 use Rattle.call_rules.specs.Layout.{layout}
 use Rattle.call_rules.specs.Numbers.{patterns_of}
 use Rattle.call_rules.specs.Transfers.{change_of, is_no_op}
-use Rattle.call_rules.specs.WellFormed.{IsWellFormed, IsWrittenAction, IsWrittenCall, IsWrittenTransfer}
+use Rattle.call_rules.specs.WellFormed.{IsWellFormed, IsWrittenCall, IsWrittenTransfer}
+use Rattle.call_rules.proofs.PatternLaws.{some_pattern}
+use Rattle.call_rules.proofs.WellFormedLaws.{written_in}
 use Rattle.lawful_runs.specs.Accesses.{Touching, all_touches, is_on_cell, is_update, on_cell, transfer_at}
 use Rattle.lawful_runs.specs.LawfulRun.{IsLawful}
 use Rattle.lawful_runs.specs.Logs.{calls_of}
-use Rattle.order_laws.proofs.Members.{In, here, there, filter_in}
+use Rattle.lawful_runs.proofs.LogLaws.{calls_written}
 use Rattle.order_rules.specs.OrderedReads.{updates_of}
 use Rattle.read_laws.proofs.InMemory.{of_transfers}
-use Rattle.read_laws.proofs.Lists.{each_get}
-use Rattle.read_laws.proofs.Names.{calls_written}
 use Rattle.read_laws.proofs.Parts.{access_of_touch, part_of}
 use Rattle.read_laws.proofs.Places.{IsAligned, element_of, piece_aligned}
 use Rattle.read_laws.proofs.Steps.{access_is}
 use Rattle.read_laws.proofs.Touches.{touch_is}
 use Rattle.cell_replay.specs.Kept.{DoFit}
-
-some_pattern : (dtype : Dtype) → 0 < patterns_of dtype
-some_pattern Int8 = omega arith
-some_pattern Int16 = omega arith
-some_pattern Int32 = omega arith
-some_pattern Uint8 = omega arith
-some_pattern Uint16 = omega arith
-some_pattern Uint32 = omega arith
-some_pattern Byte = omega arith
 
 operand_below : (n : ℕ) (xs : List ℕ) (k : ℕ) → 0 < n → AllByRecursion (λ x. x < n) xs → slice_index xs k < n
 operand_below n [] k some all = some
@@ -59,16 +50,6 @@ change_fits t element first w aligned = choice_fits (is_no_op t.op) _ (record {
   compared = w.compared;
 })
 
-written_in : (action : Action) → IsWrittenAction action → IfSome (transfer_in action) IsWrittenTransfer
-written_in (Creates creation) w = tt
-written_in (Frees win) w = tt
-written_in (Attaches win base bytes) w = tt
-written_in (Detaches win base) w = tt
-written_in (Synchronises win synchronisation) w = tt
-written_in Meets w = tt
-written_in (Moves transfer) w = w
-written_in (EndsRequest req) w = tt
-
 written_at : (calls : List Call) (number : ℕ) (t : Transfer) → AllByRecursion IsWrittenCall calls →
     transfer_at calls number ≡ Some t → IsWrittenTransfer t
 written_at calls number t written moves = by_call (slice_get calls number) refl moves
@@ -77,11 +58,7 @@ written_at calls number t written moves = by_call (slice_get calls number) refl 
         IsWrittenTransfer t
     by_call None e h = absurd (cc h)
     by_call (Some call) e h = subst (λ o. IfSome o IsWrittenTransfer) h
-        (written_in (action_of call) (each_get IsWrittenCall calls number call written e))
-
-each_from : {X : Type 0} (P : X → Type 0) (xs : List X) → ((x : X) → In x xs → P x) → AllByRecursion P xs
-each_from P [] all = tt
-each_from P (x ∷ xs) all = (all x here, each_from P xs (λ y m. all y (there m)))
+        (written_in (action_of call) (each_at IsWrittenCall calls number call written e))
 
 touch_fits : (script : Script) (delay : Delay) (run : Run) → IsWellFormed script → IsLawful script delay run →
     (v : Touching) → In v (all_touches script run) → IfSome v.change Fits
@@ -102,7 +79,7 @@ touch_fits script delay run formed lawful v m =
 pub updates_fit : (script : Script) (delay : Delay) (run : Run) → IsWellFormed script → IsLawful script delay run →
     (cell : ℕ) → DoFit (updates_of script run cell)
 updates_fit script delay run formed lawful cell =
-    each_from (λ (touch : Touching). IfSome touch.change Fits) (updates_of script run cell) (λ v m.
+    all_members (λ (touch : Touching). IfSome touch.change Fits) (updates_of script run cell) (λ v m.
     let one = filter_in is_update (on_cell cell (all_touches script run)) m in
     let two = filter_in (is_on_cell cell) (all_touches script run) one.0 in
     touch_fits script delay run formed lawful v two.0)
@@ -111,5 +88,5 @@ updates_fit script delay run formed lawful cell =
 pub touches_fit : (script : Script) (delay : Delay) (run : Run) → IsWellFormed script → IsLawful script delay run →
     DoFit (all_touches script run)
 touches_fit script delay run formed lawful =
-    each_from (λ (touch : Touching). IfSome touch.change Fits) (all_touches script run)
+    all_members (λ (touch : Touching). IfSome touch.change Fits) (all_touches script run)
     (touch_fits script delay run formed lawful)

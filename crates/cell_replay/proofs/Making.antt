@@ -1,5 +1,5 @@
 -- The change of a touch, as the code finds it.
-use Rattle.std.proofs.Common.{◌≡◌, ℕ, zero, suc, ◌+◌, ◌/◌, ◌<◌, ◌≤◌, inl, inr, cond, List}
+use Rattle.std.proofs.Common.{◌≡◌, ℕ, zero, suc, ◌+◌, ◌/◌, ◌≤◌, inl, inr, cond, List}
 use Rattle.std.proofs.Common.{Option, Some, None, refl, ap, sym, ◌∙◌, arith}
 use Rattle.std.specs.Prelude.{map, slice_get, nat_lt}
 use Rattle.std.specs.Option.{option_map_or, option_and_then}
@@ -14,20 +14,14 @@ use Rattle.rma_record.specs.declared.items.Item.TheVariants.{Issue, Null, Touch,
 use Rattle.rma_record.specs.declared.items.Item.TheVariants.{Ended}
 use Rattle.call_rules.specs.declared.elements.Change.{Change}
 use Rattle.call_rules.specs.declared.elements.Piece.{Piece}
-use Rattle.call_rules.specs.Actions.{Transfer, transfer_of}
+use Rattle.rma_types.specs.declared.actions.Transfer.{Transfer}
+use Rattle.rma_types.specs.Actions.{transfer_of}
 use Rattle.call_rules.specs.Pieces.{element_address, numbers_from, piece_at, pieces}
 use Rattle.call_rules.specs.Transfers.{change_of}
+use Rattle.call_rules.proofs.NumbersFrom.{got_number}
 use Rattle.lawful_runs.specs.Accesses.{change_made, issued_at, issued_by, transfer_at}
 use Rattle.rank_rules.specs.declared.pending.PendingAccess.{PendingAccess}
 use Rattle.cell_replay.specs.Kept.{change_in, change_issued, change_kept, first_byte_at}
-
-below_got : {X : Type 0} (f : ℕ → X) (first count k : ℕ) → k < count →
-    slice_get (map f (numbers_from first count)) k ≡ Some (f (first + k))
-below_got f first zero k below = absurd (omega arith)
-below_got f first (suc count) zero below = let e : first ≡ first + 0 = omega arith in ap (λ n. Some (f n)) e
-below_got f first (suc count) (suc k) below =
-    let e : first + 1 + k ≡ first + suc k = omega arith in
-    below_got f (first + 1) count k (omega (arith, below)) ∙ ap (λ n. Some (f n)) e
 
 past_got : {X : Type 0} (f : ℕ → X) (first count k : ℕ) → count ≤ k →
     slice_get (map f (numbers_from first count)) k ≡ None
@@ -57,7 +51,7 @@ module _ (memory : Layout) (access : Access) (element : ℕ) where
         (lt-ltb element (access.len / size_of t.dtype) below)
         ∙ ap (λ n. change_of t element (first_byte_at access t.dtype n)) e
         ∙ ap (λ o. option_map_or (λ (piece : Piece). change_of t element piece.first_byte) o None)
-        (sym (below_got (λ n. piece_at memory access.target (element_address access t.dtype n)) 0
+        (sym (got_number (λ n. piece_at memory access.target (element_address access t.dtype n)) 0
         (access.len / size_of t.dtype) element below))
     | inr past ↦
         cond-false (nat_lt element (access.len / size_of t.dtype))

@@ -1,22 +1,18 @@
 -- The numbers of a script's cells are small.
 use Rattle.std.proofs.Common.{◌≡◌, ℕ, zero, suc, ◌+◌, ◌*◌, ◌/◌, ◌<◌, ◌≤◌, List, [], ◌∷◌, arith}
-use Rattle.std.specs.Prelude.{slice_get, sum_by}
-use Rattle.std.specs.Option.{option_map_or}
+use Rattle.std.specs.Prelude.{sum_by}
 use Rattle.std.proofs.lemmas.List.Sums.{sum_by-cons}
 use Rattle.rma_types.specs.declared.calls.Call.{Call}
 use Rattle.rma_types.specs.declared.dtypes.Dtype.{Dtype}
 use Rattle.rma_types.specs.declared.dtypes.Dtype.TheVariants.{Int8, Int16, Int32, Uint8, Uint16, Uint32, Byte}
-use Rattle.rma_types.specs.declared.scripts.MemoryPart.{MemoryPart}
 use Rattle.rma_types.specs.declared.scripts.Script.{Script}
 use Rattle.rma_types.specs.Datatypes.{size_of}
+use Rattle.rma_types.proofs.MemoryLaws.{first_in}
 use Rattle.call_rules.specs.Layout.{layout, memory_bytes, parts_from, ranks_of, IsWithinLimits}
 use Rattle.call_rules.specs.Pieces.{first_cell}
 
 abbrev bytes_in : ℕ × List Call → ℕ
 bytes_in rank = memory_bytes rank.0 rank.1
-
-abbrev first_in : List MemoryPart → ℕ → ℕ
-first_in parts rank = option_map_or (λ (part : MemoryPart). part.first_cell) (slice_get parts rank) 0
 
 next : (cell here rest all limit : ℕ) → all ≡ here + rest → cell + all ≤ limit → cell + here / 4 + rest ≤ limit
 next cell here rest all limit e le = omega arith

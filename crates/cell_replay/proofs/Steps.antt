@@ -4,18 +4,13 @@ use Rattle.std.proofs.Common.{◌≤◌, append_assoc, arith}
 use Rattle.std.specs.Prelude.{drop, slice_index_or}
 use Rattle.std.specs.List.{flat_map}
 use Rattle.std.proofs.lemmas.List.Concat.{flat_map-cons}
+use Rattle.list_laws.proofs.Lists.{drop_at}
 use Rattle.rma_types.specs.declared.calls.Call.{Call}
 use Rattle.rma_types.specs.declared.scripts.Layout.{Layout}
 use Rattle.rma_record.specs.declared.items.Item.{Item}
 use Rattle.call_rules.specs.Pieces.{numbers_from}
 use Rattle.lawful_runs.specs.Accesses.{touches_among, touching_by}
 use Rattle.lawful_runs.specs.Logs.{Named, named_from}
-
-drop_at : {X : Type 0} (xs : List X) (k : ℕ) (d : X) → k < length xs →
-    drop k xs ≡ slice_index_or xs k d ∷ drop (suc k) xs
-drop_at [] k d within = absurd (omega arith)
-drop_at (x ∷ xs) zero d within = refl
-drop_at (x ∷ xs) (suc k) d within = drop_at xs k d (omega (arith, within))
 
 -- the touch of the next item, and those that are left after it
 pub touches_step : (memory : Layout) (calls : List Call) (log : List Item) (rank at : ℕ) (d : Item) →

@@ -13,7 +13,8 @@ use Rattle.rma_record.specs.declared.items.Item.{Item}
 use Rattle.rma_record.specs.declared.items.Item.TheVariants.{Issue}
 use Rattle.rma_record.specs.declared.runs.Run.{Run}
 use Rattle.call_rules.specs.declared.elements.Change.{Change}
-use Rattle.call_rules.specs.Actions.{Transfer, transfer_of}
+use Rattle.rma_types.specs.declared.actions.Transfer.{Transfer}
+use Rattle.rma_types.specs.Actions.{transfer_of}
 use Rattle.call_rules.specs.declared.elements.Piece.{Piece}
 use Rattle.call_rules.specs.Elements.{Fits, element_in}
 use Rattle.access_steps.specs.Plans.{change_by}

@@ -13,8 +13,9 @@ ghost use Rattle.cell_replay.specs.Kept.{access_by as access_of_item, access_nam
 
 use crate::changes::dtype_of;
 use crate::states::state_of;
-use crate::touches::{CellTouch, calls_at, log_at, touches_in, updates_on};
+use crate::touches::{CellTouch, touches_in, updates_on};
 use cell_face::element_in;
+use rank_records::{calls_at, log_at};
 use rma_record::{Item, Run};
 use rma_types::{Access, Bits, Call, Dtype, Id, Items, Layout, NoMemory, Script};
 use script_layout::layout_of;

@@ -5,12 +5,12 @@ ghost use Rattle.std.specs.Option.{option_map_or};
 ghost use Rattle.rma_types.specs.declared.scripts.Layout.{Layout as LayoutValue};
 ghost use Rattle.call_rules.specs.WellFormed.{IsWellFormed, IsWrittenCall};
 ghost use Rattle.lawful_runs.specs.Accesses.{all_touches, on_cell, touches_of, touching_by, updates_in};
-ghost use Rattle.lawful_runs.specs.Logs.{calls_of, log_of};
 ghost use Rattle.cell_replay.specs.Kept.{change_issued as change_issued_by, change_kept, touching_of};
 ghost use Rattle.cell_replay.specs.Kept.{touchings_of};
 
 use crate::changes::change_in;
 use call_rules::Change;
+use rank_records::{calls_at, log_at};
 use rma_record::{Item, Run};
 use rma_types::{Call, Id, Items, NoMemory, Script};
 use std::alloc::Global;
@@ -113,26 +113,6 @@ fn push_touches(
         push_touch(touches, touch_of(calls, log, id, &log[at]))?;
     }
     Ok(())
-}
-
-/// The calls of a rank.
-pub(crate) fn calls_at(script: &Script, rank: u8) -> &[Call]
-    ensures { result.now ≡ calls_of script.now rank }
-{
-    match script.calls.get(rank as usize) {
-        Some(calls) => calls.as_slice(),
-        None => &[],
-    }
-}
-
-/// The log of a rank.
-pub(crate) fn log_at(run: &Run, rank: u8) -> &[Item]
-    ensures { result.now ≡ log_of run.now rank }
-{
-    match run.logs.get(rank as usize) {
-        Some(log) => log.items(),
-        None => &[],
-    }
 }
 
 /// The touches of a run, by rank.

@@ -3,15 +3,15 @@ use Rattle.std.proofs.Common.{◌≡◌, Bool, List, [], ◌∷◌, ◌++◌, So
 use Rattle.std.proofs.Common.{append_assoc}
 use Rattle.std.specs.Prelude.{Contains, IsTrue, ◌||◌, if◌then◌else◌}
 use Rattle.std.specs.Option.{option_map_or}
+use Rattle.list_laws.proofs.Members.{In, here, there, in_append_left, in_append_right, in_contains}
 use Rattle.rma_types.specs.declared.accesses.Id.{Id}
 use Rattle.rma_types.specs.declared.findings.Model.{Model}
 use Rattle.order_rules.specs.Findings.{findings_after, first_finding, pair_rule, unless_ordered}
 use Rattle.order_rules.specs.Ordered.{JudgedAccess, is_ordered, points_for, role_in}
 use Rattle.order_rules.specs.Roles.{Role, RmaUpdate, RmaRead, Store, Load, role_of}
 use Rattle.order_rules.specs.Rules.{forbidden_kind}
-use Rattle.order_laws.proofs.Members.{In, here, there, in_append_left, in_append_right, in_contains}
-use Rattle.point_laws.specs.PointLaws.{is_rma}
-use Rattle.judged_points.specs.Alike.{reaches, IsAlike, AreAlike, names_of}
+use Rattle.first_point_laws.specs.PointLaws.{is_rma}
+use Rattle.first_points.specs.Alike.{reaches, IsAlike, AreAlike, names_of}
 
 module _ (before : Id → Id → Bool) (ids : List Id) where
   -- the done points are asked for of an RMA access alone

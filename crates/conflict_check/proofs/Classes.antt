@@ -3,6 +3,7 @@ use Rattle.std.proofs.Common.{◌≡◌, Bool, true, false, not, Option, Some, N
 use Rattle.std.specs.Prelude.{◌&&◌, ◌||◌, ◌==◌, if◌then◌else◌}
 use Rattle.std.specs.Option.{is_some, option_map_or}
 use Rattle.std.proofs.lemmas.Bool.{false≢true}
+use Rattle.list_laws.proofs.Truths.{or_false, or_true, and_false, and_joined}
 use Rattle.rma_types.specs.declared.accesses.Access.{Access}
 use Rattle.rma_types.specs.declared.accesses.Kind.{Kind}
 use Rattle.rma_types.specs.declared.accesses.Kind.TheVariants.{Get, Put, Acc, Cas, Load as LoadKind, Store as StoreKind}
@@ -19,24 +20,6 @@ use Rattle.access_index.specs.declared.regions.Cast.{Cast}
 use Rattle.access_index.specs.declared.regions.Cast.TheVariants.{Update, Swap, Read, Store as StoreCast, Load as LoadCast}
 use Rattle.access_sweeps.specs.Labels.{do_stand, is_same_operation, label_of_kind}
 use Rattle.conflict_check.specs.Conflicts.{are_quiet, are_store_and_update, is_plain}
-
--- ---- tests
-
-and_false : (e : Bool) → (e && false) ≡ false
-and_false true = refl
-and_false false = refl
-
-and_grouped : (e d x : Bool) → (e && (d && x)) ≡ ((e && d) && x)
-and_grouped true d x = refl
-and_grouped false d x = refl
-
-or_true : (s : Bool) → (s || true) ≡ true
-or_true true = refl
-or_true false = refl
-
-or_false : (s : Bool) → (s || false) ≡ s
-or_false true = refl
-or_false false = refl
 
 -- ---- rules
 
@@ -153,7 +136,7 @@ module _ (a b : Access) (pair : Pair) (meet : pair.overlaps ≡ true) (one : Boo
 
   cas_stands : (d e : Dtype) → (a.window == b.window && (is_same_dtype d e && true))
       ≡ ((a.window == b.window && is_same_dtype d e) && true)
-  cas_stands d e = and_grouped (a.window == b.window) (is_same_dtype d e) true
+  cas_stands d e = and_joined (a.window == b.window) (is_same_dtype d e) true
 
   pub meeting : (k l : Kind) → pair.is_excepted ≡ excepted k l → are_quiet (cast_of k) (cast_of l) ≡ false →
       is_some (rule_for pair (role_of k) (role_of l)) ≡ not (stand k l)
@@ -175,7 +158,7 @@ module _ (a b : Access) (pair : Pair) (meet : pair.overlaps ≡ true) (one : Boo
       between pair meet (stand (Acc op d) (Acc other e))
       (is ∙ ap (λ x. a.window == b.window && (is_same_dtype d e && x))
       (combined op other (is_no_op op) (is_no_op other) one loud)
-      ∙ and_grouped (a.window == b.window) (is_same_dtype d e)
+      ∙ and_joined (a.window == b.window) (is_same_dtype d e)
       (is_same_operation (kept_op (counts (cast_of (Acc op d)) (cast_of (Acc other e)) one) op)
       (kept_op (counts (cast_of (Acc op d)) (cast_of (Acc other e)) one) other)))
       (is_no_op op) (is_no_op other) loud

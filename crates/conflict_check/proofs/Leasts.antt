@@ -13,7 +13,7 @@ use Rattle.order_rules.specs.Findings.{first_finding, pair_rule, unless_ordered}
 use Rattle.order_rules.specs.Rules.{forbidden_kind}
 use Rattle.lawful_runs.specs.Accesses.{EachPair}
 use Rattle.order_laws.specs.FindingLaws.{IsSmaller}
-use Rattle.judged_points.specs.Alike.{AreAlike}
+use Rattle.first_points.specs.Alike.{AreAlike}
 use Rattle.order_rules.specs.Ordered.{JudgedAccess, is_ordered, role_in}
 use Rattle.vector_clocks.specs.Marks.{before_in}
 use Rattle.vector_clocks.specs.declared.marks.Mark.{Mark}

@@ -7,3 +7,4 @@ pub mod Ordinals
 pub mod Parts
 pub mod Readings
 pub mod Leasts
+pub mod WithoutFindings

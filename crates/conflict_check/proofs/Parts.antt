@@ -2,17 +2,12 @@
 use Rattle.std.proofs.Common.{◌≡◌, ℕ, zero, suc, ◌+◌, ◌<◌, List, [], ◌∷◌, ◌++◌, length, refl, ap, sym, ◌∙◌, arith}
 use Rattle.std.specs.Prelude.{drop, take, slice_index_or, Bool}
 use Rattle.std.specs.Option.{option_map_or}
+use Rattle.list_laws.proofs.Lists.{drop_at}
 use Rattle.rma_types.specs.declared.accesses.Id.{Id}
 use Rattle.rma_types.specs.declared.findings.Model.{Model}
 use Rattle.order_rules.specs.Findings.{findings_after, first_finding}
 use Rattle.order_rules.specs.Ordered.{JudgedAccess}
 use Rattle.access_sweeps.specs.Places.{judged_at, nobody}
-
-pub drop_at : {X : Type 0} (xs : List X) (k : ℕ) (d : X) → k < length xs →
-    drop k xs ≡ slice_index_or xs k d ∷ drop (suc k) xs
-drop_at [] k d within = absurd (omega arith)
-drop_at (x ∷ xs) zero d within = refl
-drop_at (x ∷ xs) (suc k) d within = drop_at xs k d (omega (arith, within))
 
 pub take_at : {X : Type 0} (xs : List X) (k : ℕ) (d : X) → k < length xs → take (suc k) xs ≡ take k xs
     ++ slice_index_or xs k d ∷ []

@@ -5,8 +5,8 @@ use Rattle.std.specs.Prelude.{map, nat_lt}
 use Rattle.std.specs.List.Sorted.{IsPartitionPoint, IsPartitionedBy}
 use Rattle.std.proofs.lemmas.Bool.{lt-ltb, ltb-false, ltb-true}
 use Rattle.order_rules.specs.Ordered.{JudgedAccess}
-use Rattle.judged_points.specs.Alike.{judged_by}
-use Rattle.judged_points.specs.declared.accesses.JudgedPoints.{JudgedPoints}
+use Rattle.first_points.specs.Alike.{judged_by}
+use Rattle.first_points.specs.declared.accesses.JudgedPoints.{JudgedPoints}
 use Rattle.access_index.specs.Indexes.{no_access}
 use Rattle.access_sweeps.specs.Places.{judged_at}
 use Rattle.access_sweeps.proofs.Partners.{judged_read}

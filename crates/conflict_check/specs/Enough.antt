@@ -4,7 +4,7 @@ use Rattle.rma_types.specs.declared.accesses.Id.{Id}
 use Rattle.rma_types.specs.declared.findings.Model.{Model}
 use Rattle.order_rules.specs.Findings.{findings_after}
 use Rattle.order_rules.specs.Ordered.{JudgedAccess}
-use Rattle.judged_points.specs.Alike.{AreAlike, names_of}
+use Rattle.first_points.specs.Alike.{AreAlike, names_of}
 
 -- points that stand for all give the same findings
 abbrev pub AlikePointsAreEnough : Type 0

@@ -6,7 +6,7 @@ use Rattle.rma_types.specs.declared.accesses.Access.{Access}
 use Rattle.order_rules.specs.Ordered.{JudgedAccess}
 use Rattle.order_laws.specs.FindingLaws.{IsSmaller}
 use Rattle.vector_clocks.specs.Marks.{before_in}
-use Rattle.judged_points.specs.Alike.{judged_by}
+use Rattle.first_points.specs.Alike.{judged_by}
 use Rattle.access_index.specs.Indexes.{IsRising}
 use Rattle.access_index.specs.Regions.{IsIn}
 use Rattle.access_index.specs.declared.regions.Class.{Class}

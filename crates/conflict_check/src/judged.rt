@@ -1,5 +1,5 @@
 //! What is judged.
-use judged_points::JudgedPoints;
+use first_points::JudgedPoints;
 use rma_types::Model;
 use vector_clocks::Clocks;
 

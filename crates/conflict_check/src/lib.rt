@@ -6,10 +6,12 @@ ghost use Rattle.conflict_check.specs.Enough.{AlikePointsAreEnough};
 
 mod conflicts;
 mod judged;
+mod judgements;
 mod listings;
 mod partners;
 mod run_findings;
 
+pub use judgements::judge;
 pub use run_findings::findings;
 
 /// Where some points of each access stand for all, the findings are the same: it is enough that both are before the

@@ -2,15 +2,15 @@
 ghost use Rattle.std.specs.Prelude.{◌≡◌, ◌+◌, ◌++◌, ◌∷◌, [], false, IfOk, map, nat_lt, OnOk, true};
 ghost use Rattle.std.specs.List.{All};
 ghost use Rattle.std.specs.List.Sorted.{IsPartitionPoint};
-ghost use Rattle.judged_points.specs.Alike.{judged_by};
-ghost use Rattle.judged_points.specs.declared.accesses.JudgedPoints.{JudgedPoints as PointsValue};
+ghost use Rattle.first_points.specs.Alike.{judged_by};
+ghost use Rattle.first_points.specs.declared.accesses.JudgedPoints.{JudgedPoints as PointsValue};
 ghost use Rattle.access_index.specs.Indexes.{HasAccesses};
 ghost use Rattle.access_index.specs.Lists.{classes_in};
 ghost use Rattle.conflict_check.specs.Listings.{IsAscending, IsListing, rows_of};
 ghost use Rattle.conflict_check.specs.declared.listings.Listing.{Listing as ListingValue};
 
 use access_index::{AccessIndex, Class, Group, Region};
-use judged_points::JudgedPoints;
+use first_points::JudgedPoints;
 use rma_types::{Items, NoMemory};
 use std::alloc::Global;
 

@@ -7,8 +7,9 @@ ghost use Rattle.std.specs.Option.{option_map_or};
 ghost use Rattle.rma_types.specs.declared.findings.Finding.{Finding as FindingValue};
 ghost use Rattle.order_rules.specs.Before.{IsOrder};
 ghost use Rattle.order_rules.specs.Findings.{findings as findings_of, findings_after, first_finding};
+ghost use Rattle.rank_records.specs.Kept.{IsRecorded};
 ghost use Rattle.vector_clocks.specs.Marks.{before_in};
-ghost use Rattle.judged_points.specs.Alike.{judged_by};
+ghost use Rattle.first_points.specs.Alike.{judged_by};
 ghost use Rattle.access_index.specs.Indexes.{HasAccesses};
 ghost use Rattle.access_sweeps.specs.Places.{ArePartners, judged_at};
 ghost use Rattle.conflict_check.specs.Listings.{AreLeast, IsAscending, judged_of, rows_of};
@@ -16,8 +17,9 @@ ghost use Rattle.conflict_check.specs.Listings.{AreLeast, IsAscending, judged_of
 use crate::judged::Judged;
 use crate::partners::least_partners;
 use access_index::AccessIndex;
-use judged_points::{JudgedPoints, judged_points};
+use first_points::{JudgedPoints, judged_points};
 use order_laws::findings_of_a_run;
+use rank_records::{RunRecord, records_of};
 use rma_record::Run;
 use rma_rules::forbidden_kind;
 use rma_types::{Finding, Items, Model, NoMemory, Script};
@@ -93,12 +95,36 @@ fn findings_with(
     Ok(found)
 }
 
-/// The findings of a lawful run by its clocks: for each access, in the order of their names, the forbidden pair
-/// with the least partner of a smaller name (after MPI 3.1, section 11.7, rules S1 to S3).
+/// The findings of a lawful run by its clocks and by what is kept of its logs.
 ///
 /// No pair of accesses is asked by itself. The accesses are put into tables by the blocks of four bytes that they
 /// reach, and two lists of a block are swept: each is gone through once. So the time is of the order of the bytes
 /// that accesses reach, times the number of lists of a block, which the number of ranks bounds.
+pub(crate) fn findings_by(
+    alloc: Global,
+    recorded: &RunRecord,
+    clocks: &Clocks,
+    model: Model,
+) -> Result<Items<Finding>, NoMemory>
+    requires recorded { IsRecorded recorded.now }
+    requires order { IsOrder recorded.now.script.now recorded.now.run.now (before_in clocks.now) }
+    ensures { IfOk result (λ found. found ≡
+        findings_of recorded.now.script.now recorded.now.run.now model (before_in clocks.now)) }
+{
+    findings_of_a_run();
+    let points = judged_points(alloc, recorded, clocks, model)?;
+    let accesses = points.as_slice();
+    let index = index_of(alloc, accesses)?;
+    let judged = Judged {
+        clocks,
+        accesses,
+        model,
+    };
+    findings_with(alloc, &judged, &index)
+}
+
+/// The findings of a lawful run by its clocks: for each access, in the order of their names, the forbidden pair
+/// with the least partner of a smaller name (after MPI 3.1, section 11.7, rules S1 to S3).
 pub fn findings(
     alloc: Global,
     script: &Script,
@@ -112,14 +138,6 @@ pub fn findings(
     ensures { IfOk result (λ found. found ≡ findings_of script.now run.now model
         (before_in clocks.now)) }
 {
-    findings_of_a_run();
-    let points = judged_points(alloc, script, run, clocks, model)?;
-    let accesses = points.as_slice();
-    let index = index_of(alloc, accesses)?;
-    let judged = Judged {
-        clocks,
-        accesses,
-        model,
-    };
-    findings_with(alloc, &judged, &index)
+    let recorded = records_of(alloc, script, run)?;
+    findings_by(alloc, &recorded, clocks, model)
 }

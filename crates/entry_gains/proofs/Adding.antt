@@ -5,10 +5,14 @@ use Rattle.std.specs.List.{flat_map}
 use Rattle.std.specs.Option.{option_map_or}
 use Rattle.rma_types.specs.declared.accesses.Step.{Step}
 use Rattle.rma_types.specs.declared.accesses.Step.TheVariants.{Arrive, Leave, One}
-use Rattle.call_rules.specs.Actions.{Action, Creates, Frees, Synchronises, Meets as MeetsAll, Synchronisation, Fences}
-use Rattle.call_rules.specs.Actions.{Posts as PostsTo, Starts as StartsTo, Completes as CompletesOne, Waits as WaitsFor}
-use Rattle.call_rules.specs.Actions.{Locks as LocksWith, Unlocks as UnlocksOf, Flushes, Syncs, action_of}
-use Rattle.call_rules.specs.Actions.{synchronisation_in, synchronisation_of}
+use Rattle.rma_types.specs.declared.actions.Action.{Action}
+use Rattle.rma_types.specs.declared.actions.Synchronisation.{Synchronisation}
+use Rattle.rma_types.specs.declared.actions.Action.TheVariants.{Creates, Frees, Synchronises, Meets as MeetsAll}
+use Rattle.rma_types.specs.declared.actions.Synchronisation.TheVariants.{Fences, Posts as PostsTo, Starts as StartsTo}
+use Rattle.rma_types.specs.declared.actions.Synchronisation.TheVariants.{Completes as CompletesOne, Waits as WaitsFor}
+use Rattle.rma_types.specs.declared.actions.Synchronisation.TheVariants.{Locks as LocksWith, Unlocks as UnlocksOf}
+use Rattle.rma_types.specs.declared.actions.Synchronisation.TheVariants.{Flushes, Syncs}
+use Rattle.rma_types.specs.Actions.{action_of, synchronisation_in, synchronisation_of}
 use Rattle.call_rules.specs.Ranks.{members_of}
 use Rattle.board_rules.specs.Entries.{Act, Collective, Creation as CreationOf, Freeing as FreeingOf, Fence as FenceOf}
 use Rattle.board_rules.specs.Entries.{Barrier as BarrierOf, collective_in, collective_of, is_arrive, is_collective}

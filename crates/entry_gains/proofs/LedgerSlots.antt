@@ -11,10 +11,14 @@ use Rattle.rma_types.specs.declared.accesses.Step.{Step}
 use Rattle.rma_types.specs.declared.accesses.Step.TheVariants.{Arrive, Leave, One}
 use Rattle.rma_types.specs.declared.calls.Lock.{Lock}
 use Rattle.rma_types.specs.declared.calls.Lock.TheVariants.{Shared, Exclusive}
-use Rattle.call_rules.specs.Actions.{Action, Creates, Frees, Synchronises, Meets as MeetsAll, Synchronisation, Fences}
-use Rattle.call_rules.specs.Actions.{Posts as PostsTo, Starts as StartsTo, Completes as CompletesOne, Waits as WaitsFor}
-use Rattle.call_rules.specs.Actions.{Locks as LocksWith, Unlocks as UnlocksOf, Flushes, Syncs, action_of}
-use Rattle.call_rules.specs.Actions.{synchronisation_in, synchronisation_of}
+use Rattle.rma_types.specs.declared.actions.Action.{Action}
+use Rattle.rma_types.specs.declared.actions.Synchronisation.{Synchronisation}
+use Rattle.rma_types.specs.declared.actions.Action.TheVariants.{Creates, Frees, Synchronises, Meets as MeetsAll}
+use Rattle.rma_types.specs.declared.actions.Synchronisation.TheVariants.{Fences, Posts as PostsTo, Starts as StartsTo}
+use Rattle.rma_types.specs.declared.actions.Synchronisation.TheVariants.{Completes as CompletesOne, Waits as WaitsFor}
+use Rattle.rma_types.specs.declared.actions.Synchronisation.TheVariants.{Locks as LocksWith, Unlocks as UnlocksOf}
+use Rattle.rma_types.specs.declared.actions.Synchronisation.TheVariants.{Flushes, Syncs}
+use Rattle.rma_types.specs.Actions.{action_of, synchronisation_in, synchronisation_of}
 use Rattle.call_rules.specs.Ranks.{is_member, members_of}
 use Rattle.rank_rules.specs.EpochTests.{is_wrong_rank}
 use Rattle.board_rules.specs.Entries.{Act, Collective, Creation as CreationOf, Freeing as FreeingOf, Fence as FenceOf}

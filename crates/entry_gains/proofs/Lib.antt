@@ -1,5 +1,6 @@
 -- What entries gain.
 pub mod Adding
+pub mod BegunWindows
 pub mod DeedKinds
 pub mod EmptyTables
 pub mod Gathered

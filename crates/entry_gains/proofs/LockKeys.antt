@@ -3,16 +3,16 @@ use Rattle.std.proofs.Common.{◌≡◌, ℕ, ◌+◌, ◌<◌, ◌==◌, Bool, 
 use Rattle.std.proofs.lemmas.Bool.{cases_eq, true≢false, eq-eqb, lt-ltb, le-ltb, ltb-true}
 use Rattle.std.proofs.lemmas.Bool.Decides.{eqb_tells}
 use Rattle.std.specs.Prelude.{nat_lt}
+use Rattle.list_laws.proofs.Truths.{both_right, same_truth}
 use Rattle.entry_gains.specs.Tables.{is_reached_below, is_within, lock_eq, lock_key}
 use Rattle.entry_gains.specs.declared.deeds.Reach.{Reach}
 use Rattle.entry_gains.specs.declared.tables.LockKey.{LockKey}
 use Rattle.entry_gains.specs.declared.tables.SideKey.{SideKey}
-use Rattle.entry_gains.proofs.SlotLaws.{and_right, same_truth}
 
 -- none below 0
 pub reached_none : (side : SideKey) (reach : Reach) (key : LockKey) → is_reached_below 0 side reach key ≡ false
 unfolding is_reached_below
-reached_none side reach key = same_truth _ false (λ e. absurd (past key.target (and_right _ _ e)))
+reached_none side reach key = same_truth _ false (λ e. absurd (past key.target (both_right _ _ e)))
     (λ e. absurd (true≢false (sym e)))
   where
     past : (n : ℕ) → nat_lt n 0 ≡ true → ⊥

@@ -2,17 +2,20 @@
 use Rattle.std.proofs.Common.{◌≡◌, ℕ, ◌<◌, ◌≤◌, ◌==◌, Bool, true, false, not, ◌&&◌, ◌||◌, cond, List, [], ◌∷◌, ◌++◌}
 use Rattle.std.proofs.Common.{refl, ap, sym, ◌∙◌, arith, Option, Some, None, ℤ}
 use Rattle.std.proofs.lemmas.Bool.{true≢false, eqb-true, eq-eqb, lt-ltb}
-use Rattle.std.proofs.lemmas.Grind.{fold-append}
 use Rattle.std.proofs.lemmas.List.Folds.{list_any-append}
 use Rattle.std.specs.List.{filter, list_any}
 use Rattle.std.specs.Option.{option_map_or}
+use Rattle.list_laws.proofs.Tests.{any_alike, any_filter, any_map}
+use Rattle.list_laws.proofs.Truths.{and_three, both_left, both_right, same_truth}
 use Rattle.rma_types.specs.declared.calls.Asserts.{Asserts}
 use Rattle.rma_types.specs.declared.calls.Lock.{Lock}
 use Rattle.rma_types.specs.declared.calls.Lock.TheVariants.{Shared, Exclusive}
-use Rattle.call_rules.specs.Actions.{Locks as LocksWith, Unlocks as UnlocksOf, synchronisation_of}
+use Rattle.rma_types.specs.declared.actions.Synchronisation.TheVariants.{Locks as LocksWith, Unlocks as UnlocksOf}
+use Rattle.rma_types.specs.Actions.{synchronisation_of}
 use Rattle.board_rules.specs.Entries.{Act}
 use Rattle.board_rules.specs.Locks.{Held, held_after, held_after_entry, held_locks, is_exclusive, is_given_back}
 use Rattle.board_rules.specs.Locks.{locks_at, targets_of}
+use Rattle.board_rules.proofs.LockLaws.{held_more}
 use Rattle.entry_gains.specs.Deeds.{IsReach}
 use Rattle.entry_gains.specs.Given.{held_kind, is_held_at, is_reached}
 use Rattle.entry_gains.specs.Ledgers.{HasSameLocks, side_key}
@@ -20,8 +23,8 @@ use Rattle.entry_gains.specs.Tables.{held_at, is_reached_below, is_within, lock_
 use Rattle.entry_gains.specs.declared.deeds.Reach.{Reach}
 use Rattle.entry_gains.specs.declared.ledger.Ledger.{Ledger}
 use Rattle.entry_gains.specs.declared.tables.LockKey.{LockKey}
-use Rattle.entry_gains.proofs.MeetLocks.{any_alike, any_filter, any_map, some_target, target_case}
-use Rattle.entry_gains.proofs.SlotLaws.{and_both, and_left, and_right, same_truth}
+use Rattle.entry_gains.proofs.MeetLocks.{some_target, target_case}
+use Rattle.entry_gains.proofs.SlotLaws.{and_both}
 use Rattle.entry_gains.proofs.SlotPairs.{given_reach}
 use Rattle.entry_gains.proofs.PairEdges.{reach_back}
 
@@ -29,10 +32,6 @@ abbrev pub LocksAre : ℕ → Ledger → List Act → Type 0
 LocksAre ranks ledger entries = (window rank target : ℕ) → target < ranks →
     held_at ledger.held (lock_key (side_key window rank) target)
     ≡ held_kind (held_locks ranks entries) rank window target
-
-held_more : (ranks : ℕ) (entries : List Act) (act : Act) →
-    held_locks ranks (entries ++ act ∷ []) ≡ held_after_entry ranks (held_locks ranks entries) act
-held_more ranks entries act = fold-append (held_after_entry ranks) [] entries (act ∷ [])
 
 -- no lock and no unlock
 pub locks_kept : (ranks : ℕ) (before after : Ledger) (entries : List Act) (act : Act) → HasSameLocks before after →
@@ -85,9 +84,6 @@ three_to true true false e = absurd (true≢false (sym e))
 three_to true false c e = absurd (true≢false (sym e))
 three_to false b c e = absurd (true≢false (sym e))
 
-three_of : (a b c : Bool) → a ≡ true → b ≡ true → c ≡ true → (a && b && c) ≡ true
-three_of a b c e f g = rw (e, f, g) refl
-
 -- the locks that are taken, as a test finds them
 taken : (ranks : ℕ) (act : Act) (kind : Lock) (named : Option ℤ) (window rank target : ℕ) →
     list_any (is_held_at rank window target) (locks_at act.row.rank act.window kind (targets_of ranks named))
@@ -106,14 +102,14 @@ taken ranks act kind named window rank target =
     (λ at reached e.
     let each : ((act.row.rank == rank) ≡ true) × ((act.window == window) ≡ true) × ((at == target) ≡ true) =
     three_to (act.row.rank == rank) (act.window == window) (at == target) e in
-    three_of (act.window == window) (act.row.rank == rank)
+    and_three (act.window == window) (act.row.rank == rank)
     (is_reached ranks named target) each.1 each.0 (ap (is_reached ranks named) (sym (eqb-true at target each.2))
     ∙ reached)))
     (λ e.
     let each : ((act.window == window) ≡ true) × ((act.row.rank == rank) ≡ true) × (is_reached ranks named target
     ≡ true) = three_to (act.window == window) (act.row.rank == rank) (is_reached ranks named target) e in
     some_target (λ at. act.row.rank == rank && act.window == window && at == target) ranks named target each.2
-    (three_of (act.row.rank == rank) (act.window == window)
+    (and_three (act.row.rank == rank) (act.window == window)
     (target == target) each.1 each.0 (eq-eqb target target refl)))
 
 any_and : {X : Type 0} (test : X → Bool) (b : Bool) (xs : List X) →
@@ -214,17 +210,17 @@ back_own : (ranks : ℕ) (act : Act) (named : Option ℤ) (window rank target : 
 back_own ranks act named window rank target one within held =
     same_truth (is_given_back act.row.rank act.window named one) (is_own ranks act named window rank target)
     (λ back. and_both _ _ (and_both _ _
-    (eq-eqb _ _ (sym (eqb-true one.window act.window (and_right _ _ (and_left _ _ back)))
-    ∙ eqb-true one.window window (and_right _ _ (and_left _ _ held))))
-    (eq-eqb _ _ (sym (eqb-true one.holder act.row.rank (and_left _ _ (and_left _ _ back)))
-    ∙ eqb-true one.holder rank (and_left _ _ (and_left _ _ held)))))
+    (eq-eqb _ _ (sym (eqb-true one.window act.window (both_right _ _ (both_left _ _ back)))
+    ∙ eqb-true one.window window (both_right _ _ (both_left _ _ held))))
+    (eq-eqb _ _ (sym (eqb-true one.holder act.row.rank (both_left _ _ (both_left _ _ back)))
+    ∙ eqb-true one.holder rank (both_left _ _ (both_left _ _ held)))))
     (given_reach ranks act.row.rank act.window target named one within
-    (eqb-true one.target target (and_right _ _ held)) back))
-    (λ own. reach_back ranks act.row.rank act.window target named one (and_right _ _ own)
-    (and_both _ _ (and_both _ _ (eq-eqb _ _ (eqb-true one.holder rank (and_left _ _ (and_left _ _ held))
-    ∙ sym (eqb-true act.row.rank rank (and_right _ _ (and_left _ _ own)))))
-    (eq-eqb _ _ (eqb-true one.window window (and_right _ _ (and_left _ _ held))
-    ∙ sym (eqb-true act.window window (and_left _ _ (and_left _ _ own)))))) (and_right _ _ held)))
+    (eqb-true one.target target (both_right _ _ held)) back))
+    (λ own. reach_back ranks act.row.rank act.window target named one (both_right _ _ own)
+    (and_both _ _ (and_both _ _ (eq-eqb _ _ (eqb-true one.holder rank (both_left _ _ (both_left _ _ held))
+    ∙ sym (eqb-true act.row.rank rank (both_right _ _ (both_left _ _ own)))))
+    (eq-eqb _ _ (eqb-true one.window window (both_right _ _ (both_left _ _ held))
+    ∙ sym (eqb-true act.window window (both_left _ _ (both_left _ _ own)))))) (both_right _ _ held)))
 
 left_over : (ranks : ℕ) (act : Act) (named : Option ℤ) (window rank target : ℕ) (one : Held) → target < ranks →
     (b : Bool) → is_own ranks act named window rank target ≡ b →

@@ -4,10 +4,14 @@ use Rattle.std.proofs.Common.{Some, None}
 use Rattle.std.proofs.lemmas.Bool.{true≢false, eqb-true, eq-eqb}
 use Rattle.std.specs.Option.{option_map_or}
 use Rattle.std.specs.Prelude.{nat_lt}
+use Rattle.list_laws.proofs.Truths.{both_left, both_right, or_first, same_truth}
 use Rattle.rma_types.specs.declared.accesses.Step.{Step}
 use Rattle.rma_types.specs.declared.accesses.Step.TheVariants.{Arrive, Leave, One}
-use Rattle.call_rules.specs.Actions.{Synchronisation, Posts as PostsTo, Starts, Completes, Waits, Locks, Unlocks}
-use Rattle.call_rules.specs.Actions.{synchronisation_of}
+use Rattle.rma_types.specs.declared.actions.Synchronisation.{Synchronisation}
+use Rattle.rma_types.specs.declared.actions.Synchronisation.TheVariants.{Posts as PostsTo, Starts, Completes, Waits}
+use Rattle.rma_types.specs.declared.actions.Synchronisation.TheVariants.{Locks, Unlocks}
+use Rattle.rma_types.specs.Actions.{synchronisation_of}
+use Rattle.call_rules.proofs.NumbersFrom.{some_number}
 use Rattle.rank_rules.specs.EpochTests.{names_wrong_rank}
 use Rattle.board_rules.specs.Edges.{Event, are_of_one_round, are_on_one_window, is_arrive_to_leave, is_edge, is_edge_by}
 use Rattle.board_rules.specs.Edges.{is_matched_one}
@@ -15,12 +19,13 @@ use Rattle.board_rules.specs.Entries.{Collective, Creation, Freeing, Fence, Barr
 use Rattle.board_rules.specs.Entries.{is_same_collective}
 use Rattle.board_rules.specs.Questions.{Question}
 use Rattle.board_rules.specs.Rounds.{rounds_begun}
+use Rattle.board_rules.proofs.CollectiveLaws.{same_collective}
 use Rattle.entry_gains.specs.Given.{do_meet, fills, given_slot, is_filled_by, is_slot, meeting_of, read_slot}
 use Rattle.entry_gains.specs.Given.{slot_arrived, slot_asked, slot_given, slot_left, slot_read, slot_synchronised}
 use Rattle.entry_gains.specs.declared.slots.Slot.{Slot}
 use Rattle.entry_gains.specs.declared.slots.Slot.TheVariants.{Round, Post, Complete, Unlock}
-use Rattle.entry_gains.proofs.SlotLaws.{and_both, and_left, and_right, any_number, if_holds, is_slot_of, is_slot_to}
-use Rattle.entry_gains.proofs.SlotLaws.{number_case, or_first, same_truth}
+use Rattle.entry_gains.proofs.SlotLaws.{and_both, if_holds, is_slot_of, is_slot_to}
+use Rattle.entry_gains.proofs.SlotLaws.{number_case}
 use Rattle.entry_gains.proofs.SlotPairs.{Pair, or_none, MayMeet, pair_of}
 use Rattle.entry_gains.proofs.PairEdges.{unlock_case, Edge, edge_of}
 
@@ -36,9 +41,9 @@ pub record Meets (a : Question) (s : Step) (b : Question) (t : Step) : Type 0 wh
 
 pub meet_of : (a b : Event) → Meets a.asked a.step b.asked b.step → do_meet a b ≡ true
 unfolding do_meet fills
-meet_of a b shared = any_number (λ at. is_filled_by a (read_slot b.asked b.step at)) 0 32 shared.to (omega arith)
+meet_of a b shared = some_number (λ at. is_filled_by a (read_slot b.asked b.step at)) 0 32 shared.to (omega arith)
     (omega (arith, shared.to_below))
-    (rw shared.read (any_number (λ at. is_slot shared.slot (given_slot a.asked a.step at)) 0 32 shared.from
+    (rw shared.read (some_number (λ at. is_slot shared.slot (given_slot a.asked a.step at)) 0 32 shared.from
     (omega arith) (omega (arith, shared.from_below))
     (is_slot_of shared.slot (given_slot a.asked a.step shared.from) shared.filled)))
 
@@ -65,19 +70,6 @@ meet_case a b case e = number_case (λ at. is_filled_by a (read_slot b.asked b.s
 
 -- ---- collective calls
 
-same_collective : (c d : Collective) → is_same_collective c d ≡ true → c ≡ d
-same_collective Creation Creation e = refl
-same_collective Freeing Freeing e = refl
-same_collective Fence Fence e = refl
-same_collective Barrier Barrier e = refl
-same_collective c d e = absurd (true≢false (sym e))
-
-collective_same : (c : Collective) → is_same_collective c c ≡ true
-collective_same Creation = refl
-collective_same Freeing = refl
-collective_same Fence = refl
-collective_same Barrier = refl
-
 meeting_same_of : (c d : Collective) → meeting_of c ≡ meeting_of d → is_same_collective c d ≡ true
 meeting_same_of Creation Creation e = refl
 meeting_same_of Freeing Freeing e = refl
@@ -87,7 +79,7 @@ meeting_same_of c d e = cc
 
 round_shared : (a b : Event) → are_of_one_round a b ≡ true → Meets a.asked Arrive b.asked Leave
 round_shared a b e = of (collective_of a.asked.call)
-    (collective_of b.asked.call) refl refl (and_right _ _ (and_left _ _ e))
+    (collective_of b.asked.call) refl refl (both_right _ _ (both_left _ _ e))
   where
     of : (c d : Option Collective) → collective_of a.asked.call ≡ c → collective_of b.asked.call ≡ d →
         option_map_or (λ collective. option_map_or (is_same_collective collective) d false) c false ≡ true →
@@ -95,8 +87,8 @@ round_shared a b e = of (collective_of a.asked.call)
     of None d c_is d_is same = absurd (true≢false (sym same))
     of (Some c) None c_is d_is same = absurd (true≢false (sym same))
     of (Some c) (Some d) c_is d_is same =
-        let one : a.asked.window ≡ b.asked.window = eqb-true _ _ (and_left _ _ (and_left _ _ e)) in
-        let number : rounds_begun a.asked + 1 ≡ rounds_begun b.asked = eqb-true _ _ (and_right _ _ e) in
+        let one : a.asked.window ≡ b.asked.window = eqb-true _ _ (both_left _ _ (both_left _ _ e)) in
+        let number : rounds_begun a.asked + 1 ≡ rounds_begun b.asked = eqb-true _ _ (both_right _ _ e) in
         let kind : c ≡ d = same_collective c d same in
         record {
           slot = Round a.asked.window (meeting_of c) (rounds_begun a.asked + 1);
@@ -273,6 +265,6 @@ shared_steps a b One Leave later shared = absurd (leave_apart a b shared)
 pub edge_meets : (a b : Event) → MayMeet a b → right_of b.asked.ranks (synchronisation_of b.asked.call) ≡ false →
     is_edge a b ≡ do_meet a b
 edge_meets a b may right = same_truth (is_edge a b) (do_meet a b)
-    (λ edge. meet_of a b (steps_shared a b a.step b.step may right (and_left _ _ edge) (and_right _ _ edge)))
+    (λ edge. meet_of a b (steps_shared a b a.step b.step may right (both_left _ _ edge) (both_right _ _ edge)))
     (λ meet. meet_case a b (λ shared. let edge : (are_on_one_window a b ≡ true) × (Stepped a b a.step b.step ≡ true) =
     shared_steps a b a.step b.step may.later shared in and_both _ _ edge.0 edge.1) meet)

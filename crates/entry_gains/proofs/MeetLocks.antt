@@ -1,11 +1,14 @@
 -- The locks that an unlock gives back, by their slots.
-use Rattle.std.proofs.Common.{◌≡◌, cond, ℕ, ◌<◌, ◌==◌, Bool, true, false, not, ◌&&◌, ◌||◌, List, [], ◌∷◌, map, refl, ap}
+use Rattle.std.proofs.Common.{◌≡◌, cond, ℕ, ◌<◌, ◌==◌, Bool, true, false, not, ◌&&◌, ◌||◌, List, [], ◌∷◌, refl, ap}
 use Rattle.std.proofs.Common.{sym, ◌∙◌, arith, Option, Some, None, ℤ}
 use Rattle.std.proofs.lemmas.Bool.{true≢false, eqb-true, eq-eqb, lt-ltb, ltb-true}
-use Rattle.std.specs.List.{filter, list_any}
+use Rattle.std.specs.List.{list_any}
+use Rattle.list_laws.proofs.Tests.{any_alike, any_map, any_filter}
+use Rattle.list_laws.proofs.Truths.{both_left, or_first, or_second}
 use Rattle.rma_types.specs.declared.calls.Lock.{Lock}
 use Rattle.rma_types.specs.declared.calls.Lock.TheVariants.{Shared, Exclusive}
 use Rattle.call_rules.specs.Ranks.{natural}
+use Rattle.call_rules.proofs.NumbersFrom.{some_number}
 use Rattle.board_rules.specs.Edges.{locks_given_back}
 use Rattle.board_rules.specs.Locks.{Held, do_clash, held_here, held_locks, is_exclusive, is_given_back, locks_asked}
 use Rattle.board_rules.specs.Locks.{targets_of}
@@ -14,7 +17,7 @@ use Rattle.entry_gains.specs.Given.{held_kind, is_held_at, is_reached}
 use Rattle.entry_gains.specs.Plans.{unlock_slot_of}
 use Rattle.entry_gains.specs.declared.slots.Slot.{Slot}
 use Rattle.entry_gains.specs.declared.slots.Slot.TheVariants.{Unlock}
-use Rattle.entry_gains.proofs.SlotLaws.{and_both, and_left, any_number, number_case, or_either, or_first, or_second}
+use Rattle.entry_gains.proofs.SlotLaws.{and_both, number_case, or_either}
 
 -- ---- locks
 
@@ -24,25 +27,6 @@ implied [] so e = e
 implied {X} {p} {q} (x ∷ xs) so e =
     or_either (p x) (list_any p xs) (λ here. or_first (q x) (list_any q xs) (so x here))
     (λ later. or_second (q x) (list_any q xs) (implied xs so later)) e
-
-pub any_filter : {X : Type 0} (test p : X → Bool) (xs : List X) →
-    list_any test (filter p xs) ≡ list_any (λ x. p x && test x) xs
-any_filter test p [] = refl
-any_filter {X} test p (x ∷ xs) = one (p x) (any_filter test p xs)
-  where
-    one : (b : Bool) → list_any test (filter p xs) ≡ list_any (λ x. p x && test x) xs →
-        list_any test (cond b (x ∷ filter p xs) (filter p xs)) ≡ ((b && test x) || list_any (λ x. p x && test x) xs)
-    one true rest = ap (λ b. test x || b) rest
-    one false rest = rest
-
-pub any_map : {X Y : Type 0} (test : Y → Bool) (f : X → Y) (xs : List X) →
-    list_any test (map f xs) ≡ list_any (λ x. test (f x)) xs
-any_map test f [] = refl
-any_map test f (x ∷ xs) = ap (λ b. test (f x) || b) (any_map test f xs)
-
-pub any_alike : {X : Type 0} (p q : X → Bool) → ((x : X) → p x ≡ q x) → (xs : List X) → list_any p xs ≡ list_any q xs
-any_alike p q same [] = refl
-any_alike p q same (x ∷ xs) = rw (same x, any_alike p q same xs) refl
 
 pub target_case : {P : Type 0} (test : ℕ → Bool) (ranks : ℕ) (target : Option ℤ) →
     ((at : ℕ) → is_reached ranks target at ≡ true → test at ≡ true → P) →
@@ -56,7 +40,7 @@ pub some_target : (test : ℕ → Bool) (ranks : ℕ) (target : Option ℤ) (at 
     test at ≡ true → list_any test (targets_of ranks target) ≡ true
 some_target test ranks None at reached found =
     let below : at < ranks = ltb-true at ranks reached in
-    any_number test 0 ranks at (omega arith) (omega arith) found
+    some_number test 0 ranks at (omega arith) (omega arith) found
 some_target test ranks (Some target) at reached found =
     or_first (test (natural target)) false (ap test (sym (eqb-true at (natural target) reached)) ∙ found)
 
@@ -114,7 +98,7 @@ held_case {P} held rank window target exclusive slot e case =
   where
     weaker : list_any (λ (one : Held). is_held_at rank window target one && is_exclusive one.kind) held ≡ true →
         list_any (λ (one : Held). is_held_at rank window target one && true) held ≡ true
-    weaker is = implied held (λ one both. and_both _ _ (and_left _ _ both) refl) is
+    weaker is = implied held (λ one both. and_both _ _ (both_left _ _ both) refl) is
 
     at : (exclusive x y : Bool) → list_any
         (λ (one : Held). is_held_at rank window target one && is_exclusive one.kind) held ≡ x →

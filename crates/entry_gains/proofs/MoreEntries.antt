@@ -2,14 +2,15 @@
 use Rattle.std.proofs.Common.{◌≡◌, ℕ, suc, ◌+◌, ◌<◌, ◌≤◌, false, List, [], ◌∷◌, ◌++◌, length, append-nil, append_assoc}
 use Rattle.std.proofs.Common.{refl, ap, sym, ◌∙◌, arith, Option, Some, None}
 use Rattle.std.specs.List.{AllByRecursion, fold, zip}
-use Rattle.std.proofs.lemmas.List.{length-map, map-append}
+use Rattle.std.proofs.lemmas.List.{length-map}
 use Rattle.std.proofs.lemmas.Bool.{lt-ltb}
-use Rattle.call_rules.specs.Actions.{synchronisation_of}
+use Rattle.rma_types.specs.Actions.{synchronisation_of}
 use Rattle.call_rules.specs.Pieces.{numbers_from}
 use Rattle.board_rules.specs.Edges.{Event, events_after, events_of, is_edge}
 use Rattle.board_rules.specs.Entries.{Row}
 use Rattle.board_rules.specs.Questions.{question}
 use Rattle.kept_rows.specs.Gifts.{Front, Given, gained_by, next_event, rows_given}
+use Rattle.kept_rows.proofs.GiftLaws.{rows_more}
 use Rattle.entry_gains.specs.Given.{do_meet, fills, is_filled_by, read_slot}
 use Rattle.entry_gains.specs.Kept.{gained_at, gained_from, gathered, gift_if, kept_at, pairs_of}
 use Rattle.entry_gains.specs.Slots.{joined}
@@ -48,10 +49,6 @@ zip_more (z ∷ xs) (w ∷ ys) x y e = ap (λ rest. (z, w) ∷ rest) (zip_more x
 length_events : (ranks place : ℕ) (before rows : List Row) → length (events_after ranks place before rows) ≡ length rows
 length_events ranks place before [] = refl
 length_events ranks place before (row ∷ rows) = ap suc (length_events ranks (place + 1) (before ++ row ∷ []) rows)
-
-pub rows_more : (entries : List Given) (one : Given) →
-    rows_given (entries ++ one ∷ []) ≡ rows_given entries ++ one.row ∷ []
-rows_more entries one = map-append (λ (one : Given). one.row) entries (one ∷ [])
 
 pairs_more : (ranks : ℕ) (entries : List Given) (one : Given) →
     pairs_of ranks (entries ++ one ∷ []) ≡ pairs_of ranks entries ++ (

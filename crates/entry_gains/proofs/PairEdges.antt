@@ -4,9 +4,12 @@ use Rattle.std.proofs.Common.{◌∙◌, Option, Some, None, ℤ}
 use Rattle.std.proofs.lemmas.Bool.{eqb-true, eq-eqb}
 use Rattle.std.specs.List.{list_any}
 use Rattle.std.specs.Prelude.{nat_lt}
+use Rattle.list_laws.proofs.Truths.{both_left, both_right, or_first}
 use Rattle.rma_types.specs.declared.calls.Asserts.{Asserts}
 use Rattle.rma_types.specs.declared.calls.Lock.{Lock}
-use Rattle.call_rules.specs.Actions.{Synchronisation, Posts as PostsTo, Starts, Completes, Waits, Locks, Unlocks}
+use Rattle.rma_types.specs.declared.actions.Synchronisation.{Synchronisation}
+use Rattle.rma_types.specs.declared.actions.Synchronisation.TheVariants.{Posts as PostsTo, Starts, Completes, Waits}
+use Rattle.rma_types.specs.declared.actions.Synchronisation.TheVariants.{Locks, Unlocks}
 use Rattle.call_rules.specs.Ranks.{is_member, members_of, natural}
 use Rattle.board_rules.specs.Edges.{Event, are_on_one_window, group_completed, is_edge_by}
 use Rattle.board_rules.specs.Locks.{Held, do_clash, held_locks, is_exclusive, is_given_back}
@@ -16,7 +19,7 @@ use Rattle.entry_gains.specs.Given.{group_ended, is_held_at, is_reached, kind_he
 use Rattle.entry_gains.specs.Plans.{unlock_slot_of}
 use Rattle.entry_gains.specs.declared.slots.Slot.{Slot}
 use Rattle.entry_gains.specs.declared.slots.Slot.TheVariants.{Post, Complete, Unlock}
-use Rattle.entry_gains.proofs.SlotLaws.{and_both, and_left, and_right, if_holds, or_first}
+use Rattle.entry_gains.proofs.SlotLaws.{and_both, if_holds}
 use Rattle.entry_gains.proofs.MeetLocks.{implied, some_target, asked_at, is_met, locks_met, held_case}
 use Rattle.entry_gains.proofs.SlotPairs.{excluding}
 
@@ -58,9 +61,9 @@ started_edge a b g h x y from to slot filled read =
     let receiver : from ≡ b.asked.rank = cc (f.1, r.1) in
     let number : naming from (posts a.asked a.asked.rank) ≡ naming to (starts b.asked b.asked.rank) = cc (f.1, r.1) in
     let posted : is_member b.asked.rank (members_of g) ≡ true =
-    ap (λ k. is_member k (members_of g)) (sym receiver) ∙ and_right (nat_lt from 16) _ f.0 in
+    ap (λ k. is_member k (members_of g)) (sym receiver) ∙ both_right (nat_lt from 16) _ f.0 in
     let started : is_member a.asked.rank (members_of h) ≡ true =
-    ap (λ k. is_member k (members_of h)) sender ∙ and_right (nat_lt to 16) _ r.0 in
+    ap (λ k. is_member k (members_of h)) sender ∙ both_right (nat_lt to 16) _ r.0 in
     let counted : naming b.asked.rank (posts a.asked a.asked.rank) ≡ naming a.asked.rank (starts b.asked b.asked.rank) =
     ap (λ k. naming k (posts a.asked a.asked.rank)) (sym receiver)
     ∙ (number ∙ ap (λ k. naming k (starts b.asked b.asked.rank)) (sym sender)) in (
@@ -85,9 +88,9 @@ waited_edge a b tests from to slot filled read =
     let number : naming from (completed_groups a.asked a.asked.rank) + 1 ≡ naming to (posts b.asked b.asked.rank) =
     cc (f.1, r.1) in
     let ended : is_member b.asked.rank (group_completed a) ≡ true =
-    ap (λ k. is_member k (group_completed a)) (sym receiver) ∙ and_right (nat_lt from 16) _ f.0 in
+    ap (λ k. is_member k (group_completed a)) (sym receiver) ∙ both_right (nat_lt from 16) _ f.0 in
     let posted : is_member a.asked.rank (last_posted b.asked) ≡ true =
-    ap (λ k. is_member k (last_posted b.asked)) sender ∙ and_right (nat_lt to 16) _ r.0 in
+    ap (λ k. is_member k (last_posted b.asked)) sender ∙ both_right (nat_lt to 16) _ r.0 in
     let counted : naming b.asked.rank (completed_groups a.asked a.asked.rank) + 1
     ≡ naming a.asked.rank (posts b.asked b.asked.rank) =
     ap (λ k. naming k (completed_groups a.asked a.asked.rank) + 1) (sym receiver)
@@ -98,11 +101,11 @@ waited_edge a b tests from to slot filled read =
 
 pub reach_back : (ranks rank window at : ℕ) (unlocked : Option ℤ) (one : Held) → is_reached ranks unlocked at ≡ true →
     is_held_at rank window at one ≡ true → is_given_back rank window unlocked one ≡ true
-reach_back ranks rank window at None one reached held = and_both _ _ (and_left _ _ held) refl
+reach_back ranks rank window at None one reached held = and_both _ _ (both_left _ _ held) refl
 reach_back ranks rank window at (Some target) one reached held =
-    let here : one.target ≡ at = eqb-true one.target at (and_right _ _ held) in
+    let here : one.target ≡ at = eqb-true one.target at (both_right _ _ held) in
     let there : at ≡ natural target = eqb-true at (natural target) reached in
-    and_both _ _ (and_left _ _ held) (eq-eqb one.target (natural target) (here ∙ there))
+    and_both _ _ (both_left _ _ held) (eq-eqb one.target (natural target) (here ∙ there))
 
 pub locked_edge : (a b : Event) (unlocked : Option ℤ) (kind : Lock) (locked : Option ℤ) (asserts : Asserts)
     (from to : ℕ) (slot : Slot) → nat_lt a.place b.place ≡ true →
@@ -121,12 +124,12 @@ locked_edge a b unlocked kind locked asserts from to slot later filled read =
     let met : list_any (is_met a.asked unlocked b.asked kind locked) (held_locks a.asked.ranks a.asked.entries) ≡ true =
     implied (held_locks a.asked.ranks a.asked.entries)
     (λ one_held both.
-    let here : is_held_at a.asked.rank a.asked.window at one_held ≡ true = and_left _ _ both in
-    let window : (one_held.window == a.asked.window) ≡ true = and_right _ _ (and_left _ _ here) in
+    let here : is_held_at a.asked.rank a.asked.window at one_held ≡ true = both_left _ _ both in
+    let window : (one_held.window == a.asked.window) ≡ true = both_right _ _ (both_left _ _ here) in
     let there : one_held.window ≡ b.asked.window = eqb-true one_held.window a.asked.window window ∙ one in
     let clash : do_clash one_held (asked_at b.asked kind at) ≡ true =
-    and_both _ _ (and_both _ _ (eq-eqb one_held.window b.asked.window there) (and_right _ _ here))
-    (excluding one_held.kind kind exclusive excludes_it (and_right _ _ both)) in
+    and_both _ _ (and_both _ _ (eq-eqb one_held.window b.asked.window there) (both_right _ _ here))
+    (excluding one_held.kind kind exclusive excludes_it (both_right _ _ both)) in
     and_both _ _ window (and_both _ _ (reach_back a.asked.ranks a.asked.rank a.asked.window at unlocked one_held
     reached here)
     (some_target (λ target. do_clash one_held

@@ -6,14 +6,16 @@ use Rattle.std.specs.List.{AllByRecursion, fold, list_any}
 use Rattle.std.specs.Option.{option_map, option_map_or}
 use Rattle.rma_types.specs.declared.calls.Call.{Call}
 use Rattle.rma_types.specs.declared.calls.Call.TheVariants.{Put, Acc, GetAcc, Store}
-use Rattle.call_rules.specs.Actions.{action_of, synchronisation_of}
+use Rattle.rma_types.specs.Actions.{action_of, synchronisation_of}
 use Rattle.call_rules.specs.Pieces.{numbers_from}
 use Rattle.rank_rules.specs.EpochTests.{names_wrong_rank}
 use Rattle.board_rules.specs.Entries.{Act, Row, acts, acts_after, synchronisations, window_of}
 use Rattle.board_rules.specs.Questions.{question}
 use Rattle.kept_rows.specs.Gifts.{Front, Given, gained_by, next_event, rows_given}
-use Rattle.kept_rows.specs.KeptCalls.{kept_call, kept_row}
+use Rattle.rma_types.specs.KeptCalls.{kept_call}
+use Rattle.kept_rows.specs.KeptCalls.{kept_row}
 use Rattle.kept_rows.proofs.KeptActs.{synchronisation_kept, window_of_kept}
+use Rattle.kept_rows.proofs.GiftLaws.{rows_more}
 use Rattle.entry_gains.specs.Deeds.{IsDeed}
 use Rattle.entry_gains.specs.Gains.{IsNext, Keeps, one_more}
 use Rattle.entry_gains.specs.Given.{fills, given_slot, is_slot, meeting_of, read_slot}
@@ -33,7 +35,7 @@ use Rattle.entry_gains.specs.declared.slots.Slot.{Slot}
 use Rattle.entry_gains.proofs.Adding.{tables_more}
 use Rattle.entry_gains.proofs.LedgerSlots.{given_slots, read_slots}
 use Rattle.entry_gains.proofs.MeetEdges.{right_of}
-use Rattle.entry_gains.proofs.MoreEntries.{gained_is, kept_more, rows_more}
+use Rattle.entry_gains.proofs.MoreEntries.{gained_is, kept_more}
 
 -- ---- rows
 

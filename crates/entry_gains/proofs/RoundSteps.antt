@@ -7,8 +7,10 @@ use Rattle.std.proofs.lemmas.List.Elements.{filter-append}
 use Rattle.std.specs.List.{filter}
 use Rattle.std.specs.Option.{option_map_or}
 use Rattle.std.proofs.Math.Dec.{eqb}
+use Rattle.list_laws.proofs.Truths.{both_left, both_right, same_truth}
 use Rattle.board_rules.specs.Entries.{Act, Collective, Creation, Freeing, Fence, Barrier, arrivals, collective_of}
 use Rattle.board_rules.specs.Entries.{is_arrive, is_by_on, is_collective, is_same_collective}
+use Rattle.board_rules.proofs.EntryLaws.{is_arrival}
 use Rattle.entry_gains.specs.Given.{meeting_of}
 use Rattle.entry_gains.specs.Ledgers.{HasSameRounds, round_key}
 use Rattle.entry_gains.specs.Slots.{meeting_eq}
@@ -17,7 +19,7 @@ use Rattle.entry_gains.specs.declared.ledger.Ledger.{Ledger}
 use Rattle.entry_gains.specs.declared.slots.Meeting.{Meeting}
 use Rattle.entry_gains.specs.declared.tables.RoundKey.{RoundKey}
 use Rattle.entry_gains.proofs.LedgerSlots.{counted_is, few_arrivals}
-use Rattle.entry_gains.proofs.SlotLaws.{and_both, and_left, and_right, meeting_to, same_truth}
+use Rattle.entry_gains.proofs.SlotLaws.{and_both, meeting_to}
 
 -- ---- rounds
 
@@ -25,11 +27,6 @@ abbrev pub RoundsAre : Ledger → List Act → Type 0
 RoundsAre ledger entries = (window : ℕ) (collective : Collective) (rank : ℕ) →
     begun_at ledger.rounds (round_key window (meeting_of collective) rank)
     ≡ length (arrivals entries collective rank window)
-
--- the entry is an arrival of the rank at the collective on the window
-abbrev pub is_arrival : Collective → ℕ → ℕ → Act → Bool
-is_arrival collective rank window act =
-    is_by_on rank window act && is_arrive act.row.step && is_collective collective act.row.call
 
 arrivals_more : (entries : List Act) (act : Act) (collective : Collective) (rank window : ℕ) (b : Bool) →
     is_arrival collective rank window act ≡ b →
@@ -77,9 +74,9 @@ meeting_from Barrier d = refl
 round_to : (w v : ℕ) (m k : Meeting) (r t : ℕ) → round_eq (round_key w m r) (round_key v k t) ≡ true →
     round_key w m r ≡ round_key v k t
 round_to w v m k r t e =
-    let window : w ≡ v = eqb-true w v (and_left _ _ e) in
-    let meeting : m ≡ k = meeting_to m k (and_left (meeting_eq m k) (eqb r t) (and_right (eqb w v) _ e)) in
-    let rank : r ≡ t = eqb-true r t (and_right (meeting_eq m k) (eqb r t) (and_right (eqb w v) _ e)) in
+    let window : w ≡ v = eqb-true w v (both_left _ _ e) in
+    let meeting : m ≡ k = meeting_to m k (both_left (meeting_eq m k) (eqb r t) (both_right (eqb w v) _ e)) in
+    let rank : r ≡ t = eqb-true r t (both_right (meeting_eq m k) (eqb r t) (both_right (eqb w v) _ e)) in
     ap (λ w. round_key w m r) window ∙ (ap (λ m. round_key v m r) meeting ∙ ap (round_key v k) rank)
 
 arrival_is : (act : Act) (own collective : Collective) (rank window : ℕ) → collective_of act.row.call ≡ Some own →
@@ -97,15 +94,15 @@ arrival_is act own collective rank window is arrives = same_truth
         ≡ true → is_arrival collective rank window act ≡ true
     to e =
         let w : eqb act.window window ≡ true =
-        and_left (eqb act.window window)
+        both_left (eqb act.window window)
         (meeting_eq (meeting_of own) (meeting_of collective) && eqb act.row.rank rank) e in
         let rest : (meeting_eq (meeting_of own) (meeting_of collective) && eqb act.row.rank rank) ≡ true =
-        and_right (eqb act.window window)
+        both_right (eqb act.window window)
         (meeting_eq (meeting_of own) (meeting_of collective) && eqb act.row.rank rank) e in
         let m : meeting_eq (meeting_of own) (meeting_of collective) ≡ true =
-        and_left (meeting_eq (meeting_of own) (meeting_of collective)) (eqb act.row.rank rank) rest in
+        both_left (meeting_eq (meeting_of own) (meeting_of collective)) (eqb act.row.rank rank) rest in
         let r : eqb act.row.rank rank ≡ true =
-        and_right (meeting_eq (meeting_of own) (meeting_of collective)) (eqb act.row.rank rank) rest in
+        both_right (meeting_eq (meeting_of own) (meeting_of collective)) (eqb act.row.rank rank) rest in
         and_both (is_by_on rank window act && is_arrive act.row.step) (is_collective collective act.row.call)
         (and_both (is_by_on rank window act) (is_arrive act.row.step)
         (and_both (act.row.rank == rank) (act.window == window) r w) arrives) (same ∙ m)
@@ -115,15 +112,15 @@ arrival_is act own collective rank window is arrives = same_truth
         ≡ true
     from e =
         let by : is_by_on rank window act ≡ true =
-        and_left (is_by_on rank window act) (is_arrive act.row.step)
-        (and_left (is_by_on rank window act && is_arrive act.row.step) (is_collective collective act.row.call) e) in
+        both_left (is_by_on rank window act) (is_arrive act.row.step)
+        (both_left (is_by_on rank window act && is_arrive act.row.step) (is_collective collective act.row.call) e) in
         let m : meeting_eq (meeting_of own) (meeting_of collective) ≡ true =
-        sym same ∙ and_right (is_by_on rank window act && is_arrive act.row.step)
+        sym same ∙ both_right (is_by_on rank window act && is_arrive act.row.step)
         (is_collective collective act.row.call) e in
         and_both (eqb act.window window) (meeting_eq (meeting_of own) (meeting_of collective) && eqb act.row.rank rank)
-        (and_right (act.row.rank == rank) (act.window == window) by)
+        (both_right (act.row.rank == rank) (act.window == window) by)
         (and_both (meeting_eq (meeting_of own) (meeting_of collective))
-        (eqb act.row.rank rank) m (and_left (act.row.rank == rank) (act.window == window) by))
+        (eqb act.row.rank rank) m (both_left (act.row.rank == rank) (act.window == window) by))
 
 pub rounds_set : (before after : Ledger) (entries : List Act) (act : Act) (own : Collective) →
     collective_of act.row.call ≡ Some own → is_arrive act.row.step ≡ true → length entries < 4294967295 →

@@ -3,15 +3,20 @@ use Rattle.std.proofs.Common.{◌≡◌, ℕ, zero, suc, ◌+◌, ◌<◌, ◌�
 use Rattle.std.proofs.Common.{get_or, take, reverse, refl, ap, sym, ◌∙◌, arith, append-nil, ⊎_elim}
 use Rattle.std.proofs.lemmas.Bool.{cases_lt}
 use Rattle.std.proofs.lemmas.Grind.{flat_map-append}
-use Rattle.std.proofs.lemmas.List.{reverse-append, length-append, take-append-le}
-use Rattle.std.proofs.lemmas.List.Sums.{count_by-le-length, sum_by-append}
+use Rattle.std.proofs.lemmas.List.{length-append, take-append-le}
+use Rattle.std.proofs.lemmas.List.Sums.{count_by-le-length}
 use Rattle.std.specs.List.{count_by, flat_map}
 use Rattle.std.specs.Prelude.{slice_index, slice_index_or}
+use Rattle.list_laws.proofs.Lists.{last_of}
+use Rattle.list_laws.proofs.Tests.{count_append}
 use Rattle.rma_types.specs.declared.calls.Asserts.{Asserts}
-use Rattle.call_rules.specs.Actions.{Synchronisation, Posts as PostsTo, Starts as StartsTo, Completes as CompletesOne}
+use Rattle.rma_types.specs.declared.actions.Synchronisation.{Synchronisation}
+use Rattle.rma_types.specs.declared.actions.Synchronisation.TheVariants.{Posts as PostsTo, Starts as StartsTo}
+use Rattle.rma_types.specs.declared.actions.Synchronisation.TheVariants.{Completes as CompletesOne}
 use Rattle.call_rules.specs.Ranks.{is_member, members_of}
 use Rattle.board_rules.specs.Posts.{group_of_post, group_of_start, is_complete, naming}
 use Rattle.std.specs.Prelude.{ℤ}
+use Rattle.board_rules.proofs.PostLaws.{naming_more}
 use Rattle.entry_gains.specs.Deeds.{IsGroup}
 use Rattle.entry_gains.specs.Ledgers.{HasCompleted, HasPosted, HasStarted, IsSide, ordinal}
 use Rattle.entry_gains.specs.Tables.{counted}
@@ -19,19 +24,6 @@ use Rattle.entry_gains.specs.declared.tables.Side.{Side}
 use Rattle.entry_gains.proofs.LedgerSlots.{counted_is}
 
 -- ---- counts
-
-count_more : {X : Type 0} (p : X → Bool) (xs ys : List X) → count_by p (xs ++ ys) ≡ count_by p xs + count_by p ys
-count_more p xs ys = sum_by-append (λ x. cond (p x) 1 0) xs ys
-
-naming_more : (rank : ℕ) (groups : List (List ℕ)) (group : List ℕ) →
-    naming rank (groups ++ group ∷ []) ≡ naming rank groups + cond (is_member rank group) 1 0
-naming_more rank groups group =
-    let one : count_by (is_member rank) (group ∷ []) ≡ cond (is_member rank group) 1 0 =
-    zero_plus (cond (is_member rank group) 1 0) in
-    count_more (is_member rank) groups (group ∷ []) ∙ ap (λ n. naming rank groups + n) one
-  where
-    zero_plus : (n : ℕ) → 0 + n ≡ n
-    zero_plus n = omega arith
 
 pub length_flat : {X Y : Type 0} (f : X → List Y) → ((x : X) → length (f x) ≤ 1) → (xs : List X) →
     length (flat_map f xs) ≤ length xs
@@ -82,7 +74,7 @@ count_none : (made : List Synchronisation) (s : Synchronisation) → is_complete
     count_by is_complete (made ++ s ∷ []) ≡ count_by is_complete made
 count_none made s none =
     let plain : count_by is_complete made + (0 + cond false 1 0) ≡ count_by is_complete made = omega arith in
-    count_more is_complete made (s ∷ []) ∙ (ap (λ b. count_by is_complete made + (0 + cond b 1 0)) none ∙ plain)
+    count_append is_complete made (s ∷ []) ∙ (ap (λ b. count_by is_complete made + (0 + cond b 1 0)) none ∙ plain)
 
 -- a synchronisation that is no post, no start and no complete
 pub idle_side : (made : List Synchronisation) (s : Synchronisation) (side : Side) → group_of_post s ≡ [] →
@@ -97,9 +89,6 @@ idle_side made s side posts starts completes is = record {
 }
 
 -- ---- a post, a start and a complete
-
-last_of : (groups : List (List ℕ)) (group : List ℕ) → get_or (reverse (groups ++ group ∷ [])) 0 [] ≡ group
-last_of groups group = ap (λ xs. get_or xs 0 []) (reverse-append groups (group ∷ []))
 
 pub post_side : (made : List Synchronisation) (group : List ℤ) (asserts : Asserts) (side new : Side)
     (named : List Bool) → length made < 4294967295 → IsGroup named (members_of group) → HasPosted side new named →
@@ -166,7 +155,7 @@ complete_side made side new few has is =
           (flat_same group_of_post made CompletesOne refl)));
       starts = has.starts ∙ (is.starts ∙ sym (ap length (flat_same group_of_start made CompletesOne refl)));
       completes = has.completes ∙ (ap counted is.completes ∙ (counted_is (count_by is_complete made) (omega arith)
-          ∙ sym (count_more is_complete made (CompletesOne ∷ []) ∙ one)));
+          ∙ sym (count_append is_complete made (CompletesOne ∷ []) ∙ one)));
     }
 
 -- ---- the numbers of a start

@@ -1,10 +1,11 @@
 -- Slots are equal where the test of equality says so; tests over the first numbers.
 use Rattle.std.proofs.Common.{◌≡◌, ℕ, zero, suc, ◌+◌, ◌<◌, ◌≤◌, Bool, true, false, ◌&&◌, ◌||◌, List, [], ◌∷◌, refl, ap}
-use Rattle.std.proofs.Common.{sym, ◌∙◌, arith, ⊎_elim, Option, Some, None}
-use Rattle.std.proofs.lemmas.Bool.{cases_eq, true≢false, eqb-true, eq-eqb}
+use Rattle.std.proofs.Common.{sym, arith, Option, Some, None}
+use Rattle.std.proofs.lemmas.Bool.{true≢false, eqb-true, eq-eqb}
 use Rattle.std.specs.Bool.{beq}
 use Rattle.std.proofs.Math.Dec.{eqb}
 use Rattle.std.specs.List.{list_any}
+use Rattle.list_laws.proofs.Truths.{or_first, bool_same, bool_self}
 use Rattle.call_rules.specs.Pieces.{numbers_from}
 use Rattle.call_rules.specs.Ranks.{is_member}
 use Rattle.entry_gains.specs.Given.{is_slot}
@@ -17,14 +18,6 @@ use Rattle.entry_gains.specs.declared.slots.Slot.TheVariants.{Round, Post, Compl
 
 -- ---- tests
 
-pub and_left : (a b : Bool) → (a && b) ≡ true → a ≡ true
-and_left true b e = refl
-and_left false b e = e
-
-pub and_right : (a b : Bool) → (a && b) ≡ true → b ≡ true
-and_right true b e = e
-and_right false b e = absurd (true≢false (sym e))
-
 pub and_both : (a b : Bool) → a ≡ true → b ≡ true → (a && b) ≡ true
 and_both true b e f = f
 and_both false b e f = e
@@ -32,20 +25,6 @@ and_both false b e f = e
 pub or_either : (a b : Bool) {P : Type 0} → (a ≡ true → P) → (b ≡ true → P) → (a || b) ≡ true → P
 or_either true b left right e = left refl
 or_either false b left right e = right e
-
-pub or_first : (a b : Bool) → a ≡ true → (a || b) ≡ true
-or_first true b e = refl
-or_first false b e = absurd (true≢false (sym e))
-
-pub or_second : (a b : Bool) → b ≡ true → (a || b) ≡ true
-or_second true b e = refl
-or_second false b e = e
-
--- two tests that imply each other
-pub same_truth : (a b : Bool) → (a ≡ true → b ≡ true) → (b ≡ true → a ≡ true) → a ≡ b
-same_truth true b to from = sym (to refl)
-same_truth false true to from = from refl
-same_truth false false to from = refl
 
 -- some element passes
 pub any_here : {X : Type 0} (test : X → Bool) (x : X) (xs : List X) → test x ≡ true → list_any test (x ∷ xs) ≡ true
@@ -56,15 +35,6 @@ pub any_case : {X P : Type 0} (test : X → Bool) (xs : List X) → ((x : X) →
     list_any test xs ≡ true → P
 any_case test [] case e = absurd (true≢false (sym e))
 any_case test (x ∷ xs) case e = or_either (test x) (list_any test xs) (case x) (any_case test xs case) e
-
-pub any_number : (test : ℕ → Bool) (first count k : ℕ) → first ≤ k → k < first + count → test k ≡ true →
-    list_any test (numbers_from first count) ≡ true
-any_number test first zero k low high found = absurd (omega arith)
-any_number test first (suc count) k low high found = ⊎_elim
-    (λ e. or_first (test first) (list_any test (numbers_from (first + 1) count)) (ap test (sym e) ∙ found))
-    (λ ne. or_second (test first) (list_any test (numbers_from (first + 1) count))
-    (any_number test (first + 1) count k (omega arith) (omega arith) found))
-    (cases_eq k first)
 
 pub number_case : {P : Type 0} (test : ℕ → Bool) (first count : ℕ) →
     ((k : ℕ) → first ≤ k → k < first + count → test k ≡ true → P) → list_any test (numbers_from first count) ≡ true → P
@@ -93,23 +63,13 @@ meeting_same Freeing = refl
 meeting_same Fence = refl
 meeting_same Barrier = refl
 
-truth_to : (a b : Bool) → beq a b ≡ true → a ≡ b
-truth_to true true e = refl
-truth_to false false e = refl
-truth_to true false e = absurd (true≢false (sym e))
-truth_to false true e = absurd (true≢false (sym e))
-
-truth_same : (a : Bool) → beq a a ≡ true
-truth_same true = refl
-truth_same false = refl
-
 pub slot_same : (a : Slot) → slot_eq a a ≡ true
 slot_same (Round w m r) = and_both _ _ (eq-eqb w w refl) (and_both _ _ (meeting_same m) (eq-eqb r r refl))
 slot_same (Post w f t n) = and_both _ _ (eq-eqb w w refl)
     (and_both _ _ (eq-eqb f f refl) (and_both _ _ (eq-eqb t t refl) (eq-eqb n n refl)))
 slot_same (Complete w f t n) = and_both _ _ (eq-eqb w w refl)
     (and_both _ _ (eq-eqb f f refl) (and_both _ _ (eq-eqb t t refl) (eq-eqb n n refl)))
-slot_same (Unlock w t e) = and_both _ _ (eq-eqb w w refl) (and_both _ _ (eq-eqb t t refl) (truth_same e))
+slot_same (Unlock w t e) = and_both _ _ (eq-eqb w w refl) (and_both _ _ (eq-eqb t t refl) (bool_self e))
 
 four_to : (a b c d : Bool) → (a && (b && (c && d))) ≡ true → (a ≡ true) × (b ≡ true) × (c ≡ true) × (d ≡ true)
 four_to true true true d e = (refl, refl, refl, e)
@@ -150,7 +110,7 @@ slot_to (Unlock w t x) (Unlock v u y) e =
     let each : (eqb w v ≡ true) × (eqb t u ≡ true) × (beq x y ≡ true) = three_to (eqb w v) (eqb t u) (beq x y) e in
     let a : w ≡ v = eqb-true w v each.0 in
     let b : t ≡ u = eqb-true t u each.1 in
-    let c : x ≡ y = truth_to x y each.2 in
+    let c : x ≡ y = bool_same x y each.2 in
     cc
 slot_to a b e = absurd (true≢false (sym e))
 

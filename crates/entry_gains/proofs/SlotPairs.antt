@@ -4,10 +4,13 @@ use Rattle.std.proofs.Common.{refl, ap, sym, ◌∙◌, arith, Option, Some, Non
 use Rattle.std.proofs.lemmas.Bool.{true≢false, eqb-true, eq-eqb, le-ltb, lt-ltb, ltb-true}
 use Rattle.std.specs.List.{list_any}
 use Rattle.std.specs.Prelude.{nat_lt}
+use Rattle.list_laws.proofs.Truths.{both_left, both_right, or_first, or_second}
 use Rattle.rma_types.specs.declared.calls.Asserts.{Asserts}
 use Rattle.rma_types.specs.declared.calls.Lock.{Lock}
 use Rattle.rma_types.specs.declared.calls.Lock.TheVariants.{Shared, Exclusive}
-use Rattle.call_rules.specs.Actions.{Synchronisation, Posts as PostsTo, Starts, Completes, Waits, Locks, Unlocks}
+use Rattle.rma_types.specs.declared.actions.Synchronisation.{Synchronisation}
+use Rattle.rma_types.specs.declared.actions.Synchronisation.TheVariants.{Posts as PostsTo, Starts, Completes, Waits}
+use Rattle.rma_types.specs.declared.actions.Synchronisation.TheVariants.{Locks, Unlocks}
 use Rattle.call_rules.specs.Ranks.{is_member, members_of, natural}
 use Rattle.rank_rules.specs.EpochTests.{is_wrong_rank, names_wrong_rank}
 use Rattle.board_rules.specs.Edges.{Event, are_on_one_window, group_completed, is_edge_by, is_locked_after}
@@ -19,7 +22,7 @@ use Rattle.entry_gains.specs.Given.{is_held_at, is_reached, kind_held, reached_s
 use Rattle.entry_gains.specs.Plans.{unlock_slot_of}
 use Rattle.entry_gains.specs.declared.slots.Slot.{Slot}
 use Rattle.entry_gains.specs.declared.slots.Slot.TheVariants.{Post, Complete, Unlock}
-use Rattle.entry_gains.proofs.SlotLaws.{and_both, and_left, and_right, holds_if, or_either, or_first, or_second}
+use Rattle.entry_gains.proofs.SlotLaws.{and_both, holds_if, or_either}
 use Rattle.entry_gains.proofs.MeetLocks.{implied, target_case, asked_at, is_met, locks_met, some_held, exclusive_held}
 
 -- ---- two synchronisations
@@ -59,10 +62,10 @@ pub started_pair : (a b : Event) (g h : List ℤ) (x y : Asserts) → a.asked.ra
     are_on_one_window a b ≡ true →
     is_started_by a (members_of g) b (members_of h) ≡ true → Pair a.asked b.asked (PostsTo g x) (Starts h y)
 started_pair a b g h x y few more window e =
-    let posted : is_member b.asked.rank (members_of g) ≡ true = and_left _ _ (and_left _ _ e) in
-    let started : is_member a.asked.rank (members_of h) ≡ true = and_right _ _ (and_left _ _ e) in
+    let posted : is_member b.asked.rank (members_of g) ≡ true = both_left _ _ (both_left _ _ e) in
+    let started : is_member a.asked.rank (members_of h) ≡ true = both_right _ _ (both_left _ _ e) in
     let number : naming b.asked.rank (posts a.asked a.asked.rank) ≡ naming a.asked.rank (starts b.asked b.asked.rank) =
-    eqb-true _ _ (and_right _ _ e) in
+    eqb-true _ _ (both_right _ _ e) in
     let one : a.asked.window ≡ b.asked.window = eqb-true a.asked.window b.asked.window window in
     record {
       slot = Post a.asked.window a.asked.rank b.asked.rank (naming b.asked.rank (posts a.asked a.asked.rank));
@@ -80,10 +83,10 @@ started_pair a b g h x y few more window e =
 pub waited_pair : (a b : Event) (tests : Bool) → a.asked.rank < 16 → b.asked.rank < 16 → are_on_one_window a b ≡ true →
     is_waited_for_by a b ≡ true → Pair a.asked b.asked Completes (Waits tests)
 waited_pair a b tests few more window e =
-    let ended : is_member b.asked.rank (group_completed a) ≡ true = and_left _ _ (and_left _ _ e) in
-    let posted : is_member a.asked.rank (last_posted b.asked) ≡ true = and_right _ _ (and_left _ _ e) in
+    let ended : is_member b.asked.rank (group_completed a) ≡ true = both_left _ _ (both_left _ _ e) in
+    let posted : is_member a.asked.rank (last_posted b.asked) ≡ true = both_right _ _ (both_left _ _ e) in
     let number : naming b.asked.rank (completed_groups a.asked a.asked.rank) + 1
-    ≡ naming a.asked.rank (posts b.asked b.asked.rank) = eqb-true _ _ (and_right _ _ e) in
+    ≡ naming a.asked.rank (posts b.asked b.asked.rank) = eqb-true _ _ (both_right _ _ e) in
     let one : a.asked.window ≡ b.asked.window = eqb-true a.asked.window b.asked.window window in
     record {
       slot = Complete a.asked.window a.asked.rank b.asked.rank
@@ -108,7 +111,7 @@ pub lock_pair : (a b : Event) (unlocked : Option ℤ) (kind : Lock) (locked : Op
 lock_pair a b unlocked Exclusive locked asserts at few within window reached held given =
     let same : a.asked.window ≡ b.asked.window = eqb-true a.asked.window b.asked.window window in
     let some : list_any (is_held_at a.asked.rank a.asked.window at) (held_locks a.asked.ranks a.asked.entries) ≡ true =
-    implied (held_locks a.asked.ranks a.asked.entries) (λ one both. and_left _ _ both) held in
+    implied (held_locks a.asked.ranks a.asked.entries) (λ one both. both_left _ _ both) held in
     record {
       slot = Unlock a.asked.window at false;
       from = at;
@@ -142,7 +145,7 @@ pub given_reach : (ranks rank window at : ℕ) (unlocked : Option ℤ) (one : He
     is_given_back rank window unlocked one ≡ true → is_reached ranks unlocked at ≡ true
 given_reach ranks rank window at None one within here back = lt-ltb at ranks within
 given_reach ranks rank window at (Some target) one within here back =
-    let e : one.target ≡ natural target = eqb-true one.target (natural target) (and_right _ _ back) in
+    let e : one.target ≡ natural target = eqb-true one.target (natural target) (both_right _ _ back) in
     eq-eqb at (natural target) (sym here ∙ e)
 
 -- an element that passes, and what passes at it
@@ -175,16 +178,16 @@ pub locked_pair : (a b : Event) (unlocked : Option ℤ) (kind : Lock) (locked : 
 locked_pair a b unlocked kind locked asserts few all right window e =
     any_element (is_met a.asked unlocked b.asked kind locked) (held_locks a.asked.ranks a.asked.entries)
     (λ one met others.
-    let here : (one.window == a.asked.window) ≡ true = and_left _ _ met in
+    let here : (one.window == a.asked.window) ≡ true = both_left _ _ met in
     let back : is_given_back a.asked.rank a.asked.window unlocked one ≡ true =
-    and_left _ _ (and_right (one.window == a.asked.window) _ met) in
+    both_left _ _ (both_right (one.window == a.asked.window) _ met) in
     let any : list_any (λ target. do_clash one (asked_at b.asked kind target)) (targets_of b.asked.ranks locked)
-    ≡ true = and_right _ _ (and_right (one.window == a.asked.window) _ met) in
+    ≡ true = both_right _ _ (both_right (one.window == a.asked.window) _ met) in
     target_case (λ target. do_clash one (asked_at b.asked kind target)) b.asked.ranks locked
     (λ at reached clash.
-    let target : (one.target == at) ≡ true = and_right _ _ (and_left _ _ clash) in
-    let excludes : excludes one.kind kind ≡ true = and_right _ _ clash in
-    let holder : (one.holder == a.asked.rank) ≡ true = and_left _ _ (and_left _ _ back) in
+    let target : (one.target == at) ≡ true = both_right _ _ (both_left _ _ clash) in
+    let excludes : excludes one.kind kind ≡ true = both_right _ _ clash in
+    let holder : (one.holder == a.asked.rank) ≡ true = both_left _ _ (both_left _ _ back) in
     let within : at < b.asked.ranks = reached_below b.asked.ranks locked at few right reached in
     lock_pair a b unlocked kind locked asserts at (omega arith) (omega arith) window reached
     (others (λ (one : Held). is_held_at a.asked.rank a.asked.window at one &&
@@ -192,7 +195,7 @@ locked_pair a b unlocked kind locked asserts few all right window e =
     (and_both _ _ (and_both _ _ (and_both _ _ holder here) target) (excluded one.kind kind excludes)))
     (given_reach a.asked.ranks a.asked.rank a.asked.window at unlocked one (omega arith)
     (eqb-true one.target at target) back)) any)
-    (sym (locks_met a.asked unlocked b.asked kind locked) ∙ and_right _ _ e)
+    (sym (locks_met a.asked unlocked b.asked kind locked) ∙ both_right _ _ e)
 
 -- ---- an edge between two synchronisations, and their slots
 

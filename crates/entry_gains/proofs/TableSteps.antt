@@ -9,8 +9,10 @@ use Rattle.std.specs.List.{count_by, filter, flat_map}
 use Rattle.std.specs.Option.{option_map_or}
 use Rattle.std.specs.Prelude.{slice_index, slice_index_or}
 use Rattle.std.proofs.Math.Dec.{eqb}
+use Rattle.list_laws.proofs.Truths.{both_left, both_right, same_truth}
 use Rattle.call_rules.specs.Ranks.{is_member}
-use Rattle.call_rules.specs.Actions.{Synchronisation, synchronisation_of}
+use Rattle.rma_types.specs.declared.actions.Synchronisation.{Synchronisation}
+use Rattle.rma_types.specs.Actions.{synchronisation_of}
 use Rattle.board_rules.specs.Entries.{Act, is_by_on, synchronisations}
 use Rattle.board_rules.specs.Posts.{group_of_post, group_of_start, is_complete, naming}
 use Rattle.entry_gains.specs.Ledgers.{HasSameSides, HasSameStarts, IsSide, SetsSide, ordinal, side_key, start_key}
@@ -21,7 +23,7 @@ use Rattle.entry_gains.specs.declared.tables.Side.{Side}
 use Rattle.entry_gains.specs.declared.tables.StartKey.{StartKey}
 use Rattle.entry_gains.proofs.LedgerSlots.{counted_is}
 use Rattle.entry_gains.proofs.SideSteps.{idle_side, length_flat, naming_few, one_start, ordinal_new, ordinal_other}
-use Rattle.entry_gains.proofs.SlotLaws.{and_both, and_left, and_right, same_truth}
+use Rattle.entry_gains.proofs.SlotLaws.{and_both}
 
 -- ---- lists of entries
 
@@ -68,11 +70,11 @@ key_is : (act : Act) (rank window : ℕ) →
 key_is act rank window = same_truth (side_eq (side_key act.window act.row.rank) (side_key window rank))
     (is_by_on rank window act)
     (λ e. and_both (act.row.rank == rank) (act.window == window)
-    (and_right (eqb act.window window) (eqb act.row.rank rank) e)
-    (and_left (eqb act.window window) (eqb act.row.rank rank) e))
+    (both_right (eqb act.window window) (eqb act.row.rank rank) e)
+    (both_left (eqb act.window window) (eqb act.row.rank rank) e))
     (λ e. and_both (eqb act.window window) (eqb act.row.rank rank)
-    (and_right (act.row.rank == rank) (act.window == window) e)
-    (and_left (act.row.rank == rank) (act.window == window) e))
+    (both_right (act.row.rank == rank) (act.window == window) e)
+    (both_left (act.row.rank == rank) (act.window == window) e))
 
 by_own : (act : Act) → is_by_on act.row.rank act.window act ≡ true
 by_own act = and_both (act.row.rank == act.row.rank) (act.window == act.window) (eq-eqb act.row.rank act.row.rank refl)
@@ -84,8 +86,8 @@ each_side : (P : ℕ → ℕ → Type 0) (act : Act) → P act.window act.row.ra
 each_side P act own others window rank = of (is_by_on rank window act) refl
   where
     of : (b : Bool) → is_by_on rank window act ≡ b → P window rank
-    of true is = subst (λ w. P w rank) (eqb-true act.window window (and_right _ _ is))
-        (subst (P act.window) (eqb-true act.row.rank rank (and_left _ _ is)) own)
+    of true is = subst (λ w. P w rank) (eqb-true act.window window (both_right _ _ is))
+        (subst (P act.window) (eqb-true act.row.rank rank (both_left _ _ is)) own)
     of false is = others window rank is
 
 -- ---- sides
@@ -212,10 +214,10 @@ starts_set before after entries act group named ordinals brings few told put sid
         (start_eq (start_key act.window act.row.rank (side_at before.sides (side_key act.window act.row.rank)).starts)
         (start_key window rank number)) false
         (λ e. sym other ∙ and_both (act.row.rank == rank) (act.window == window)
-        (and_left (eqb act.row.rank rank) (eqb (side_at before.sides (side_key act.window act.row.rank)).starts number)
-        (and_right (eqb act.window window)
+        (both_left (eqb act.row.rank rank) (eqb (side_at before.sides (side_key act.window act.row.rank)).starts number)
+        (both_right (eqb act.window window)
         (eqb act.row.rank rank && eqb (side_at before.sides (side_key act.window act.row.rank)).starts number) e))
-        (and_left (eqb act.window window) (eqb act.row.rank rank && eqb
+        (both_left (eqb act.window window) (eqb act.row.rank rank && eqb
         (side_at before.sides (side_key act.window act.row.rank)).starts number) e))
         (λ e. absurd (true≢false (sym e)))
 
@@ -267,9 +269,9 @@ starts_set before after entries act group named ordinals brings few told put sid
         (side_at before.sides (side_key act.window act.row.rank)).starts)
         (start_key act.window act.row.rank number)) false
         (λ e. absurd (ne (sym (eqb-true (side_at before.sides (side_key act.window act.row.rank)).starts number
-        (and_right (eqb act.row.rank act.row.rank)
+        (both_right (eqb act.row.rank act.row.rank)
         (eqb (side_at before.sides (side_key act.window act.row.rank)).starts number)
-        (and_right (eqb act.window act.window)
+        (both_right (eqb act.window act.window)
         (eqb act.row.rank act.row.rank && eqb
         (side_at before.sides (side_key act.window act.row.rank)).starts number) e)))
         ∙ side.starts))) (λ e. absurd (true≢false (sym e))) in

@@ -1,10 +1,14 @@
 -- What a call does to the tables, by what it is: MPI 3.1, section 11.5.
 use Rattle.std.specs.Prelude.{◌≡◌, ℕ, ◌<◌, Bool, false, List, Option, ℤ, slice_index_or}
 use Rattle.rma_types.specs.declared.calls.Lock.{Lock}
-use Rattle.call_rules.specs.Actions.{Action, Creates, Frees, Attaches, Detaches, Synchronises, Meets as MeetsAll, Moves}
-use Rattle.call_rules.specs.Actions.{EndsRequest, Synchronisation, Fences, Posts as PostsTo, Starts as StartsTo}
-use Rattle.call_rules.specs.Actions.{Completes as CompletesOne, Waits as WaitsFor, Locks as LocksWith}
-use Rattle.call_rules.specs.Actions.{Unlocks as UnlocksOf, Flushes, Syncs}
+use Rattle.rma_types.specs.declared.actions.Action.{Action}
+use Rattle.rma_types.specs.declared.actions.Action.TheVariants.{Creates, Frees, Attaches, Detaches, Synchronises}
+use Rattle.rma_types.specs.declared.actions.Action.TheVariants.{Meets as MeetsAll, Moves, EndsRequest}
+use Rattle.rma_types.specs.declared.actions.Synchronisation.{Synchronisation}
+use Rattle.rma_types.specs.declared.actions.Synchronisation.TheVariants.{Fences, Posts as PostsTo, Starts as StartsTo}
+use Rattle.rma_types.specs.declared.actions.Synchronisation.TheVariants.{Completes as CompletesOne, Waits as WaitsFor}
+use Rattle.rma_types.specs.declared.actions.Synchronisation.TheVariants.{Locks as LocksWith, Unlocks as UnlocksOf}
+use Rattle.rma_types.specs.declared.actions.Synchronisation.TheVariants.{Flushes, Syncs}
 use Rattle.call_rules.specs.Ranks.{is_member, members_of}
 use Rattle.entry_gains.specs.Given.{is_reached}
 use Rattle.entry_gains.specs.Tables.{is_within}

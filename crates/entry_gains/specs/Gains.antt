@@ -6,7 +6,7 @@ use Rattle.std.specs.List.{AllByRecursion}
 use Rattle.std.specs.Option.{option_map_or}
 use Rattle.rma_types.specs.declared.accesses.Step.{Step}
 use Rattle.rma_types.specs.declared.calls.Call.{Call}
-use Rattle.call_rules.specs.Actions.{synchronisation_of}
+use Rattle.rma_types.specs.Actions.{synchronisation_of}
 use Rattle.rank_rules.specs.EpochTests.{names_wrong_rank}
 use Rattle.board_rules.specs.Entries.{Row, acts, window_of}
 use Rattle.kept_rows.specs.Gifts.{Front, Given, rows_given}

@@ -7,8 +7,10 @@ use Rattle.rma_types.specs.declared.accesses.Step.{Step}
 use Rattle.rma_types.specs.declared.accesses.Step.TheVariants.{Arrive, Leave, One}
 use Rattle.rma_types.specs.declared.calls.Lock.{Lock}
 use Rattle.rma_types.specs.declared.calls.Lock.TheVariants.{Shared, Exclusive}
-use Rattle.call_rules.specs.Actions.{Synchronisation, Fences, Posts as PostsTo, Starts, Completes, Waits, Locks}
-use Rattle.call_rules.specs.Actions.{Unlocks, Flushes, Syncs, synchronisation_of}
+use Rattle.rma_types.specs.declared.actions.Synchronisation.{Synchronisation}
+use Rattle.rma_types.specs.declared.actions.Synchronisation.TheVariants.{Fences, Posts as PostsTo, Starts, Completes}
+use Rattle.rma_types.specs.declared.actions.Synchronisation.TheVariants.{Waits, Locks, Unlocks, Flushes, Syncs}
+use Rattle.rma_types.specs.Actions.{synchronisation_of}
 use Rattle.call_rules.specs.Pieces.{numbers_from}
 use Rattle.call_rules.specs.Ranks.{is_member, members_of, natural}
 use Rattle.board_rules.specs.Edges.{Event}

@@ -6,7 +6,7 @@ use Rattle.std.specs.List.{count_by, flat_map}
 use Rattle.rma_types.specs.declared.accesses.Step.{Step}
 use Rattle.rma_types.specs.declared.accesses.Step.TheVariants.{Arrive, Leave, One}
 use Rattle.rma_types.specs.declared.calls.Lock.{Lock}
-use Rattle.call_rules.specs.Actions.{Synchronisation}
+use Rattle.rma_types.specs.declared.actions.Synchronisation.{Synchronisation}
 use Rattle.call_rules.specs.Ranks.{is_member}
 use Rattle.board_rules.specs.Entries.{Act, Collective, arrivals, synchronisations}
 use Rattle.board_rules.specs.Locks.{held_locks, is_exclusive}

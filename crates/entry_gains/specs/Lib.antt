@@ -1,4 +1,5 @@
 -- What entries gain.
+pub mod ByPlace
 pub mod Deeds
 pub mod Gains
 pub mod Given

@@ -1,17 +1,18 @@
-//! What a call does to the tables: a call of 32 kinds as one of eight.
+//! What a call does to the tables, by what the call is.
 ghost use Rattle.std.specs.Prelude.{ℕ, List, [], ◌∷◌, ◌++◌, Some};
-ghost use Rattle.call_rules.specs.Actions.{action_of};
+ghost use Rattle.rma_types.specs.Actions.{action_of};
 ghost use Rattle.call_rules.specs.Ranks.{members_of, natural};
-ghost use Rattle.entry_gains.specs.Deeds.{IsDeed, IsGroup, IsReach};
+ghost use Rattle.entry_gains.specs.Deeds.{IsDeed, IsGroup, IsReach, IsSynchronisationDeed};
 
 use crate::slots::Meeting;
-use rma_types::{Call, Lock};
+use rma_types::{Action, Call, Lock, Synchronisation};
 
-/// The targets of a lock or an unlock: those from `first` up to `end`.
+/// The ranks that a lock or an unlock is for: those from the first up to, but without, the end (MPI 3.1, section
+/// 11.5.3).
 #[derive(Clone, Copy, Debug)]
-pub(crate) struct Reach {
-    pub(crate) first: u8,
-    pub(crate) end: u8,
+pub struct Reach {
+    pub first: u8,
+    pub end: u8,
 }
 
 /// What a call does.
@@ -65,37 +66,51 @@ fn one_target(target: &i32) -> Reach
     }
 }
 
+/// The targets of a lock or an unlock: all ranks, where it names none.
+fn reach_of(ranks: u8, target: &Option<i32>) -> Reach
+    ensures { IsReach ranks target.now result }
+{
+    match target {
+        None => Reach {
+            first: 0,
+            end: ranks,
+        },
+        Some(target) => one_target(target),
+    }
+}
+
+fn synchronisation_deed(ranks: u8, synchronisation: &Synchronisation<'_>) -> Deed
+    ensures { IsSynchronisationDeed ranks synchronisation.now result }
+{
+    match synchronisation {
+        Synchronisation::Fences(_) => Deed::Meets(Meeting::Fence),
+        Synchronisation::Posts(group, _) => Deed::Posts(named(group.as_slice())),
+        Synchronisation::Starts(group, _) => Deed::Starts(named(group.as_slice())),
+        Synchronisation::Completes => Deed::Completes,
+        Synchronisation::Waits { .. } => Deed::Waits,
+        Synchronisation::Locks(kind, target, _) => Deed::Locks {
+            kind: *kind,
+            reach: reach_of(ranks, target),
+        },
+        Synchronisation::Unlocks(target) => Deed::Unlocks {
+            reach: reach_of(ranks, target),
+        },
+        Synchronisation::Flushes { .. } | Synchronisation::Syncs => Deed::Nothing,
+    }
+}
+
 /// What a call does, in a run of so many ranks.
 pub(crate) fn deed_of(ranks: u8, call: &Call) -> Deed
     ensures { IsDeed ranks (action_of call.now) result }
 {
-    let all = Reach {
-        first: 0,
-        end: ranks,
-    };
-    match call {
-        Call::Allocate { .. } | Call::Create { .. } | Call::Dynamic { .. } => {
-            Deed::Meets(Meeting::Creation)
-        }
-        Call::Free { .. } => Deed::Meets(Meeting::Freeing),
-        Call::Fence { .. } => Deed::Meets(Meeting::Fence),
-        Call::Barrier => Deed::Meets(Meeting::Barrier),
-        Call::Post { group, .. } => Deed::Posts(named(group.as_slice())),
-        Call::Start { group, .. } => Deed::Starts(named(group.as_slice())),
-        Call::Complete { .. } => Deed::Completes,
-        Call::WaitWin { .. } | Call::TestWin { .. } => Deed::Waits,
-        Call::LockOne { kind, target, .. } => Deed::Locks {
-            kind: *kind,
-            reach: one_target(target),
-        },
-        Call::LockAll { .. } => Deed::Locks {
-            kind: Lock::Shared,
-            reach: all,
-        },
-        Call::Unlock { target, .. } => Deed::Unlocks {
-            reach: one_target(target),
-        },
-        Call::UnlockAll { .. } => Deed::Unlocks { reach: all },
-        _ => Deed::Nothing,
+    match call.action() {
+        Action::Creates(_) => Deed::Meets(Meeting::Creation),
+        Action::Frees { .. } => Deed::Meets(Meeting::Freeing),
+        Action::Synchronises(_, synchronisation) => synchronisation_deed(ranks, &synchronisation),
+        Action::Meets => Deed::Meets(Meeting::Barrier),
+        Action::Attaches { .. }
+        | Action::Detaches { .. }
+        | Action::Moves(_)
+        | Action::EndsRequest { .. } => Deed::Nothing,
     }
 }

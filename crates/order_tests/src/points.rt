@@ -1,7 +1,7 @@
 //! The done points and the visible points of accesses, a row for each kind of step that is one or that is none.
 use crate::plays::played;
 use crate::scripts::{PUT_BETWEEN_FENCES, PUT_FLUSHED, RING, id};
-use access_points::{done_points, led_from, visible_points};
+use every_point::{done_points, led_from, visible_points};
 use rma_types::{Id, Model, NoMemory};
 use std::process::Abort;
 

@@ -1,24 +1,23 @@
 -- The table of numbers follows what a rank knows.
 use Rattle.std.proofs.Common.{◌≡◌, ℕ, zero, suc, ◌+◌, ◌*◌, ◌<◌, inl, inr, true, false, cond, not, List, [], ◌∷◌, ◌++◌}
 use Rattle.std.proofs.Common.{Option, Some, None, length, replicate, refl, ap, sym, subst, ◌∙◌, arith}
-use Rattle.std.specs.Prelude.{◌==◌, is_some, slice_index, slice_index_or, slice_set}
+use Rattle.std.specs.Prelude.{◌==◌, slice_index, slice_index_or, slice_set}
 use Rattle.std.specs.List.{count_by, filter, find}
 use Rattle.std.specs.Option.{option_map}
-use Rattle.std.proofs.lemmas.Bool.{false≢true, cases_Bool, cases_eq, eqb-true, eq-eqb}
+use Rattle.std.proofs.lemmas.Bool.{cases_Bool, cases_eq, eqb-true, eq-eqb}
 use Rattle.std.proofs.lemmas.List.{length-set, length-replicate, get_or-set_same, get_or-set_other}
-use Rattle.std.proofs.lemmas.List.Sums.{sum_by-append, sum_by-cons}
+use Rattle.list_laws.proofs.Lists.{zeros}
+use Rattle.list_laws.proofs.Options.{none_of}
+use Rattle.list_laws.proofs.Tests.{one_more}
 use Rattle.rma_types.specs.declared.scripts.Part.{Part}
-use Rattle.call_rules.specs.Actions.{Creates, Frees, Creation}
+use Rattle.rma_types.specs.declared.actions.Creation.{Creation}
+use Rattle.rma_types.specs.declared.actions.Action.TheVariants.{Creates, Frees}
 use Rattle.rank_rules.specs.Windows.{RankWindows, Window, no_windows, window_of_name, is_live, windows_after}
 use Rattle.rma_rules.specs.WindowNumbers.{AreNumbers, IsEmptyTable, NumbersFollow, with_freed, with_made}
 use Rattle.rma_rules.specs.declared.numbers.WindowNumbers.{WindowNumbers}
 
 apart_eqb : (a b : ℕ) → (a ≡ b → ⊥) → (a == b) ≡ false
 apart_eqb a b apart = elim (cases_Bool (a == b)) [ inl same ↦ absurd (apart (eqb-true a b same)) | inr other ↦ other ]
-
-none_some : {X : Type 0} (o : Option X) → is_some o ≡ false → o ≡ None
-none_some None h = refl
-none_some (Some x) h = absurd (false≢true (sym h))
 
 -- ---- the first window of a name
 
@@ -60,15 +59,6 @@ stays (w ∷ windows) win other apart = elim (cases_Bool (w.win == win)) [
   | inr kept ↦ rw kept (ap (λ rest. cond (w.win == other) (Some w) rest) (stays windows win other apart))
 ]
 
--- ---- how many of a name
-
-one_more : (names : List ℕ) (win other : ℕ) → count_by (λ name. name == other) (names ++ win ∷ [])
-    ≡ count_by (λ name. name == other) names + cond (win == other) 1 0
-one_more names win other =
-    sum_by-append (λ name. cond (name == other) 1 0) names (win ∷ [])
-    ∙ ap (λ n. count_by (λ name. name == other) names + n) (sum_by-cons (λ name. cond (name == other) 1 0) win
-    [] ∙ omega arith)
-
 -- ---- the laws
 
 no_number : (n win : ℕ) → ◌≡◌ {A = Option ℕ} (slice_index_or (replicate n None) win None) None
@@ -76,18 +66,13 @@ no_number zero win = refl
 no_number (suc n) zero = refl
 no_number (suc n) (suc win) = no_number n win
 
-no_round : (n win : ℕ) → slice_index (replicate n 0) win ≡ 0
-no_round zero win = refl
-no_round (suc n) zero = refl
-no_round (suc n) (suc win) = no_round n win
-
 first : (rank ranks space : ℕ) (table : WindowNumbers) → IsEmptyTable table →
     AreNumbers (no_windows rank ranks space) table
 first rank ranks space table empty = record {
   names = ap length empty.0 ∙ length-replicate {A = Option ℕ} 32 None;
   rounds = ap length empty.1 ∙ length-replicate {A = ℕ} 32 0;
   live = λ win within. ap (λ l. slice_index_or l win None) empty.0 ∙ no_number 32 win;
-  counted = λ win within. ap (λ l. slice_index l win) empty.1 ∙ no_round 32 win;
+  counted = λ win within. ap (λ l. slice_index l win) empty.1 ∙ zeros 32 win;
 }
 
 creates : (shapes : ℕ → List Part) (known : RankWindows) (table : WindowNumbers) (creation : Creation) → creation.win
@@ -115,7 +100,7 @@ creates shapes known table creation within free old = record {
         ≡ option_map (λ (w : Window). w.number) (find (λ (w : Window). w.win == win) (known.windows ++ new ∷ []))
     live win below = elim (cases_eq win creation.win) [
       | inl same ↦
-          let none = none_some (window_of_name known creation.win) free in
+          let none = none_of (window_of_name known creation.win) free in
           let found = found_new known.windows new creation.win none (eq-eqb creation.win creation.win refl) in
           let at : slice_index_or (slice_set table.numbers creation.win
           (Some (32 * slice_index table.made creation.win + creation.win))) creation.win None ≡ Some new.number =

@@ -4,7 +4,8 @@ use Rattle.std.specs.Prelude.{slice_set, Some, None}
 use Rattle.std.specs.List.{count_by}
 use Rattle.std.specs.Option.{option_map}
 use Rattle.rma_types.specs.declared.scripts.Part.{Part}
-use Rattle.call_rules.specs.Actions.{Creates, Frees, Creation}
+use Rattle.rma_types.specs.declared.actions.Creation.{Creation}
+use Rattle.rma_types.specs.declared.actions.Action.TheVariants.{Creates, Frees}
 use Rattle.rank_rules.specs.Windows.{RankWindows, Window, no_windows, window_of_name, is_live, windows_after}
 use Rattle.rma_rules.specs.declared.numbers.WindowNumbers.{WindowNumbers}
 

@@ -6,8 +6,10 @@ use Rattle.std.proofs.Math.Bool.{and-false}
 use Rattle.rma_types.specs.declared.accesses.Step.{Step}
 use Rattle.rma_types.specs.declared.accesses.Step.TheVariants.{Arrive, Leave, One}
 use Rattle.rma_types.specs.declared.calls.Asserts.{Asserts}
-use Rattle.call_rules.specs.Actions.{Synchronisation, Fences, Posts, Starts, Completes, Waits, Locks, Unlocks, Flushes}
-use Rattle.call_rules.specs.Actions.{Syncs, synchronisation_of}
+use Rattle.rma_types.specs.declared.actions.Synchronisation.{Synchronisation}
+use Rattle.rma_types.specs.declared.actions.Synchronisation.TheVariants.{Fences, Posts, Starts, Completes, Waits, Locks}
+use Rattle.rma_types.specs.declared.actions.Synchronisation.TheVariants.{Unlocks, Flushes, Syncs}
+use Rattle.rma_types.specs.Actions.{synchronisation_of}
 use Rattle.board_rules.specs.Edges.{Event, are_on_one_window, are_of_one_round, is_arrive_to_leave, is_edge, is_edge_by}
 use Rattle.board_rules.specs.Edges.{is_matched_one}
 

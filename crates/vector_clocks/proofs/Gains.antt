@@ -5,13 +5,13 @@ use Rattle.std.specs.Prelude.{map, slice_index, if◌then◌else◌}
 use Rattle.std.specs.List.{flat_map, fold, zip}
 use Rattle.std.specs.Option.{option_map}
 use Rattle.std.proofs.lemmas.Bool.{cases_Bool}
+use Rattle.list_laws.proofs.Members.{In, here, there}
 use Rattle.board_rules.specs.Edges.{Event, events_of, is_edge}
 use Rattle.board_rules.specs.Entries.{Row}
 use Rattle.cell_face.specs.Fronts.{greater, greater_front}
 use Rattle.kept_rows.specs.Gifts.{Given, gained_by, gained_of, gift_to, next_event, rows_given}
 use Rattle.kept_rows.specs.KeptRowLaws.{kept_given}
 use Rattle.kept_rows.proofs.KeptGains.{gains_kept}
-use Rattle.order_laws.proofs.Members.{In, here, there}
 use Rattle.vector_clocks.specs.Replays.{Told, given_told}
 use Rattle.vector_clocks.proofs.Greater.{fold_first, fold_in, fold_from}
 

@@ -5,9 +5,9 @@ use Rattle.std.specs.Prelude.{max, slice_index}
 use Rattle.std.specs.List.{fold}
 use Rattle.std.proofs.lemmas.Bool.{cases_eq, cases_lt}
 use Rattle.std.proofs.lemmas.List.{get_or-set_same, get_or-set_other}
+use Rattle.list_laws.proofs.Members.{In, here, there}
 use Rattle.cell_face.specs.Fronts.{greater}
 use Rattle.vector_clocks.specs.Numbers.{raised}
-use Rattle.order_laws.proofs.Members.{In, here, there}
 
 pub greater_at : (xs ys : List ℕ) (rank : ℕ) → slice_index (greater xs ys) rank
     ≡ max (slice_index xs rank) (slice_index ys rank)

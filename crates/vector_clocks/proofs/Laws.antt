@@ -1,39 +1,29 @@
 -- The clocks of all entries keep their laws, and the test by rank is that of the stamps.
-use Rattle.std.proofs.Common.{◌≡◌, ℕ, ◌+◌, ◌<◌, ◌≤◌, inl, inr, true, List, [], ◌∷◌, ◌++◌, refl, ap, sym, subst, ◌∙◌}
+use Rattle.std.proofs.Common.{◌≡◌, ℕ, ◌<◌, ◌≤◌, inl, inr, true, List, [], ◌∷◌, ◌++◌, refl, ap, sym, subst, ◌∙◌}
 use Rattle.std.proofs.Common.{arith}
 use Rattle.std.specs.Prelude.{◌↔◌, IsTrue, map, ◌&&◌, ◌||◌, ◌==◌, nat_le, nat_lt}
 use Rattle.std.specs.List.{list_any}
 use Rattle.std.proofs.lemmas.Bool.{cases_Bool, and_parts, or_cases, eqb-true}
 use Rattle.std.proofs.lemmas.List.{map-append}
+use Rattle.list_laws.proofs.Each.{AllFrom}
+use Rattle.list_laws.proofs.Members.{In, here, there, append_in, in_append_left, in_map, map_in, contains_in}
+use Rattle.list_laws.proofs.Members.{in_contains}
 use Rattle.rma_types.specs.declared.accesses.Id.{Id}
 use Rattle.rma_types.specs.declared.schedules.Delay.{Delay}
 use Rattle.rma_types.specs.declared.scripts.Script.{Script}
 use Rattle.rma_record.specs.declared.runs.Run.{Run}
-use Rattle.board_rules.specs.Edges.{Event}
 use Rattle.lawful_runs.specs.LawfulRun.{IsLawful}
 use Rattle.lawful_runs.specs.Logs.{rows_of}
+use Rattle.order_rules.proofs.EventLaws.{later_place, IsEventAt}
 use Rattle.clock_rules.specs.Clocks.{Stamp, count_in, stands_before, precedes, is_counted, is_counted_by, IsCountedFrom}
 use Rattle.clock_rules.specs.Clocks.{KeepClockLaws}
 use Rattle.order_rules.specs.Before.{Before, NamedEvent, IsOrder, events_in, is_edge_between}
 use Rattle.order_laws.proofs.Decide.{precedes_ascends, clocks_decide}
-use Rattle.order_laws.proofs.Events.{AllFrom, from_in, IsEventAt, events_placed}
-use Rattle.order_laws.proofs.Members.{In, here, there, append_in, in_append_left, in_map, map_in, contains_in}
-use Rattle.order_laws.proofs.Members.{in_contains}
+use Rattle.order_laws.proofs.Events.{events_placed}
 use Rattle.vector_clocks.specs.Marks.{marks_of, is_marked, before_in}
 use Rattle.vector_clocks.specs.Replays.{Told, id_told, stamps_told, marks_told, AreNext}
 use Rattle.vector_clocks.specs.declared.marks.Mark.{Mark}
 use Rattle.vector_clocks.proofs.Nexts.{next_of}
-
-later_place : (script : Script) (run : Run) (at : ℕ) (xs : List NamedEvent) (y : NamedEvent) (ys : List NamedEvent)
-    (z : NamedEvent) →
-    AllFrom (IsEventAt script run (rows_of script run)) at (xs ++ y ∷ ys) → In z ys → y.event.place < z.event.place
-unfolding AllFrom
-later_place script run at [] y ys z all m =
-    let one = from_in (IsEventAt script run (rows_of script run)) (at + 1) ys all.1 m in
-    let first : y.event.place ≡ at = ap (λ (e : Event). e.place) all.0.event in
-    let second : z.event.place ≡ at + 1 + one.0 = ap (λ (e : Event). e.place) one.1.event in
-    omega arith
-later_place script run at (x ∷ xs) y ys z all m = later_place script run (at + 1) xs y ys z all.1 m
 
 entry_told : Told → NamedEvent
 entry_told t = t.stamp.entry

@@ -5,13 +5,13 @@ use Rattle.std.specs.Prelude.{Contains, map, slice_index, ◌==◌, nat_lt}
 use Rattle.std.specs.Option.{option_map}
 use Rattle.std.proofs.lemmas.Bool.{or_left, or_right, and_from, cases_lt, eq-eqb, lt-ltb}
 use Rattle.std.proofs.lemmas.List.{append-nil}
+use Rattle.list_laws.proofs.Members.{In, here, there, contains_in, in_contains, in_map}
 use Rattle.rma_types.specs.declared.accesses.Id.{Id}
 use Rattle.board_rules.specs.Edges.{Event, events_of, is_edge}
 use Rattle.board_rules.specs.Entries.{Row}
 use Rattle.cell_face.specs.Fronts.{greater}
 use Rattle.clock_rules.specs.Clocks.{count_in, stands_before, IsCountedFrom}
 use Rattle.kept_rows.specs.Gifts.{gained_by, next_event}
-use Rattle.order_laws.proofs.Members.{In, here, there, contains_in, in_contains, in_map}
 use Rattle.vector_clocks.specs.Numbers.{raised, counts_of}
 use Rattle.vector_clocks.specs.Replays.{Told, id_told, stamps_told, given_told, IsNext, AreNext}
 use Rattle.vector_clocks.proofs.Chains.{no_chain}

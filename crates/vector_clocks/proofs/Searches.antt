@@ -6,8 +6,8 @@ use Rattle.std.specs.List.{list_any}
 use Rattle.std.specs.List.Sorted.{IsPartitionedBy, IsPartitionPoint}
 use Rattle.std.proofs.lemmas.Bool.{false≢true, cases_Bool, cases_lt, and_parts, and_from, leb-true, le-leb, lt-ltb}
 use Rattle.std.proofs.lemmas.Bool.{ltb-true}
+use Rattle.list_laws.proofs.Members.{In, here, there, any_in, in_any, in_contains}
 use Rattle.rma_types.specs.declared.accesses.Id.{Id}
-use Rattle.order_laws.proofs.Members.{In, here, there, any_in, in_any, in_contains}
 use Rattle.vector_clocks.specs.Marks.{IsBelow, IsSorted, is_marked}
 use Rattle.vector_clocks.specs.declared.marks.Mark.{Mark}
 

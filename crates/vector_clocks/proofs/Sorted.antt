@@ -1,11 +1,12 @@
 -- The marks of a rank are in order, and what the last of them counts.
-use Rattle.std.proofs.Common.{◌≡◌, ℕ, zero, suc, ◌<◌, ◌≤◌, inl, inr, true, List, [], ◌∷◌, ◌++◌, refl, sym, subst, ◌∙◌}
+use Rattle.std.proofs.Common.{◌≡◌, ℕ, ◌<◌, ◌≤◌, inl, inr, true, List, [], ◌∷◌, ◌++◌, refl, sym, subst, ◌∙◌}
 use Rattle.std.proofs.Common.{arith}
-use Rattle.std.specs.Prelude.{Contains, replicate, slice_index, ◌==◌}
+use Rattle.std.specs.Prelude.{Contains, slice_index, ◌==◌}
 use Rattle.std.proofs.lemmas.Bool.{cases_Bool, eqb-true, eq-eqb}
+use Rattle.list_laws.proofs.Lists.{zeros}
+use Rattle.list_laws.proofs.Members.{In, here, there, in_append_left, in_append_right, contains_in, in_contains}
 use Rattle.rma_types.specs.declared.accesses.Id.{Id}
 use Rattle.clock_rules.specs.Clocks.{count_in}
-use Rattle.order_laws.proofs.Members.{In, here, there, in_append_left, in_append_right, contains_in, in_contains}
 use Rattle.vector_clocks.specs.Marks.{IsBelow, IsSorted, last_counts}
 use Rattle.vector_clocks.specs.Replays.{Told, id_told, mark_told, marks_told, AreNext}
 use Rattle.vector_clocks.specs.declared.marks.Mark.{Mark}
@@ -67,14 +68,9 @@ last_above (x ∷ y ∷ rest) sorted here rank =
     omega (arith, more, step)
 last_above (x ∷ y ∷ rest) sorted (there m) rank = last_above (y ∷ rest) sorted.1 m rank
 
-no_count : (n rank : ℕ) → slice_index (replicate n 0) rank ≡ 0
-no_count zero rank = refl
-no_count (suc n) zero = refl
-no_count (suc n) (suc rank) = no_count n rank
-
 last_from : (marks : List Mark) (rank n : ℕ) → n < slice_index (last_counts marks) rank →
     (mark : Mark) × In mark marks × (n < slice_index mark.counts rank)
-last_from [] rank n below = let none = no_count 16 rank in absurd (omega (arith, below, none))
+last_from [] rank n below = let none = zeros 16 rank in absurd (omega (arith, below, none))
 last_from (x ∷ []) rank n below = (x, here, below)
 last_from (x ∷ y ∷ rest) rank n below = let one = last_from (y ∷ rest) rank n below in (one.0, there one.1, one.2)
 

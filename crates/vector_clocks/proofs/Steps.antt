@@ -4,12 +4,12 @@ use Rattle.std.proofs.Common.{subst, ◌∙◌, arith}
 use Rattle.std.specs.Prelude.{slice_set, ◌==◌}
 use Rattle.std.proofs.lemmas.Bool.{cases_Bool, cases_eq, cases_lt, eqb-true, eq-eqb}
 use Rattle.std.proofs.lemmas.List.{append-nil}
+use Rattle.list_laws.proofs.Members.{In}
 use Rattle.rma_types.specs.declared.schedules.Delay.{Delay}
 use Rattle.rma_types.specs.declared.scripts.Script.{Script}
 use Rattle.rma_record.specs.declared.runs.Run.{Run}
 use Rattle.lawful_runs.specs.LawfulRun.{IsLawful}
 use Rattle.order_rules.specs.Before.{NamedEvent, events_in}
-use Rattle.order_laws.proofs.Members.{In}
 use Rattle.order_laws.proofs.Order.{log_ascends, same_place}
 use Rattle.vector_clocks.specs.Marks.{marks_of}
 use Rattle.vector_clocks.specs.Replays.{Told, id_told, mark_told, marks_told}

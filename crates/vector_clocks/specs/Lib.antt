@@ -1,4 +1,6 @@
 -- Clocks, and which names they put in order.
 pub mod Marks
 pub mod Numbers
+pub mod Places
 pub mod Replays
+pub mod Rows

@@ -12,13 +12,15 @@ use Rattle.board_rules.specs.Entries.{Row}
 use Rattle.clock_rules.specs.Clocks.{Stamp, IsCountedFrom, count_in}
 use Rattle.kept_rows.specs.Gifts.{Given, gained_by}
 use Rattle.kept_rows.specs.KeptCalls.{kept_row}
+use Rattle.entry_gains.specs.ByPlace.{KeepsInOrder}
+use Rattle.entry_gains.specs.declared.by_place.GainsByPlace.{GainsByPlace}
 use Rattle.lawful_runs.specs.Logs.{rows_of}
 use Rattle.order_rules.specs.Before.{events_in, is_edge_between}
 use Rattle.vector_clocks.specs.Marks.{marks_of, last_counts}
 use Rattle.vector_clocks.specs.Numbers.{raised, counts_of}
 use Rattle.vector_clocks.specs.declared.marks.Mark.{Mark}
-use Rattle.placed_entries.specs.Rows.{row_placed}
-use Rattle.placed_entries.specs.declared.places.Placed.{Placed}
+use Rattle.vector_clocks.specs.Rows.{row_placed}
+use Rattle.vector_clocks.specs.declared.places.Placed.{Placed}
 
 -- an entry that was replayed: the board's row, the entry with its clock, and the numbers that its rank gave with it
 pub record Told : Type 0 where
@@ -32,7 +34,7 @@ id_told t = t.stamp.entry.id
 abbrev pub stamps_told : List Told → List Stamp
 stamps_told told = map (λ (t : Told). t.stamp) told
 
--- the entry as the board has it
+-- the entry as it was given
 abbrev pub given_told : Told → Given
 given_told t = record { row = kept_row t.row; gift = Some (Some t.gift) }
 
@@ -64,31 +66,32 @@ marks_told rank [] = []
 marks_told rank (t ∷ rest) =
     if (id_told t).rank == rank then mark_told t ∷ marks_told rank rest else marks_told rank rest
 
--- so many entries of the run were replayed to a board with these entries, and have these clocks
-pub record Replayed (script : Script) (run : Run) (count : ℕ) (entries : List Given) (clocks : List (List Mark))
+-- so many entries of the run were replayed: the gains are those after them, and they have these clocks
+pub record Replayed (script : Script) (run : Run) (count : ℕ) (gains : GainsByPlace) (clocks : List (List Mark))
     : Type 0 where
   pub told : List Told
   pub next : AreNext [] told
   pub events : map (λ (t : Told). t.stamp.entry) told ≡ take count (events_in script run)
   pub asked : map (λ (t : Told). t.stamp.entry.event) told ≡ events_of script.ranks (map (λ (t : Told). t.row) told)
   pub rows : map (λ (t : Told). t.row) told ≡ take count (rows_of script run)
-  pub board : entries ≡ map given_told told
+  pub kept : KeepsInOrder script.ranks (map given_told told) gains
   pub marks : (rank : ℕ) → marks_of clocks rank ≡ marks_told rank told
 
 -- ---- one entry more
 
--- An entry was put to the board and to the clocks of its rank: the numbers of its rank before it, with its own item,
--- are what its rank gave, and its clock is these with what it gained.
-pub record IsPut (ranks : ℕ) (one : Placed) (call : Call) (board : List Given) (clocks : List (List Mark))
-    (after : List Given)
-    (later : List (List Mark)) : Type 0 where
+-- An entry came to the gains and to the clocks of its rank: the numbers of its rank before it, with its own item, are
+-- what its rank gave, and its clock is these with what it gained.
+pub record IsPut (ranks : ℕ) (one : Placed) (call : Call) (entries : List Given) (clocks : List (List Mark))
+    (gains : GainsByPlace) (later : List (List Mark)) : Type 0 where
   pub prev : List ℕ
   pub gained : Option (List ℕ)
   pub last : prev ≡ last_counts (marks_of clocks one.id.rank)
   pub wide : one.id.rank < length prev
   pub within : one.id.rank < length clocks
-  pub gains : option_map Some gained ≡ gained_by ranks board (row_placed one call)
-  pub entries : after ≡ board
-      ++ record { row = kept_row (row_placed one call); gift = Some (Some (raised prev one.id.rank one.id.index)) } ∷ []
+  pub gains_it : option_map Some gained ≡ gained_by ranks entries (row_placed one call)
+  pub kept : KeepsInOrder ranks (entries ++ record {
+    row = kept_row (row_placed one call);
+    gift = Some (Some (raised prev one.id.rank one.id.index));
+  } ∷ []) gains
   pub marks : later ≡ slice_set clocks one.id.rank (marks_of clocks one.id.rank
       ++ record { index = one.id.index; counts = counts_of gained (raised prev one.id.rank one.id.index) } ∷ [])

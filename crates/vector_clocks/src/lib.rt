@@ -3,7 +3,9 @@
 
 mod clocks;
 mod marks;
+mod places;
 mod replays;
 
-pub use clocks::clocks_of;
+pub use clocks::{clocks_by, clocks_of};
 pub use marks::{Clocks, Mark};
+pub use places::{Placed, call_at, entries_by_place};

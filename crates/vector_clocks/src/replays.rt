@@ -1,27 +1,26 @@
-//! The replay of a run's entries to a board, whose tokens are clocks.
-ghost use Rattle.std.specs.Prelude.{◌≡◌, ◌<◌, ◌≤◌, ◌++◌, [], ◌∷◌, length, map, replicate, slice_set};
-ghost use Rattle.std.specs.Prelude.{Some, None, IfOk, OnOk};
+//! The clocks of a run's entries, in the order of their places.
+ghost use Rattle.std.specs.Prelude.{◌≡◌, ◌<◌, ◌++◌, ℕ, List, [], ◌∷◌, length, map, replicate, slice_set};
+ghost use Rattle.std.specs.Prelude.{IfOk, OnOk};
 ghost use Rattle.std.specs.Option.{option_map};
+ghost use Rattle.call_rules.specs.WellFormed.{IsWrittenCall};
 ghost use Rattle.cell_face.specs.declared.fronts.Front.{Front as FrontValue};
-ghost use Rattle.rma_types.specs.declared.schedules.Delay.TheVariants.{Seeded};
-ghost use Rattle.call_rules.specs.WellFormed.{IsWellFormed};
-ghost use Rattle.lawful_runs.specs.LawfulRun.{IsLawful};
+ghost use Rattle.kept_rows.specs.Gifts.{Given};
+ghost use Rattle.entry_gains.specs.ByPlace.{IsComing, KeepsInOrder};
 ghost use Rattle.lawful_runs.specs.Logs.{entries_of};
-ghost use Rattle.sync_board.specs.Boards.{MayAsk};
-ghost use Rattle.placed_entries.specs.Places.{placed_item};
-ghost use Rattle.placed_entries.specs.Rows.{row_placed};
-ghost use Rattle.placed_entries.specs.Wide.{IsWide};
+ghost use Rattle.rank_records.specs.Kept.{IsRecorded};
 ghost use Rattle.vector_clocks.specs.Marks.{last_counts, marks_of};
 ghost use Rattle.vector_clocks.specs.Numbers.{counts_of, raised};
+ghost use Rattle.vector_clocks.specs.Places.{placed_item};
 ghost use Rattle.vector_clocks.specs.Replays.{IsPut, Replayed};
+ghost use Rattle.vector_clocks.specs.Rows.{row_placed};
 
 use crate::marks::Mark;
+use crate::places::{Placed, call_at};
 use cell_face::{Front, Token};
-use placed_entries::{Placed, call_at};
-use rma_record::Run;
-use rma_types::{Call, Items, NoMemory, Script};
+use entry_gains::GainsByPlace;
+use rank_records::RunRecord;
+use rma_types::{Call, Items, NoMemory};
 use std::alloc::Global;
-use sync_board::{Board, Decided};
 
 /// The numbers of the last mark, or none.
 fn last_numbers(marks: &[Mark]) -> [u32; 16]
@@ -73,51 +72,35 @@ fn push_mark(clocks: &mut [Items<Mark>], rank: u8, mark: Mark) -> Result<(), NoM
     }
 }
 
-/// Puts an entry to the board and to the clocks of its rank. The board allows each entry of a lawful run.
+/// The entry comes to the gains, and its clock to those of its rank.
 fn enter(
-    board: &mut Board<Front>,
+    gains: &mut GainsByPlace,
     clocks: &mut [Items<Mark>],
     one: Placed,
     call: &Call,
 ) -> Result<(), NoMemory>
-    requires asked { MayAsk board.old.ranks board.old.layout (row_placed one call.now) }
-    requires number { one.call < 65536 }
+    requires written { IsWrittenCall call.now }
     requires rank { one.id.rank < 16 }
     requires lists { length clocks.old ≡ 16 }
-    requires name { board.old.name ≡ [] }
-    ensures put { OnOk result
-        (IsPut board.old.ranks one call.now board.old.entries clocks.old board.new.entries clocks.new) }
+    ensures put { OnOk result ((ranks : ℕ) (entries : List Given) →
+        IsComing ranks entries (row_placed one call.now) → KeepsInOrder ranks entries gains.old →
+        IsPut ranks one call.now entries clocks.old gains.new clocks.new) }
     ensures lists { length clocks.new ≡ 16 }
-    ensures ranks { OnOk result (board.new.ranks ≡ board.old.ranks) }
-    ensures layout { OnOk result (board.new.layout ≡ board.old.layout) }
-    ensures name { OnOk result (board.new.name ≡ []) }
 {
     let mut counts = last_numbers(clocks[one.id.rank as usize].as_slice());
     raise_own(&mut counts, one.id.rank, one.id.index)?;
     let gift = Front { places: counts };
-    match board.decide(one.id.rank, one.call, call, one.step, Some(gift))? {
-        Decided::Entered {
-            place: _,
-            gained,
-            made: _,
-        } => {
-            let mark = Mark {
-                index: one.id.index,
-                counts: joined(counts, gained),
-            };
-            push_mark(clocks, one.id.rank, mark)
-        }
-        Decided::NotYet { gift: _ }
-        | Decided::Refused {
-            class: _,
-            seen: _,
-            gift: _,
-        } => Err(NoMemory),
-    }
+    let gained = gains.enter(one.id.rank, call, one.step, Some(gift))?;
+    let mark = Mark {
+        index: one.id.index,
+        counts: joined(counts, gained),
+    };
+    push_mark(clocks, one.id.rank, mark)?;
+    Ok(())
 }
 
 /// A list of marks for each of 16 ranks, all empty.
-#[tactic(auto, using(placed_entries::proofs::Wides::one_more_of))]
+#[tactic(auto, using(list_laws::proofs::Numbers::one_more_of))]
 pub(crate) fn no_marks(alloc: Global) -> Result<Vec<Items<Mark>>, NoMemory>
     ensures { IfOk result (λ clocks. clocks.items ≡ replicate 16 []) }
 {
@@ -130,29 +113,24 @@ pub(crate) fn no_marks(alloc: Global) -> Result<Vec<Items<Mark>>, NoMemory>
     Ok(clocks)
 }
 
-/// Puts all entries of a lawful run to a board and to the clocks, in the order of their places.
+/// The clocks of all entries of a lawful run, which come to the gains in the order of their places.
 pub(crate) fn replay(
-    script: &Script,
-    run: &Run,
+    recorded: &RunRecord,
     order: &[Placed],
-    board: &mut Board<Front>,
+    gains: &mut GainsByPlace,
     clocks: &mut [Items<Mark>],
 ) -> Result<(), NoMemory>
-    requires formed { IsWellFormed script.now }
-    requires lawful { IsLawful script.now Seeded run.now }
-    requires order { map placed_item order.now ≡ entries_of run.now }
-    requires ranks { board.old.ranks ≡ script.now.ranks }
-    requires wide { IsWide script.now.ranks board.old.layout }
-    requires name { board.old.name ≡ [] }
+    requires recorded { IsRecorded recorded.now }
+    requires order { map placed_item order.now ≡ entries_of recorded.now.run.now }
     requires lists { length clocks.old ≡ 16 }
-    requires first { Replayed script.now run.now 0 board.old.entries clocks.old }
-    ensures { OnOk result (Replayed script.now run.now
-        (length order.now) board.new.entries clocks.new) }
+    requires first { Replayed recorded.now.script.now recorded.now.run.now 0 gains.old clocks.old }
+    ensures { OnOk result (Replayed recorded.now.script.now recorded.now.run.now
+        (length order.now) gains.new clocks.new) }
 {
     for at in 0..order.len() {
         let one = order[at];
-        let call = call_at(script, one.id.rank, one.call)?;
-        enter(board, clocks, one, call)?;
+        let call = call_at(recorded.script, one.id.rank, one.call);
+        enter(gains, clocks, one, call)?;
     }
     Ok(())
 }

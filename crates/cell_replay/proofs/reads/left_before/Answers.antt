@@ -1,9 +1,9 @@
 -- The updates that are taken fit, since all touches do.
 use Rattle.std.proofs.Common.{ap, subst, sym, ◌∙◌}
 use Rattle.std.specs.Prelude.{IfSome}
+use Rattle.list_laws.proofs.Each.{each_kept}
 use Rattle.call_rules.specs.Elements.{Fits}
 use Rattle.lawful_runs.specs.Accesses.{Touching, is_on_cell, is_update, on_cell}
-use Rattle.read_laws.proofs.Lists.{each_kept}
 use Rattle.vector_clocks.specs.Marks.{before_in}
 use Rattle.cell_replay.specs.Kept.{DoFit, touchings_of}
 use Rattle.cell_replay.proofs.reads.left_before.Goals as goal

@@ -2,18 +2,13 @@
 use Rattle.std.proofs.Common.{◌≡◌, ◌+◌, ap, arith, get_or, length, rules, subst, ◌<◌, ◌∙◌, ◌∷◌, ◌++◌, []}
 use Rattle.std.specs.Prelude.{drop}
 use Rattle.std.specs.Option.{option_map_or}
-use Rattle.rma_types.specs.declared.accesses.Kind.TheVariants.{Get}
-use Rattle.rma_record.specs.declared.items.Item.{Item}
-use Rattle.rma_record.specs.declared.items.Item.TheVariants.{Issue}
+use Rattle.rma_record.proofs.ItemLaws.{no_item}
 use Rattle.call_rules.specs.Layout.{layout}
 use Rattle.lawful_runs.specs.Accesses.{touches_among, touching_by}
 use Rattle.lawful_runs.specs.Logs.{calls_of, log_of, named_from}
 use Rattle.cell_replay.specs.Kept.{touching_of, touchings_of}
 use Rattle.cell_replay.proofs.Steps.{joined, touches_step}
 use Rattle.cell_replay.proofs.touches.push_touches.Goals as goal
-
-abbrev no_item : Item
-no_item = Issue 0 (record { window = 0; target = 0; lo = 0; len = 0; kind = Get })
 
 pub loop-at-preserved : goal.loop-at-preserved
 loop-at-preserved c =

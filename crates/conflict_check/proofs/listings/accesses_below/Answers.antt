@@ -2,7 +2,7 @@
 use Rattle.std.proofs.Common.{rules}
 use Rattle.std.specs.Prelude.{nat_lt}
 use Rattle.std.proofs.lemmas.List.Sorted.{IsPartitionPoint-from_clause}
-use Rattle.judged_points.specs.declared.accesses.JudgedPoints.{JudgedPoints}
+use Rattle.first_points.specs.declared.accesses.JudgedPoints.{JudgedPoints}
 use Rattle.conflict_check.proofs.Readings.{parted_by_rank}
 use Rattle.conflict_check.proofs.listings.accesses_below.Goals as goal
 

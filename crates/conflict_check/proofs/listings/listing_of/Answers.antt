@@ -1,7 +1,7 @@
 -- The ordinals, counted from the first access of the rank on.
 use Rattle.std.proofs.Common.{◌+◌, List, ℕ, ap, sym, subst, ◌∙◌}
 use Rattle.std.specs.Prelude.{map}
-use Rattle.judged_points.specs.Alike.{judged_by}
+use Rattle.first_points.specs.Alike.{judged_by}
 use Rattle.conflict_check.specs.Listings.{IsListing}
 use Rattle.conflict_check.proofs.Ordinals.{listing}
 use Rattle.conflict_check.proofs.Readings.{below_from}

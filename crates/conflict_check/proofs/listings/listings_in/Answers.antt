@@ -4,7 +4,7 @@ use Rattle.std.specs.Prelude.{map}
 use Rattle.std.specs.List.{All}
 use Rattle.std.proofs.lemmas.List.{map-append}
 use Rattle.std.proofs.lemmas.List.Elements.{All-push}
-use Rattle.judged_points.specs.Alike.{judged_by}
+use Rattle.first_points.specs.Alike.{judged_by}
 use Rattle.access_index.specs.Lists.{classes_in}
 use Rattle.access_index.specs.declared.regions.Class.{Class}
 use Rattle.conflict_check.specs.Listings.{IsListing}

@@ -1,7 +1,7 @@
 use Rattle.std.proofs.Common.{◌≡◌}
 use Rattle.std.specs.Prelude.{map, take}
 use Rattle.std.specs.List.{All}
-use Rattle.judged_points.specs.Alike.{judged_by}
+use Rattle.first_points.specs.Alike.{judged_by}
 use Rattle.access_index.specs.Lists.{classes_in}
 use Rattle.conflict_check.specs.Listings.{IsListing}
 use Rattle.conflict_check.specs.declared.listings.Listing.{Listing}

@@ -4,8 +4,8 @@ use Rattle.std.specs.Prelude.{map, take}
 use Rattle.std.proofs.lemmas.List.{map-append}
 use Rattle.rma_types.specs.declared.accesses.Access.{Access}
 use Rattle.order_rules.specs.Ordered.{JudgedAccess}
-use Rattle.judged_points.specs.Alike.{judged_by}
-use Rattle.judged_points.specs.declared.accesses.JudgedPoints.{JudgedPoints}
+use Rattle.first_points.specs.Alike.{judged_by}
+use Rattle.first_points.specs.declared.accesses.JudgedPoints.{JudgedPoints}
 use Rattle.access_index.specs.Indexes.{HasAccesses}
 use Rattle.conflict_check.specs.Listings.{rows_of}
 use Rattle.conflict_check.proofs.Ordinals.{rows_more}

@@ -1,5 +1,5 @@
 use Rattle.std.specs.Prelude.{map, take}
-use Rattle.judged_points.specs.Alike.{judged_by}
+use Rattle.first_points.specs.Alike.{judged_by}
 use Rattle.access_index.specs.Indexes.{HasAccesses}
 use Rattle.conflict_check.specs.Listings.{rows_of}
 use Rattle.conflict_check.proofs.run_findings.index_of.Given as goal

@@ -1,34 +1,26 @@
--- Each entry of the run may be asked, and is replayed.
-use Rattle.std.proofs.Common.{sym, subst, ◌∙◌}
-use Rattle.rma_types.specs.declared.schedules.Delay.TheVariants.{Seeded}
-use Rattle.placed_entries.specs.Places.{no_entry}
-use Rattle.placed_entries.specs.Wide.{IsWide}
-use Rattle.placed_entries.proofs.Placings.{may_ask_at}
+-- Each entry of the run may come, and is replayed.
+use Rattle.vector_clocks.specs.Places.{no_entry}
+use Rattle.vector_clocks.proofs.Coming.{number_at, rank_at, written_call}
 use Rattle.vector_clocks.proofs.Entered.{put_at}
-use Rattle.placed_entries.proofs.Mays.{few_calls}
 use Rattle.vector_clocks.proofs.replays.replay.Goals as goal
 
-pub enter-requires-clause-asked : goal.enter-requires-clause-asked
-enter-requires-clause-asked c =
-    may_ask_at c.args.script.now Seeded c.args.run.now c.requires.formed c.requires.lawful c.loop-at.board.layout
-    c.loop-at.board.ranks
-    c.loop-at.invariant.ranks c.loop-at.invariant.wide c.args.order.now c.requires.order c.loop-at.at no_entry
-    c.loop-at-test.true
-    c.in_ok-call.call.now c.in_ok-call.ensures
+pub call_at-call-requires : goal.call_at-call-requires
+call_at-call-requires c = number_at c.args.recorded.now c.requires.recorded c.args.order.now c.requires.order c.loop-at.at
+    no_entry c.loop-at-test.true
 
-pub enter-requires-clause-number : goal.enter-requires-clause-number
-enter-requires-clause-number c = few_calls c.args.script.now c.requires.formed _ _ c.in_ok-call.call.now
-    c.in_ok-call.ensures
+pub enter-requires-clause-written : goal.enter-requires-clause-written
+enter-requires-clause-written c =
+    written_call c.args.recorded.now.script.now c.requires.recorded.formed _ _ c.call_at-call.result.now
+    c.call_at-call.ensures
+
+pub enter-requires-clause-rank : goal.enter-requires-clause-rank
+enter-requires-clause-rank c = rank_at c.args.recorded.now c.requires.recorded c.args.order.now c.requires.order
+    c.loop-at.at no_entry c.loop-at-test.true
 
 pub loop-at-preserved : goal.loop-at-preserved
 loop-at-preserved c = record {
-  ranks = c.in_ok-enter.ensures.ranks ∙ c.loop-at.invariant.ranks;
-  wide = subst (IsWide c.args.script.now.ranks) (sym c.in_ok-enter.ensures.layout) c.loop-at.invariant.wide;
-  name = c.in_ok-enter.ensures.name;
   lists = c.enter.ensures.lists;
-  replayed = put_at c.args.script.now Seeded c.args.run.now c.requires.lawful c.args.order.now c.requires.order
-      c.loop-at.at no_entry c.loop-at-test.true
-      c.in_ok-call.call.now c.in_ok-call.ensures c.loop-at.board.ranks c.loop-at.invariant.ranks
-      c.loop-at.board.entries c.enter.new.board.entries c.loop-at.clocks c.enter.new.clocks
-      c.loop-at.invariant.replayed c.in_ok-enter.ensures.put;
+  replayed = put_at c.args.recorded.now c.requires.recorded c.args.order.now c.requires.order c.loop-at.at no_entry
+      c.loop-at-test.true c.call_at-call.result.now c.call_at-call.ensures c.loop-at.gains c.enter.new.gains
+      c.loop-at.clocks c.enter.new.clocks c.loop-at.invariant.replayed c.in_ok-enter.ensures.put;
 }

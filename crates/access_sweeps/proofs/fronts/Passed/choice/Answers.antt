@@ -1,7 +1,7 @@
 -- The front moves on, and the first that may not stand beside the access is chosen.
 use Rattle.std.proofs.Common.{◌≡◌, ◌<◌, ◌⊎◌, ◌≤◌, ℕ, Option, true, false, ap, length, sym, subst, ◌∙◌}
 use Rattle.order_rules.specs.Ordered.{JudgedAccess}
-use Rattle.judged_points.specs.Alike.{judged_by}
+use Rattle.first_points.specs.Alike.{judged_by}
 use Rattle.access_sweeps.specs.Labels.{do_stand, label_of}
 use Rattle.access_sweeps.specs.Sweeps.{first_at, is_passed}
 use Rattle.access_sweeps.specs.declared.kinds.Label.{Label}

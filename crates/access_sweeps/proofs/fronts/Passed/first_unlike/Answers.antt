@@ -1,7 +1,7 @@
 -- One more is ordered before the access, or has the label.
 use Rattle.std.proofs.Common.{◌≡◌, ◌⊎◌, inl, inr, true, sym, subst, ◌∙◌, arith}
 use Rattle.std.proofs.lemmas.Bool.{cases_lt, or_cases, or_parts}
-use Rattle.judged_points.specs.Alike.{judged_by}
+use Rattle.first_points.specs.Alike.{judged_by}
 use Rattle.access_sweeps.specs.Labels.{do_stand, label_of}
 use Rattle.access_sweeps.specs.Sweeps.{first_at, is_passed}
 use Rattle.access_sweeps.proofs.fronts.Passed.first_unlike.Goals as goal

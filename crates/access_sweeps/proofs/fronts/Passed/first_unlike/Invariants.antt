@@ -1,5 +1,5 @@
 use Rattle.std.proofs.Common.{◌≡◌, ◌≤◌, ◌<◌, ◌⊎◌, ℕ, true}
-use Rattle.judged_points.specs.Alike.{judged_by}
+use Rattle.first_points.specs.Alike.{judged_by}
 use Rattle.access_sweeps.specs.Labels.{do_stand, label_of}
 use Rattle.access_sweeps.specs.Sweeps.{first_at, is_passed}
 use Rattle.access_sweeps.proofs.fronts.Passed.first_unlike.Given as goal

@@ -2,7 +2,7 @@
 use Rattle.std.proofs.Common.{◌≡◌, inl, inr, true, sym, subst, ◌∙◌, arith}
 use Rattle.std.proofs.lemmas.Bool.{cases_lt}
 use Rattle.order_rules.specs.Ordered.{JudgedAccess, is_ordered}
-use Rattle.judged_points.specs.Alike.{judged_by}
+use Rattle.first_points.specs.Alike.{judged_by}
 use Rattle.vector_clocks.specs.Marks.{before_in}
 use Rattle.access_sweeps.specs.Sweeps.{is_passed}
 use Rattle.access_sweeps.proofs.fronts.Passed.first_unordered.Goals as goal

@@ -1,5 +1,5 @@
 use Rattle.std.proofs.Common.{◌≡◌, ◌≤◌, ◌<◌, ℕ, true}
-use Rattle.judged_points.specs.Alike.{judged_by}
+use Rattle.first_points.specs.Alike.{judged_by}
 use Rattle.access_sweeps.specs.Sweeps.{is_passed}
 use Rattle.access_sweeps.proofs.fronts.Passed.first_unordered.Given as goal
 

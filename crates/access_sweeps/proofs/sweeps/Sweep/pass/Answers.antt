@@ -2,7 +2,7 @@
 use Rattle.std.proofs.Common.{◌≡◌, ◌<◌, ℕ, get_or, length, refl, sym, subst, arith}
 use Rattle.std.specs.Prelude.{slice_index}
 use Rattle.order_rules.specs.Ordered.{JudgedAccess}
-use Rattle.judged_points.specs.Alike.{judged_by}
+use Rattle.first_points.specs.Alike.{judged_by}
 use Rattle.vector_clocks.specs.Marks.{before_in}
 use Rattle.access_sweeps.specs.Places.{ArePartners, IsLeastOf, judged_at}
 use Rattle.access_sweeps.specs.Sweeps.{IsChosen, IsFront, IsFrontFrom, IsLater, accesses_of, passed_of}

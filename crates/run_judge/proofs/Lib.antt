@@ -1,2 +1,0 @@
--- What follows where a run has no findings.
-pub mod WithoutFindings

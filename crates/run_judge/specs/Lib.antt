@@ -1,2 +1,0 @@
--- What a judgement says of a run.
-pub mod Judgements
