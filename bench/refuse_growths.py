@@ -6,13 +6,13 @@ refuses one allocation, whose number is written into it: it is built once, and t
 
     refuse_growths.py     takes a minute or two; run by hand, not by the gate
 """
-import contextlib
 import os
 import struct
 import subprocess
 import sys
 import tempfile
-import time
+
+from tried import tried_program
 
 HERE = os.path.dirname(os.path.abspath(__file__))
 CRATE = os.path.join(HERE, "../crates/rma_runner")
@@ -25,50 +25,6 @@ LONG = "ranks 1\nrank 0\nallocate w0 4 4\nlock_all w0\nrepeat 12000\nput w0 0 0 
 # After so many whole reports in a row no allocation is left to be refused.
 WHOLE_RUNS = 100
 NO_MEMORY = 6
-
-
-def is_program(path):
-    """Whether the file is a program, and no object file."""
-    try:
-        with open(path, "rb") as file:
-            head = file.read(18)
-    except OSError:
-        return False
-    return head[:4] == b"\x7fELF" and head[16] in (2, 3)
-
-
-def program_in(folder):
-    """The path of a program below the folder, if one is there."""
-    for where, _, names in os.walk(folder):
-        for name in names:
-            if is_program(os.path.join(where, name)):
-                return os.path.join(where, name)
-    return None
-
-
-def build(folder):
-    """The bytes of the program that rt try builds in the folder."""
-    kept = os.path.join(folder, "kept")
-    room = os.path.join(folder, "room")
-    script = os.path.join(folder, "script")
-    os.mkdir(room)
-    with open(script, "w") as file:
-        file.write(LONG)
-    with open(script) as source:
-        words = ["rt", "try", "rma_runner", "--fail-alloc", str(NUMBER)]
-        quiet = {"stdout": subprocess.DEVNULL, "stderr": subprocess.DEVNULL}
-        child = subprocess.Popen(words, cwd=CRATE, stdin=source, env=dict(os.environ, TMPDIR=room), **quiet)
-    while child.poll() is None:
-        found = None if os.path.exists(kept) else program_in(room)
-        if found:
-            # The linker may still be writing it, and rt try removes its own name of the file.
-            with contextlib.suppress(FileNotFoundError):
-                os.link(found, kept)
-        time.sleep(0.1)
-    if not os.path.exists(kept):
-        sys.exit("rt try left no program")
-    with open(kept, "rb") as file:
-        return file.read()
 
 
 def compared(number):
@@ -119,7 +75,7 @@ def print_rows(name, ends):
 
 def main():
     with tempfile.TemporaryDirectory() as folder:
-        code = build(folder)
+        code = tried_program(["rma_runner", "--fail-alloc", str(NUMBER)], CRATE, LONG)
         if code.count(compared(NUMBER)) != 2:
             sys.exit("the program of this kit does not compare its allocations as this script expects")
         print("| script | allocation refused | end |")

@@ -1,1 +1,2 @@
 -- Loops over the entries of a board.
+pub mod WholeParts

@@ -3,8 +3,8 @@ ghost use Rattle.std.specs.Prelude.{◌≡◌, [], true, IfOk};
 ghost use Rattle.rma_types.specs.declared.scripts.Layout.{Layout as LayoutValue};
 ghost use Rattle.sync_board.specs.Boards.{MayAsk};
 
+use crate::layouts::whole_layout;
 use cell_face::Front;
-use placed_entries::wide_layout;
 use rma_types::{Asserts, Call, Class, Lock, NoMemory, Step};
 use std::alloc::Global;
 use sync_board::{Board, Decided};
@@ -54,7 +54,7 @@ pub(crate) fn new_board(alloc: Global) -> Result<Board<Front>, NoMemory>
     ensures ranks { IfOk result (λ board. board.ranks ≡ 16) }
     ensures name { IfOk result (λ board. board.name ≡ []) }
 {
-    let layout = wide_layout(alloc, 16)?;
+    let layout = whole_layout(alloc, 16)?;
     Board::new(alloc, 16, &layout, Front { places: [0; 16] })
 }
 

@@ -39,13 +39,6 @@ low_greater (low ∷ lows) [] cell = omega arith
 low_greater (low ∷ lows) (other ∷ others) zero = refl
 low_greater (low ∷ lows) (other ∷ others) (suc cell) = low_greater lows others cell
 
-pub length_greater : (lows others : List ℕ) → length lows ≡ length others →
-    length (greater lows others) ≡ length lows
-length_greater [] [] e = refl
-length_greater [] (other ∷ others) e = absurd (omega arith)
-length_greater (low ∷ lows) [] e = refl
-length_greater (low ∷ lows) (other ∷ others) e = omega (arith, length_greater lows others (omega arith))
-
 module _ {A : Type 0} where
   pub read_at : (xs : List A) (k : ℕ) (x d : A) → get_elem? xs k ≡ some x → get_or xs k d ≡ x
   read_at [] k x d at = absurd (some-ne-none x (sym at))

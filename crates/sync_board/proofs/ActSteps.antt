@@ -1,12 +1,12 @@
 -- What one row more adds to the entries, the creations and the barriers.
 use Rattle.std.proofs.Common.{◌≡◌, ℕ, ◌+◌, Bool, true, false, ◌&&◌, cond, eqb, List, [], ◌∷◌, ◌++◌, refl, ap, sym, ◌∙◌}
 use Rattle.std.proofs.Common.{append_assoc, append-nil}
+use Rattle.list_laws.proofs.Tests.{count_append}
 use Rattle.board_rules.specs.Entries.{Row, acts, acts_after, begins_window, creations, names_window, window_of}
 use Rattle.board_rules.specs.Questions.{question}
 use Rattle.kept_rows.specs.KeptCalls.{kept_row}
 use Rattle.kept_rows.proofs.KeptActs.{creation_kept, name_kept, window_of_kept}
 use Rattle.sync_board.specs.Windows.{entries_after}
-use Rattle.sync_board.proofs.OneMore.{count_more}
 
 acts_more : (before rows : List Row) (row : Row) →
     acts_after before (rows ++ row ∷ []) ≡ acts_after before rows ++ record
@@ -29,7 +29,7 @@ pub creations_more : (rows : List Row) (row : Row) (rank win : ℕ) →
     creations (rows ++ kept_row row ∷ []) rank win ≡ creations rows rank win + cond
     (eqb row.rank rank && begins_window row && names_window win row.call) 1 0
 creations_more rows row rank win =
-    count_more (λ (row : Row). eqb row.rank rank && begins_window row && names_window win row.call) rows
+    count_append (λ (row : Row). eqb row.rank rank && begins_window row && names_window win row.call) rows
     (kept_row row ∷ [])
     ∙ rw (creation_kept row.call, name_kept row.call)
     (last (eqb row.rank rank && begins_window row && names_window win row.call))

@@ -3,8 +3,11 @@ use Rattle.std.proofs.Common.{◌≡◌, ◌≢◌, ℕ, ◌+◌, ◌*◌, ◌<�
 use Rattle.std.proofs.Common.{List, [], ◌∷◌, ◌++◌, refl, ap, sym, ◌∙◌, arith, IfSome, ⊎_elim}
 use Rattle.std.specs.Option.{option_map_or}
 use Rattle.std.proofs.lemmas.Bool.{and_left, cases_eq, eq-eqb, ne_eqb, true≢false}
-use Rattle.call_rules.specs.Actions.{Action, Creates, action_of, creation_in, window_in_action}
-use Rattle.board_rules.specs.Entries.{Row, begins_window, creations, is_arrive, is_creation, names_window}
+use Rattle.rma_types.specs.declared.actions.Action.{Action}
+use Rattle.rma_types.specs.declared.actions.Action.TheVariants.{Creates}
+use Rattle.rma_types.specs.Actions.{action_of, creation_in, window_in_action}
+use Rattle.board_rules.specs.Entries.{Row, begins_window, creations, names_window}
+use Rattle.board_rules.proofs.EntryLaws.{begins_creation}
 use Rattle.kept_rows.specs.KeptCalls.{kept_row}
 use Rattle.sync_board.specs.Asked.{names_its_window}
 use Rattle.sync_board.specs.Counted.{KeepsCreations}
@@ -15,13 +18,6 @@ named_by : (action : Action) (name other : ℕ) → IfSome (window_in_action act
     option_map_or (λ n. eqb n other) (window_in_action action) false ≡ eqb name other
 named_by (Creates creation) name other named creates = ap (λ n. eqb n other) named
 named_by action name other named creates = cc
-
-begins_creation : (row : Row) → begins_window row ≡ true → is_creation row.call ≡ true
-begins_creation row e = second (is_arrive row.step) (is_creation row.call) e
-  where
-    second : (a b : Bool) → (a && b) ≡ true → b ≡ true
-    second true b e = e
-    second false b e = absurd (true≢false (sym e))
 
 test_here : (row : Row) (rank name : ℕ) → names_its_window name row.call → row.rank ≡ rank →
     (eqb row.rank rank && begins_window row && names_window name row.call) ≡ begins_window row

@@ -3,9 +3,12 @@ use Rattle.std.proofs.Common.{◌≡◌, ℕ, suc, ◌+◌, false, List, [], ◌
 use Rattle.std.proofs.Common.{arith, Option, Some, None, IfSome}
 use Rattle.std.specs.List.{AllByRecursion}
 use Rattle.std.specs.Option.{option_map, option_map_or}
-use Rattle.std.proofs.lemmas.List.{map-append, length-append}
+use Rattle.std.proofs.lemmas.List.{length-append}
 use Rattle.rma_types.specs.declared.scripts.Layout.{Layout}
-use Rattle.call_rules.specs.Actions.{Action, Synchronises, Transfer, synchronisation_in}
+use Rattle.rma_types.specs.declared.actions.Action.{Action}
+use Rattle.rma_types.specs.declared.actions.Transfer.{Transfer}
+use Rattle.rma_types.specs.declared.actions.Action.TheVariants.{Synchronises}
+use Rattle.rma_types.specs.Actions.{synchronisation_in}
 use Rattle.rank_rules.specs.EpochTests.{names_wrong_rank}
 use Rattle.kept_rows.specs.Gifts.{Front, Given, rows_given}
 use Rattle.entry_gains.specs.Gains.{IsSound, IsWhole, Keeps}
@@ -100,10 +103,6 @@ names_so ranks action names = refl
 pub looks : (o : Option Transfer) (P : Transfer → Type 0) → ((t : Transfer) → o ≡ Some t → P t) → IfSome o P
 looks None P each = tt
 looks (Some t) P each = each t refl
-
-pub rows_more : (entries : List Given) (one : Given) → rows_given (entries ++ one ∷ []) ≡ rows_given entries ++ one.row
-    ∷ []
-rows_more entries one = map-append (λ (one : Given). one.row) entries (one ∷ [])
 
 pub list_more : {N : Type 0} (list list' : EntryList N) (row : EntryRow) (one : Kept N) → IsList list →
     list'.rows.items ≡ list.rows.items ++ row ∷ [] → list'.kept.items ≡ list.kept.items ++ one ∷ [] → IsList list'

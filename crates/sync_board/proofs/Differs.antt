@@ -1,5 +1,5 @@
 -- An arrival of a round that differs, by the values that are kept of the arrivals.
-use Rattle.std.proofs.Common.{◌≡◌, ℕ, zero, suc, ◌<◌, ◌≤◌, Bool, true, false, not, ◌||◌, List, [], ◌∷◌, length, get_or}
+use Rattle.std.proofs.Common.{◌≡◌, ℕ, zero, suc, ◌<◌, Bool, true, false, not, ◌||◌, List, [], ◌∷◌, length, get_or}
 use Rattle.std.proofs.Common.{refl, ap, sym, ◌∙◌, Option, Some, None, arith}
 use Rattle.std.specs.Prelude.{slice_get}
 use Rattle.std.specs.List.{list_any}
@@ -7,7 +7,9 @@ use Rattle.std.specs.Option.{option_map, option_map_or}
 use Rattle.rma_types.specs.declared.calls.Asserts.{Asserts}
 use Rattle.rma_types.specs.declared.calls.Call.{Call}
 use Rattle.rma_types.specs.declared.calls.Flavor.{Flavor}
-use Rattle.call_rules.specs.Actions.{Creation, Synchronisation, creation_of, synchronisation_of}
+use Rattle.rma_types.specs.declared.actions.Creation.{Creation}
+use Rattle.rma_types.specs.declared.actions.Synchronisation.{Synchronisation}
+use Rattle.rma_types.specs.Actions.{creation_of, synchronisation_of}
 use Rattle.rank_rules.specs.Windows.{is_same_flavor}
 use Rattle.board_rules.specs.Rounds.{asserts_of_fence, do_asserts_differ, is_differing_creation, is_differing_fence}
 use Rattle.sync_board.specs.Rounds.{AreOf, arrival_in, asserts_in, flavor_in}
@@ -54,8 +56,3 @@ pub slice_get_at : {X : Type 0} (xs : List X) (k : ℕ) (d : X) → k < length x
 slice_get_at [] k d within = absurd (omega arith)
 slice_get_at (x ∷ xs) zero d within = refl
 slice_get_at (x ∷ xs) (suc k) d within = slice_get_at xs k d (omega arith)
-
-pub slice_get_past : {X : Type 0} (xs : List X) (k : ℕ) → length xs ≤ k → slice_get xs k ≡ None
-slice_get_past [] k past = refl
-slice_get_past (x ∷ xs) zero past = absurd (omega arith)
-slice_get_past (x ∷ xs) (suc k) past = slice_get_past xs k (omega arith)

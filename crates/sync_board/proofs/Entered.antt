@@ -1,16 +1,16 @@
 -- What an entry of each kind adds to what its rank has done on its window.
-use Rattle.std.proofs.Common.{◌≡◌, ℕ, ◌+◌, Bool, true, false, ◌&&◌, List, [], ◌∷◌, ◌++◌, refl, ap, ◌∙◌, append-nil}
+use Rattle.std.proofs.Common.{◌≡◌, ℕ, ◌+◌, Bool, List, [], ◌∷◌, ◌++◌, refl, ap, ◌∙◌, append-nil}
 use Rattle.std.proofs.Common.{arith, ℤ}
+use Rattle.list_laws.proofs.Truths.{and_false}
 use Rattle.rma_types.specs.declared.calls.Asserts.{Asserts}
-use Rattle.call_rules.specs.Actions.{Action, Synchronises, Posts, Starts, Completes, Waits, action_of}
+use Rattle.rma_types.specs.declared.actions.Action.{Action}
+use Rattle.rma_types.specs.declared.actions.Action.TheVariants.{Synchronises}
+use Rattle.rma_types.specs.declared.actions.Synchronisation.TheVariants.{Posts, Starts, Completes, Waits}
+use Rattle.rma_types.specs.Actions.{action_of}
 use Rattle.call_rules.specs.Ranks.{members_of}
 use Rattle.board_rules.specs.Entries.{Act, is_arrive}
 use Rattle.sync_board.specs.Sides.{Done, done, with_post, with_start, with_complete, with_wait}
 use Rattle.sync_board.proofs.OneMore.{done_more, with_entry}
-
-never : (b : Bool) → (b && false) ≡ false
-never true = refl
-never false = refl
 
 step_by : (entries : List Act) (act : Act) (action : Action) → action_of act.row.call ≡ action →
     done (entries ++ act ∷ []) ≡ with_entry (done entries) act.row.step act.row.call action
@@ -20,7 +20,7 @@ pub post_entered : (entries : List Act) (act : Act) (win : ℕ) (group : List �
     action_of act.row.call ≡ Synchronises win (Posts group asserts) →
     done (entries ++ act ∷ []) ≡ with_post (done entries) (members_of group)
 post_entered entries act win group asserts e = step_by entries act (Synchronises win (Posts group asserts)) e
-    ∙ simp (never (is_arrive act.row.step), append-nil) (plain (done entries))
+    ∙ simp (and_false (is_arrive act.row.step), append-nil) (plain (done entries))
   where
     plain : (d : Done) → record {
       posts = d.posts ++ members_of group ∷ [];
@@ -41,7 +41,7 @@ pub start_entered : (entries : List Act) (act : Act) (win : ℕ) (group : List �
     action_of act.row.call ≡ Synchronises win (Starts group asserts) →
     done (entries ++ act ∷ []) ≡ with_start (done entries) (members_of group)
 start_entered entries act win group asserts e = step_by entries act (Synchronises win (Starts group asserts)) e
-    ∙ simp (never (is_arrive act.row.step), append-nil) (plain (done entries))
+    ∙ simp (and_false (is_arrive act.row.step), append-nil) (plain (done entries))
   where
     plain : (d : Done) → record {
       posts = d.posts;
@@ -62,7 +62,7 @@ pub complete_entered : (entries : List Act) (act : Act) (win : ℕ) → action_o
     →
     done (entries ++ act ∷ []) ≡ with_complete (done entries)
 complete_entered entries act win e = step_by entries act (Synchronises win Completes) e
-    ∙ simp (never (is_arrive act.row.step), append-nil) (plain (done entries))
+    ∙ simp (and_false (is_arrive act.row.step), append-nil) (plain (done entries))
   where
     plain : (d : Done) → record {
       posts = d.posts;
@@ -80,7 +80,7 @@ pub wait_entered : (entries : List Act) (act : Act) (win : ℕ) (tests : Bool) �
     (Waits tests) →
     done (entries ++ act ∷ []) ≡ with_wait (done entries)
 wait_entered entries act win tests e = step_by entries act (Synchronises win (Waits tests)) e
-    ∙ simp (never (is_arrive act.row.step), append-nil) (plain (done entries))
+    ∙ simp (and_false (is_arrive act.row.step), append-nil) (plain (done entries))
   where
     plain : (d : Done) → record {
       posts = d.posts;

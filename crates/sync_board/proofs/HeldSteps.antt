@@ -10,12 +10,13 @@ use Rattle.rma_types.specs.declared.calls.Call.{Call}
 use Rattle.rma_types.specs.declared.calls.Lock.{Lock}
 use Rattle.rma_types.specs.declared.scripts.Layout.{Layout}
 use Rattle.rma_types.specs.declared.scripts.Part.{Part}
-use Rattle.call_rules.specs.Actions.{Action, action_of, creation_in, creation_of, synchronisation_in}
+use Rattle.rma_types.specs.declared.actions.Action.{Action}
+use Rattle.rma_types.specs.Actions.{action_of, creation_in, creation_of, synchronisation_in}
 use Rattle.rank_rules.specs.Ranges.{Range}
 use Rattle.board_rules.specs.Entries.{Act, begins_window, is_arrive}
 use Rattle.board_rules.specs.Locks.{lock_of, unlock_of}
 use Rattle.board_rules.specs.Questions.{Question}
-use Rattle.kept_rows.specs.KeptCalls.{kept_call}
+use Rattle.rma_types.specs.KeptCalls.{kept_call}
 use Rattle.kept_rows.proofs.KeptActs.{creation_kept, synchronisation_kept}
 use Rattle.lock_table.specs.HeldLocks.{WindowLocks}
 use Rattle.sync_board.specs.Boards.{bytes_at}

@@ -17,6 +17,7 @@ pub mod Bases
 pub mod PartsKept
 pub mod GrownSteps
 pub mod HeldSteps
+pub mod LockEntries
 pub mod Asking
 pub mod Judged
 pub mod NothingSteps

@@ -3,14 +3,16 @@ use Rattle.std.proofs.Common.{◌≡◌, ◌≢◌, ℕ, Bool, true, false, not,
 use Rattle.std.proofs.Common.{append-nil, Option, Some, None, ℤ}
 use Rattle.std.specs.Option.{option_map_or}
 use Rattle.std.proofs.lemmas.Bool.{eq-eqb, eqb-true, ne_eqb}
-use Rattle.std.proofs.lemmas.Grind.{fold-append}
 use Rattle.std.proofs.lemmas.List.Elements.{filter-append}
 use Rattle.rma_types.specs.declared.calls.Lock.{Lock}
-use Rattle.call_rules.specs.Actions.{Synchronisation, Fences, Posts, Starts, Completes, Waits, Locks as LocksWith}
-use Rattle.call_rules.specs.Actions.{Unlocks, Flushes, Syncs, synchronisation_of}
+use Rattle.rma_types.specs.declared.actions.Synchronisation.{Synchronisation}
+use Rattle.rma_types.specs.declared.actions.Synchronisation.TheVariants.{Fences, Posts, Starts, Completes, Waits}
+use Rattle.rma_types.specs.declared.actions.Synchronisation.TheVariants.{Locks as LocksWith, Unlocks, Flushes, Syncs}
+use Rattle.rma_types.specs.Actions.{synchronisation_of}
 use Rattle.board_rules.specs.Entries.{Act}
-use Rattle.board_rules.specs.Locks.{Held, held_after, held_after_entry, held_locks, is_given_back, lock_of, locks_at}
+use Rattle.board_rules.specs.Locks.{Held, held_after, held_locks, is_given_back, lock_of, locks_at}
 use Rattle.board_rules.specs.Locks.{targets_of, unlock_of}
+use Rattle.board_rules.proofs.LockLaws.{held_more}
 use Rattle.lock_table.specs.HeldLocks.{lock}
 use Rattle.sync_board.specs.KeptLocks.{held_on, left_by, lock_in, on_window, unlock_in}
 use Rattle.sync_board.proofs.AnyOf.{filter_keeps, filter_swap}
@@ -109,10 +111,6 @@ after_elsewhere ranks rank other window held (Some Syncs) ne = refl
 
 -- ---- one entry more
 
-more : (ranks : ℕ) (entries : List Act) (act : Act) → held_locks ranks (entries ++ act ∷ []) ≡ held_after_entry ranks
-    (held_locks ranks entries) act
-more ranks entries act = fold-append (held_after_entry ranks) [] entries (act ∷ [])
-
 pub held_with_lock : (ranks : ℕ) (entries : List Act) (act : Act) (kind : Lock) (target : Option ℤ) →
     lock_in act.row.call ≡ Some (kind, target) →
     held_on ranks act.window (entries ++ act ∷ []) ≡ held_on ranks act.window entries ++ locks_at act.row.rank
@@ -120,7 +118,7 @@ pub held_with_lock : (ranks : ℕ) (entries : List Act) (act : Act) (kind : Lock
 held_with_lock ranks entries act kind target e =
     let held = held_locks ranks entries in
     let new = locks_at act.row.rank act.window kind (targets_of ranks target) in
-    ap (on_window act.window) (more ranks entries act ∙ locks_by ranks act.row.rank act.window held
+    ap (on_window act.window) (held_more ranks entries act ∙ locks_by ranks act.row.rank act.window held
     (synchronisation_of act.row.call) kind target e)
     ∙ (filter-append (λ (one : Held). eqb one.window act.window) held new
     ∙ ap (λ xs. on_window act.window held ++ xs) (here act.row.rank act.window kind (targets_of ranks target)))
@@ -131,7 +129,7 @@ pub held_with_unlock : (ranks : ℕ) (entries : List Act) (act : Act) (target : 
     (held_on ranks act.window entries)
 held_with_unlock ranks entries act target e =
     let held = held_locks ranks entries in
-    ap (on_window act.window) (more ranks entries act ∙ unlocks_by ranks act.row.rank act.window held
+    ap (on_window act.window) (held_more ranks entries act ∙ unlocks_by ranks act.row.rank act.window held
     (synchronisation_of act.row.call) target e)
     ∙ filter_swap (λ (one : Held). eqb one.window act.window)
     (λ (one : Held). not (is_given_back act.row.rank act.window target one)) held
@@ -141,13 +139,14 @@ pub held_with_other : (ranks window : ℕ) (entries : List Act) (act : Act) → 
     unlock_in act.row.call ≡ None →
     held_on ranks window (entries ++ act ∷ []) ≡ held_on ranks window entries
 held_with_other ranks window entries act e f =
-    ap (on_window window) (more ranks entries act ∙ others_by ranks act.row.rank act.window (held_locks ranks entries)
+    ap (on_window window) (held_more ranks entries act
+    ∙ others_by ranks act.row.rank act.window (held_locks ranks entries)
     (synchronisation_of act.row.call) e f)
 
 -- an entry on another window
 pub held_elsewhere : (ranks window : ℕ) (entries : List Act) (act : Act) → act.window ≢ window →
     held_on ranks window (entries ++ act ∷ []) ≡ held_on ranks window entries
 held_elsewhere ranks window entries act ne =
-    ap (on_window window) (more ranks entries act)
+    ap (on_window window) (held_more ranks entries act)
     ∙ after_elsewhere ranks act.row.rank act.window window (held_locks ranks entries) (synchronisation_of act.row.call)
     ne

@@ -1,17 +1,22 @@
 -- What tests find among locks, as one comes or goes.
 use Rattle.std.proofs.Common.{◌≡◌, ℕ, ◌+◌, ◌-◌, ◌<◌, ◌≤◌, Bool, true, false, not, ◌&&◌, ◌||◌, eqb, ltb, leb, List, []}
-use Rattle.std.proofs.Common.{◌∷◌, ◌++◌, map, refl, ap, sym, ◌∙◌, arith, pos, Some, None, ⊎_elim}
-use Rattle.std.specs.List.{filter, list_any}
-use Rattle.std.proofs.lemmas.Bool.{and_parts, and_right, cases_order, eq-eqb, eqb-true, le-ltb, leb-false, lt-ltb}
-use Rattle.std.proofs.lemmas.Bool.{ne_eqb, not-false, or_cases, or_from, or_left, or_parts, or_right}
+use Rattle.std.proofs.Common.{◌∷◌, ◌++◌, map, refl, ap, sym, ◌∙◌, arith, pos, Option, Some, None, ⊎_elim, ℤ}
+use Rattle.std.specs.List.{list_any}
+use Rattle.std.proofs.Math.Dec.{leb-zero}
+use Rattle.std.proofs.lemmas.Bool.{and_parts, and_right, cases_lt, cases_order, eq-eqb, eqb-true, le-leb, le-ltb, leb-false}
+use Rattle.std.proofs.lemmas.Bool.{lt-leb, lt-ltb, ne_eqb, not-false, or_cases, or_left, or_parts, or_right}
+use Rattle.list_laws.proofs.Tests.{any_alike, any_filter, any_map}
 use Rattle.rma_types.specs.declared.calls.Lock.{Lock}
 use Rattle.rma_types.specs.declared.calls.Lock.TheVariants.{Shared, Exclusive}
 use Rattle.call_rules.specs.Pieces.{numbers_from}
-use Rattle.board_rules.specs.Locks.{Held, do_clash, excludes, is_exclusive, is_given_back, locks_at}
+use Rattle.call_rules.specs.Ranks.{natural}
+use Rattle.call_rules.proofs.NumbersFrom.{no_number, some_number}
+use Rattle.board_rules.specs.Locks.{Held, do_clash, excludes, is_given_back, locks_at}
 use Rattle.lock_table.specs.HeldLocks.{HasSameLocks, is_held_by, kept, lock}
-use Rattle.sync_board.specs.KeptLocks.{AllOn, AtRanks, asked_from, clashes, left_by}
-use Rattle.sync_board.proofs.AnyOf.{any_alike, any_filter, any_map, any_more, numbers_up_to}
-use Rattle.sync_board.proofs.RoundSteps.{no_number, some_number}
+use Rattle.sync_board.specs.KeptLocks.{AllOn, AtRanks, asked_from, clashes, left_by, left_within}
+use Rattle.sync_board.specs.Reaches.{Reaches}
+use Rattle.entry_gains.specs.declared.deeds.Reach.{Reach}
+use Rattle.sync_board.proofs.AnyOf.{any_more, filter_alike, numbers_up_to}
 
 -- ---- what is asked for
 
@@ -30,7 +35,7 @@ asked_more rank window kind first target low =
 pub any_asked : (test : Held → Bool) (rank window : ℕ) (kind : Lock) (first count : ℕ) →
     list_any test (asked_from rank window kind first count) ≡ list_any (λ target. test (lock window target kind rank))
     (numbers_from first count)
-any_asked test rank window kind first count = any_map (λ target. lock window target kind rank) test
+any_asked test rank window kind first count = any_map test (λ target. lock window target kind rank)
     (numbers_from first count)
 
 pub none_asked : (test : Held → Bool) (rank window : ℕ) (kind : Lock) (first count : ℕ) →
@@ -62,70 +67,6 @@ free_at held rank window kind first count target low high free =
         let found : clashes held (asked_from rank window kind first count) ≡ true =
         one_asked (λ one. list_any (do_clash one) held) rank window kind first count target low high e in
         absurd (let wrong : true ≡ false = sym found ∙ free in cc)
-
--- ---- a shared lock at all ranks is asked for
-
-abbrev is_exclusive_one : Held → Bool
-is_exclusive_one one = is_exclusive one.kind
-
--- a lock that is not exclusive excludes no shared one
-no_clash : (window target rank : ℕ) (held : List Held) → list_any is_exclusive_one held ≡ false →
-    list_any (do_clash (lock window target Shared rank)) held ≡ false
-no_clash window target rank [] none = refl
-no_clash window target rank (one ∷ held) none =
-    let parts = or_parts (is_exclusive one.kind) (list_any is_exclusive_one held) none in
-    or_from (do_clash (lock window target Shared rank) one) (list_any (do_clash (lock window target Shared rank)) held)
-    (and_right (eqb window one.window && eqb target one.target) (is_exclusive one.kind) parts.0)
-    (no_clash window target rank held parts.1)
-
--- a rank at which a shared lock is excluded
-record HasExcluder (ranks window rank : ℕ) (held : List Held) : Type 0 where
-  target : ℕ
-  below : target < ranks
-  clash : list_any (do_clash (lock window target Shared rank)) held ≡ true
-
-exclusive_clashes : (window rank : ℕ) (one : Held) → eqb one.window window ≡ true → is_exclusive one.kind ≡ true →
-    do_clash (lock window one.target Shared rank) one ≡ true
-exclusive_clashes window rank one on some =
-    rw (eq-eqb window one.window (sym (eqb-true one.window window on)), eq-eqb one.target one.target refl) some
-
-excluder : (ranks window rank : ℕ) (held : List Held) → AllOn window held → AtRanks ranks held →
-    list_any is_exclusive_one held ≡ true → HasExcluder ranks window rank held
-excluder ranks window rank [] on at some = absurd (let wrong : false ≡ true = some in cc)
-excluder ranks window rank (one ∷ held) on at some =
-    let here = or_parts (not (eqb one.window window)) (list_any (λ (one : Held). not (eqb one.window window)) held) on
-    in
-    let low = or_parts (leb ranks one.target) (list_any (λ (one : Held). leb ranks one.target) held) at in
-    ⊎_elim
-    (λ first. record {
-      target = one.target;
-      below = leb-false ranks one.target low.0;
-      clash = or_left (do_clash (lock window one.target Shared rank) one)
-          (list_any (do_clash (lock window one.target Shared rank)) held)
-          (exclusive_clashes window rank one (not-false (eqb one.window window) here.0) first);
-    })
-    (λ later. let found = excluder ranks window rank held here.1 low.1 later in
-    record {
-      target = found.target;
-      below = found.below;
-      clash = or_right (do_clash (lock window found.target Shared rank) one)
-          (list_any (do_clash (lock window found.target Shared rank)) held) found.clash;
-    })
-    (or_cases (is_exclusive one.kind) (list_any is_exclusive_one held) some)
-
--- a shared lock at each rank is excluded exactly where an exclusive lock is held
-pub clash_of_all : (ranks window rank : ℕ) (held : List Held) → AllOn window held → AtRanks ranks held →
-    list_any (λ (one : Held). is_exclusive one.kind) held ≡ clashes held (asked_from rank window Shared 0 ranks)
-clash_of_all ranks window rank held on at = by_truth (list_any is_exclusive_one held) refl
-  where
-    by_truth : (b : Bool) → list_any is_exclusive_one held ≡ b →
-        list_any is_exclusive_one held ≡ clashes held (asked_from rank window Shared 0 ranks)
-    by_truth true e =
-        let found = excluder ranks window rank held on at e in
-        e ∙ sym (one_asked (λ one. list_any (do_clash one) held) rank window Shared 0 ranks found.target (omega arith)
-        (omega (arith, found.below)) found.clash)
-    by_truth false e = e ∙ sym (none_asked (λ one. list_any (do_clash one) held) rank window Shared 0 ranks
-        (λ target low high. no_clash window target rank held e))
 
 -- ---- a lock comes
 
@@ -199,15 +140,19 @@ none_goes window target rank (one ∷ held) none test =
     not_its true false c e = refl
     not_its false b c e = refl
 
--- the locks of a list without those of a rank at the targets below one
-abbrev pub left_below : ℕ → ℕ → ℕ → List Held → List Held
-left_below rank window target held = filter
-    (λ (one : Held). not ((eqb one.holder rank && eqb one.window window) && ltb one.target target)) held
+-- no target is both at or behind one and before it
+none_between : (first target : ℕ) → (leb first target && ltb target first) ≡ false
+none_between first target = ⊎_elim
+    (λ before. ap (λ b. b && ltb target first) (lt-leb first target before))
+    (λ behind. and_right (leb first target) (ltb target first) (le-ltb target first behind))
+    (cases_lt target first)
 
-pub left_none : (rank window : ℕ) (held : List Held) → HasSameLocks held (left_below rank window 0 held)
-left_none rank window held test = sym (
-    any_filter (λ (one : Held). not ((eqb one.holder rank && eqb one.window window) && ltb one.target 0)) test held
-    ∙ any_alike _ test (λ one. rw (le-ltb one.target 0 (omega arith))
+pub left_none : (rank window first : ℕ) (held : List Held) → HasSameLocks held
+    (left_within rank window first first held)
+left_none rank window first held test = sym (
+    any_filter test (λ (one : Held). not ((eqb one.holder rank && eqb one.window window)
+    && (leb first one.target && ltb one.target first))) held
+    ∙ any_alike _ test (λ one. rw (none_between first one.target)
     (stays (eqb one.holder rank && eqb one.window window) (test one))) held)
   where
     stays : (g z : Bool) → (not (g && false) && z) ≡ z
@@ -228,30 +173,57 @@ up_to a b = ⊎_elim
     always true = refl
     always false = refl
 
-pub left_more : (rank window target : ℕ) (held before after : List Held) →
-    HasSameLocks before (left_below rank window target held) →
-    HasSameLocks after (kept rank window target before) → HasSameLocks after (left_below rank window (target + 1) held)
-left_more rank window target held before after below more test =
+-- the targets from the first up to and with one
+up_from : (first target at : ℕ) → first ≤ target →
+    (leb first at && ltb at (target + 1)) ≡ ((leb first at && ltb at target) || eqb at target)
+up_from first target at low = ⊎_elim
+    (λ before. rw (lt-leb first at before, ne_eqb at target (λ same. absurd (omega arith))) refl)
+    (λ behind. rw (le-leb first at behind, up_to at target) refl)
+    (cases_lt at first)
+
+pub left_more : (rank window first target : ℕ) (held before after : List Held) → first ≤ target →
+    HasSameLocks before (left_within rank window first target held) →
+    HasSameLocks after (kept rank window target before) → HasSameLocks after
+    (left_within rank window first (target + 1) held)
+left_more rank window first target held before after low below more test =
     let below_it : Held → Bool = λ (one : Held). not
-    ((eqb one.holder rank && eqb one.window window) && ltb one.target target) in
-    let past_it : Held → Bool = λ (one : Held). not ((eqb one.holder rank && eqb one.window window) && ltb one.target
-    (target + 1)) in
+    ((eqb one.holder rank && eqb one.window window) && (leb first one.target && ltb one.target target)) in
+    let past_it : Held → Bool = λ (one : Held). not ((eqb one.holder rank && eqb one.window window)
+    && (leb first one.target && ltb one.target (target + 1))) in
     let at_it : Held → Bool = λ (one : Held). not (is_given_back rank window (Some (pos target)) one) in
-    more test ∙ (any_filter at_it test before
-    ∙ (below (λ one. at_it one && test one) ∙ (any_filter below_it (λ one. at_it one && test one) held
+    more test ∙ (any_filter test at_it before
+    ∙ (below (λ one. at_it one && test one) ∙ (any_filter (λ one. at_it one && test one) below_it held
     ∙ (any_alike (λ one. below_it one && (at_it one && test one)) (λ one. past_it one && test one)
-    (λ one. both (eqb one.holder rank && eqb one.window window) (ltb one.target target) (eqb one.target target)
-    (ltb one.target (target + 1)) (test one) (up_to one.target target)) held
-    ∙ sym (any_filter past_it test held)))))
+    (λ one. both (eqb one.holder rank && eqb one.window window) (leb first one.target && ltb one.target target)
+    (eqb one.target target) (leb first one.target && ltb one.target (target + 1)) (test one)
+    (up_from first target one.target low)) held
+    ∙ sym (any_filter test past_it held)))))
   where
     both : (g l e m z : Bool) → m ≡ (l || e) → (not (g && l) && (not (g && e) && z)) ≡ (not (g && m) && z)
     both true true e m z is = rw is refl
     both true false e m z is = rw is refl
     both false l e m z is = refl
 
-pub left_all : (rank window : ℕ) (held : List Held) → AtRanks 16 held →
-    left_below rank window 16 held ≡ left_by rank window None held
-left_all rank window [] ranks = refl
-left_all rank window (one ∷ held) ranks =
-    let parts = or_parts (leb 16 one.target) (list_any (λ (one : Held). leb 16 one.target) held) ranks in
-    rw (lt-ltb one.target 16 (leb-false 16 one.target parts.0), left_all rank window held parts.1) refl
+left_of_all : (ranks rank window : ℕ) (held : List Held) → AtRanks ranks held →
+    left_within rank window 0 ranks held ≡ left_by rank window None held
+left_of_all ranks rank window [] at = refl
+left_of_all ranks rank window (one ∷ held) at =
+    let parts = or_parts (leb ranks one.target) (list_any (λ (one : Held). leb ranks one.target) held) at in
+    rw (
+      leb-zero one.target,
+      lt-ltb one.target ranks (leb-false ranks one.target parts.0),
+      left_of_all ranks rank window held parts.1,
+    ) refl
+
+only_at : (target at : ℕ) → (leb target at && ltb at (target + 1)) ≡ eqb at target
+only_at target at = up_from target target at (omega arith) ∙ ap (λ b. b || eqb at target) (none_between target at)
+
+-- what is left, once the ranks of a reach have given back
+pub left_reached : (ranks rank window : ℕ) (target : Option ℤ) (reach : Reach) (held : List Held) →
+    Reaches ranks target reach → AtRanks ranks held →
+    left_within rank window reach.first reach.end held ≡ left_by rank window target held
+left_reached ranks rank window None reach held is at = rw (is.first, is.end) (left_of_all ranks rank window held at)
+left_reached ranks rank window (Some target) reach held is at =
+    rw (is.first, is.end) (filter_alike _ _
+    (λ (one : Held). ap (λ b. not ((eqb one.holder rank && eqb one.window window) && b))
+    (only_at (natural target) one.target)) held)

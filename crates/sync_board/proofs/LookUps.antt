@@ -1,19 +1,23 @@
 -- A look-up that is allowed reaches the memory of its target alone.
-use Rattle.std.proofs.Common.{◌≡◌, ℕ, ◌+◌, ◌<◌, ◌≤◌, Bool, true, false, not, ◌&&◌, leb, ltb, List, [], ◌∷◌, refl, ap}
+use Rattle.std.proofs.Common.{◌≡◌, ℕ, ◌+◌, ◌<◌, ◌≤◌, Bool, true, false, not, leb, ltb, List, [], ◌∷◌, refl, ap}
 use Rattle.std.proofs.Common.{sym, ◌∙◌, subst, arith, is_some, Option, Some, None, ⊎_elim}
 use Rattle.std.specs.Prelude.{slice_get}
-use Rattle.std.specs.List.{AllByRecursion, list_all, list_any}
+use Rattle.std.specs.List.{AllByRecursion, list_any}
 use Rattle.std.specs.Option.{MatchOption}
 use Rattle.std.proofs.lemmas.Bool.{ltb-true, or_cases, true≢false}
+use Rattle.list_laws.proofs.Truths.{both_right}
 use Rattle.rma_types.specs.declared.accesses.Step.{Step}
 use Rattle.rma_types.specs.declared.accesses.Step.TheVariants.{Arrive, Leave, One}
 use Rattle.rma_types.specs.declared.calls.Call.{Call}
 use Rattle.rma_types.specs.declared.classes.Class.TheVariants.{Range as RangeClass}
 use Rattle.rma_types.specs.declared.scripts.Layout.{Layout}
-use Rattle.call_rules.specs.Actions.{Action, Moves, Transfer, action_of, transfer_in, transfer_of}
-use Rattle.call_rules.specs.Pieces.{numbers_from}
+use Rattle.rma_types.specs.declared.actions.Transfer.{Transfer}
+use Rattle.rma_types.specs.declared.actions.Action.TheVariants.{Moves}
+use Rattle.rma_types.specs.Actions.{action_of, transfer_of}
+use Rattle.rma_types.proofs.ActionLaws.{transfer_is}
 use Rattle.call_rules.specs.Ranks.{natural}
 use Rattle.call_rules.specs.Transfers.{bytes_of, rank_reached}
+use Rattle.call_rules.proofs.NumbersFrom.{all_at_number}
 use Rattle.rank_rules.specs.Ranges.{Range, covers, has_byte}
 use Rattle.rank_rules.specs.Windows.{window_number}
 use Rattle.board_rules.specs.AttachedRanges.{ranges_attached}
@@ -27,11 +31,6 @@ use Rattle.sync_board.specs.declared.named.NameRecord.{NameRecord}
 use Rattle.sync_board.specs.declared.window_record.WindowRecord.{WindowRecord}
 use Rattle.sync_board.proofs.Judged.{one_by}
 use Rattle.sync_board.proofs.RangesKept.{attached_is}
-use Rattle.sync_board.proofs.RoundSteps.{not_all_numbers}
-
-second : (a b : Bool) → (a && b) ≡ true → b ≡ true
-second true b e = e
-second false b e = absurd (true≢false (sym e))
 
 byte_below : (limit : ℕ) (ranges : List Range) (address : ℕ) →
     AllByRecursion (λ (range : Range). range.base + range.bytes ≤ limit) ranges →
@@ -40,19 +39,11 @@ byte_below limit [] address all found = absurd (true≢false (sym found))
 byte_below limit (range ∷ ranges) address all found = ⊎_elim
     (λ here.
     let less : address < range.base + range.bytes = ltb-true address (range.base + range.bytes)
-    (second (leb range.base address) (ltb address (range.base + range.bytes)) here) in
+    (both_right (leb range.base address) (ltb address (range.base + range.bytes)) here) in
     let within : range.base + range.bytes ≤ limit = all.0 in
     omega arith)
     (λ later. byte_below limit ranges address all.1 later)
     (or_cases (has_byte address range) (list_any (has_byte address) ranges) found)
-
-covered : (test : ℕ → Bool) (lo len address : ℕ) → list_all test (numbers_from lo len) ≡ true → lo ≤ address →
-    address < lo + len → test address ≡ true
-covered test lo len address all low high = split (test address) refl
-  where
-    split : (b : Bool) → test address ≡ b → test address ≡ true
-    split true e = e
-    split false e = absurd (true≢false (sym all ∙ not_all_numbers test lo len address low high e))
 
 -- the ranges that are attached to any window lie in the memory of their ranks
 pub inside_at : (layout : Layout) (ranks : ℕ) (entries : List Act) (names : List NameRecord) →
@@ -72,10 +63,6 @@ inside_at layout ranks entries names keeps round name below = named (slice_get n
     named None none rank = rw ((none below round).ranges rank) tt
     named (Some one) keeps rank = rounds (slice_get one.rounds.items round) (keeps below round) rank
 
-moves_by : (action : Action) (t : Transfer) → transfer_in action ≡ Some t → action ≡ Moves t
-moves_by (Moves transfer) t e = cc
-moves_by action t e = cc
-
 step_by : (step : Step) (call : Call) (t : Transfer) → action_of call ≡ Moves t → is_step_of step call ≡ true →
     step ≡ One
 step_by One call t moves is = refl
@@ -92,7 +79,7 @@ pub looks_inside : (layout : Layout) (ranks : ℕ) (rows : List Row) (row : Row)
     transfer_of row.call ≡ Some t → is_step_of row.step row.call ≡ true → decide ranks rows row ≡ Allow →
     LooksInside layout row.rank t
 looks_inside layout ranks rows row t names round name keeps at below is step allowed address low high =
-    let moves : action_of row.call ≡ Moves t = moves_by (action_of row.call) t is in
+    let moves : action_of row.call ≡ Moves t = transfer_is (action_of row.call) t is in
     let q : Question = question ranks rows row in
     let one : decision (question ranks rows row) One ≡ Allow = ap (decision (question ranks rows row))
     (sym (step_by row.step row.call t moves step)) ∙ allowed in
@@ -108,5 +95,5 @@ looks_inside layout ranks rows row t names round name keeps at below is step all
     byte_below (bytes_at layout (rank_reached row.rank t.target))
     (ranges_attached (acts rows) (rank_reached row.rank t.target) (window_of rows row)) address
     (rw (attached_is (acts rows) (rank_reached row.rank t.target) (window_of rows row)) inside)
-    (covered (λ a. list_any (has_byte a) (ranges_attached (acts rows) (rank_reached row.rank t.target)
+    (all_at_number (λ a. list_any (has_byte a) (ranges_attached (acts rows) (rank_reached row.rank t.target)
     (window_of rows row))) (natural t.disp) (bytes_of t) address all low high)

@@ -2,7 +2,7 @@
 use Rattle.std.proofs.Common.{◌≡◌, refl, Option, Some, None}
 use Rattle.std.specs.Option.{option_map}
 use Rattle.rma_types.specs.declared.calls.Flavor.{Flavor}
-use Rattle.call_rules.specs.Actions.{Creation}
+use Rattle.rma_types.specs.declared.actions.Creation.{Creation}
 use Rattle.board_rules.specs.Entries.{Row}
 use Rattle.sync_board.specs.Boards.{BoardState, IsMadeOf, IsShapeMade}
 use Rattle.window_regions.specs.declared.window.Shape.{Shape}

@@ -6,16 +6,20 @@ use Rattle.std.specs.Option.{option_map_or}
 use Rattle.std.proofs.lemmas.Bool.{eq-eqb, ne_eqb, true≢false}
 use Rattle.std.proofs.lemmas.List.{length-append, map-append}
 use Rattle.std.proofs.lemmas.List.Elements.{filter-append}
+use Rattle.list_laws.proofs.Tests.{all_alike}
 use Rattle.rma_types.specs.declared.calls.Call.{Call}
 use Rattle.rma_types.specs.declared.calls.Call.TheVariants.{Barrier as BarrierCall}
-use Rattle.call_rules.specs.Actions.{Action, Synchronises, Meets, Fences, action_of, window_in_action}
+use Rattle.rma_types.specs.declared.actions.Action.{Action}
+use Rattle.rma_types.specs.declared.actions.Action.TheVariants.{Synchronises, Meets}
+use Rattle.rma_types.specs.declared.actions.Synchronisation.TheVariants.{Fences}
+use Rattle.rma_types.specs.Actions.{action_of, window_in_action}
 use Rattle.call_rules.specs.Pieces.{numbers_from}
 use Rattle.rank_rules.specs.Windows.{window_number}
 use Rattle.board_rules.specs.Entries.{Act, Barrier, Row, acts, arrivals, collective_in, is_arrive, is_by_on}
 use Rattle.board_rules.specs.Entries.{is_collective, is_same_collective, round_of, window_of}
 use Rattle.board_rules.specs.Questions.{Question}
 use Rattle.board_rules.specs.Rounds.{all_arrived, arrivals_of}
-use Rattle.kept_rows.specs.KeptCalls.{kept_call}
+use Rattle.rma_types.specs.KeptCalls.{kept_call}
 use Rattle.kept_rows.proofs.KeptActs.{collective_kept}
 
 -- a barrier is on no window
@@ -33,16 +37,12 @@ met_at : (q : Question) (rows : List Row) (k : ℕ) → q.call ≡ BarrierCall �
     arrivals_of q k ≡ arrivals (acts rows) Barrier k 0
 met_at q rows k call window entries = rw (call, window, entries) refl
 
-alike : (p r : ℕ → Bool) → ((k : ℕ) → p k ≡ r k) → (ks : List ℕ) → list_all p ks ≡ list_all r ks
-alike p r same [] = refl
-alike p r same (k ∷ ks) = rw (same k, alike p r same ks) refl
-
 pub all_met : (q : Question) (rows : List Row) (rank ranks : ℕ) → q.rank ≡ rank → q.ranks ≡ ranks →
     q.call ≡ BarrierCall → q.window ≡ 0 → q.entries ≡ acts rows →
     all_arrived q ≡ list_all (λ k. leb (length (arrivals (acts rows) Barrier rank 0))
     (length (arrivals (acts rows) Barrier k 0))) (numbers_from 0 ranks)
 all_met q rows rank ranks asker all call window entries =
-    alike (λ k. leb (length (arrivals_of q q.rank)) (length (arrivals_of q k)))
+    all_alike (λ k. leb (length (arrivals_of q q.rank)) (length (arrivals_of q k)))
     (λ k. leb (length (arrivals (acts rows) Barrier rank 0)) (length (arrivals (acts rows) Barrier k 0)))
     (λ k. rw (met_at q rows q.rank call window entries, met_at q rows k call window entries, asker) refl)
     (numbers_from 0 q.ranks)

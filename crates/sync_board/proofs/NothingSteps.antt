@@ -4,13 +4,15 @@ use Rattle.std.proofs.lemmas.Bool.{and_right}
 use Rattle.rma_types.specs.declared.accesses.Step.{Step}
 use Rattle.rma_types.specs.declared.accesses.Step.TheVariants.{Arrive, Leave, One}
 use Rattle.rma_types.specs.declared.scripts.Layout.{Layout}
-use Rattle.call_rules.specs.Actions.{Action, Creates, Synchronises, Meets, Moves, EndsRequest, Fences, Flushes, Syncs}
-use Rattle.call_rules.specs.Actions.{action_of, creation_in}
+use Rattle.rma_types.specs.declared.actions.Action.{Action}
+use Rattle.rma_types.specs.declared.actions.Action.TheVariants.{Creates, Synchronises, Meets, Moves, EndsRequest}
+use Rattle.rma_types.specs.declared.actions.Synchronisation.TheVariants.{Fences, Flushes, Syncs}
+use Rattle.rma_types.specs.Actions.{action_of, creation_in}
 use Rattle.rank_rules.specs.Ranges.{Range}
 use Rattle.board_rules.specs.AttachedRanges.{ranges_after}
 use Rattle.board_rules.specs.Entries.{is_arrive}
 use Rattle.board_rules.specs.Questions.{Question}
-use Rattle.kept_rows.specs.KeptCalls.{kept_call}
+use Rattle.rma_types.specs.KeptCalls.{kept_call}
 use Rattle.kept_rows.proofs.KeptActs.{creation_kept, unless_moved}
 use Rattle.sync_board.specs.Nothing.{brings_nothing}
 use Rattle.sync_board.specs.Sides.{done}

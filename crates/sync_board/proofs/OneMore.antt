@@ -6,10 +6,12 @@ use Rattle.std.specs.Option.{option_map_or}
 use Rattle.std.proofs.lemmas.Grind.{flat_map-append, fold-append}
 use Rattle.std.proofs.lemmas.List.{map-append}
 use Rattle.std.proofs.lemmas.List.Elements.{filter-append}
-use Rattle.std.proofs.lemmas.List.Sums.{sum_by-append}
+use Rattle.list_laws.proofs.Tests.{count_append}
 use Rattle.rma_types.specs.declared.accesses.Step.{Step}
 use Rattle.rma_types.specs.declared.calls.Call.{Call}
-use Rattle.call_rules.specs.Actions.{Action, Synchronisation, synchronisation_in, synchronisation_of, action_of}
+use Rattle.rma_types.specs.declared.actions.Action.{Action}
+use Rattle.rma_types.specs.declared.actions.Synchronisation.{Synchronisation}
+use Rattle.rma_types.specs.Actions.{synchronisation_in, synchronisation_of, action_of}
 use Rattle.board_rules.specs.AttachedRanges.{ranges_after}
 use Rattle.board_rules.specs.Entries.{Act, Collective, Creation, Freeing, Fence, is_arrive, is_collective}
 use Rattle.board_rules.specs.Entries.{is_same_collective, collective_in}
@@ -57,9 +59,6 @@ arrived_more collective entries act =
     last true = refl
     last false = refl
 
-pub count_more : {X : Type 0} (p : X → Bool) (xs ys : List X) → count_by p (xs ++ ys) ≡ count_by p xs + count_by p ys
-count_more p xs ys = sum_by-append (λ x. cond (p x) 1 0) xs ys
-
 pub done_more : (entries : List Act) (act : Act) → done (entries ++ act ∷ []) ≡ with_entry (done entries) act.row.step
     act.row.call (action_of act.row.call)
 unfolding done
@@ -74,10 +73,10 @@ done_more entries act =
     ap (flat_map group_of_start) syncs ∙ flat_map-append group_of_start (synchronised entries) brought in
     let completes : count_by is_complete (synchronised (entries ++ act ∷ [])) ≡ count_by is_complete
     (synchronised entries) + count_by is_complete brought =
-    ap (count_by is_complete) syncs ∙ count_more is_complete (synchronised entries) brought in
+    ap (count_by is_complete) syncs ∙ count_append is_complete (synchronised entries) brought in
     let waits : count_by is_wait (synchronised (entries ++ act ∷ [])) ≡ count_by is_wait (synchronised entries) +
     count_by is_wait brought =
-    ap (count_by is_wait) syncs ∙ count_more is_wait (synchronised entries) brought in
+    ap (count_by is_wait) syncs ∙ count_append is_wait (synchronised entries) brought in
     let creations = arrived_more Creation entries act in
     let frees = arrived_more Freeing entries act in
     let fences = arrived_more Fence entries act in

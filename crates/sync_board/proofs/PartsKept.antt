@@ -9,8 +9,10 @@ use Rattle.rma_types.specs.declared.accesses.Step.TheVariants.{Arrive}
 use Rattle.rma_types.specs.declared.calls.Flavor.TheVariants.{Dynamic}
 use Rattle.rma_types.specs.declared.scripts.Layout.{Layout}
 use Rattle.rma_types.specs.declared.scripts.Part.{Part}
-use Rattle.call_rules.specs.Actions.{Creation, creation_of}
+use Rattle.rma_types.specs.declared.actions.Creation.{Creation}
+use Rattle.rma_types.specs.Actions.{creation_of}
 use Rattle.call_rules.specs.Pieces.{numbers_from}
+use Rattle.call_rules.proofs.NumbersFrom.{numbers_length}
 use Rattle.rank_rules.specs.Windows.{is_same_flavor, no_part, part_at}
 use Rattle.board_rules.specs.Entries.{Act, Row, acts, begins_window, is_by_on, window_of}
 use Rattle.board_rules.specs.Shapes.{part_brought, part_in, part_made, parts_of}
@@ -151,10 +153,6 @@ at_rank : (parts : List (Option Part)) (ranks k : ℕ) → k < ranks → part_at
     parts k
 at_rank parts ranks k within = at_number (part_or_none parts) 0 ranks k no_part within ∙ ap (part_or_none parts)
     (omega arith)
-
-numbers_length : (first count : ℕ) → length (numbers_from first count) ≡ count
-numbers_length first zero = refl
-numbers_length first (suc count) = ap suc (numbers_length (first + 1) count)
 
 how_many : (parts : List (Option Part)) (ranks : ℕ) → length (parts_or_none parts ranks) ≡ ranks
 how_many parts ranks = length-map (numbers_from 0 ranks) (part_or_none parts) ∙ numbers_length 0 ranks

@@ -5,7 +5,8 @@ use Rattle.std.specs.List.{filter, fold, list_all, list_any}
 use Rattle.std.proofs.lemmas.Grind.{fold-append}
 use Rattle.std.proofs.lemmas.List.Elements.{filter-append}
 use Rattle.std.proofs.lemmas.List.Folds.{list_any-append}
-use Rattle.call_rules.specs.Actions.{action_of}
+use Rattle.list_laws.proofs.Tests.{any_filter, any_map}
+use Rattle.rma_types.specs.Actions.{action_of}
 use Rattle.call_rules.specs.Pieces.{numbers_from}
 use Rattle.rank_rules.specs.Ranges.{Range, covers, has_byte}
 use Rattle.board_rules.specs.AttachedRanges.{ranges_after, ranges_attached}
@@ -13,7 +14,7 @@ use Rattle.board_rules.specs.Entries.{Act, is_by_on}
 use Rattle.sync_board.specs.declared.regions.Span.{Span}
 use Rattle.sync_board.specs.KeptRanges.{HasSameRanges, range_in, without}
 use Rattle.sync_board.specs.Sides.{done, own}
-use Rattle.sync_board.proofs.AnyOf.{any_filter, any_map, filter_map_swap}
+use Rattle.sync_board.proofs.AnyOf.{filter_map_swap}
 
 -- ---- what is kept
 
@@ -24,7 +25,7 @@ pub has_either : (ranges apart : List Range) (others : List Span) (address : ℕ
     (covers apart address 1 || list_any (λ span. has_byte address (range_in span)) others)
 has_either ranges apart others address same =
     sym (same (has_byte address)) ∙ (list_any-append (has_byte address) apart (map range_in others)
-    ∙ rw (any_map range_in (has_byte address) others)
+    ∙ rw (any_map (has_byte address) range_in others)
     (ap (λ b. b || list_any (λ span. has_byte address (range_in span)) others)
     (sym (always (list_any (has_byte address) apart)))))
   where
@@ -53,8 +54,8 @@ fewer ranges apart others base same test =
     let stays : Range → Bool = λ (range : Range). not (eqb range.base base) in
     ap (λ xs. list_any test (without base apart ++ xs)) (filter_map_swap range_in stays others)
     ∙ (ap (list_any test) (sym (filter-append stays apart (map range_in others)))
-    ∙ (any_filter stays test (apart ++ map range_in others)
-    ∙ (same (λ range. stays range && test range) ∙ sym (any_filter stays test ranges))))
+    ∙ (any_filter test stays (apart ++ map range_in others)
+    ∙ (same (λ range. stays range && test range) ∙ sym (any_filter test stays ranges))))
 
 -- ---- one entry more
 

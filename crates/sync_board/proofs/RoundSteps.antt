@@ -1,12 +1,12 @@
 -- One arrival more in a table of rounds, and what is asked of every rank.
-use Rattle.std.proofs.Common.{◌≡◌, ℕ, zero, suc, ◌+◌, ◌<◌, ◌≤◌, Bool, true, false, ◌&&◌, ◌||◌, cond, leb, List, [], ◌∷◌}
-use Rattle.std.proofs.Common.{◌++◌, length, map, refl, ap, sym, ◌∙◌, arith, Option, Some, ⊎_elim}
+use Rattle.std.proofs.Common.{◌≡◌, ℕ, suc, Bool, true, false, ◌&&◌, ◌||◌, cond, leb, List, [], ◌∷◌}
+use Rattle.std.proofs.Common.{◌++◌, length, map, refl, ap, sym, ◌∙◌, Option, Some}
 use Rattle.std.specs.List.{filter, flat_map, list_all, list_any}
 use Rattle.std.specs.Option.{option_map_or}
-use Rattle.std.proofs.lemmas.Bool.{cases_eq, and_left, and_right, or_right}
 use Rattle.std.proofs.lemmas.List.Folds.{list_any-append}
 use Rattle.rma_types.specs.declared.calls.Call.{Call}
 use Rattle.call_rules.specs.Pieces.{numbers_from}
+use Rattle.call_rules.proofs.NumbersFrom.{any_numbers}
 use Rattle.board_rules.specs.Entries.{Act, arrivals, collective_of, is_arrive, is_by_on, is_collective}
 use Rattle.board_rules.specs.Questions.{Question}
 use Rattle.board_rules.specs.Rounds.{all_arrived, arrivals_of, round_arrivals}
@@ -30,24 +30,6 @@ values_length has [] [] are = refl
 values_length has [] (other ∷ calls) are = absurd are
 values_length has (other ∷ values) [] are = absurd are
 values_length has (other ∷ values) (another ∷ calls) are = ap suc (values_length has values calls are.1)
-
-pub all_numbers : (test : ℕ → Bool) (first count : ℕ) → ((k : ℕ) → first ≤ k → k < first + count → test k ≡ true) →
-    list_all test (numbers_from first count) ≡ true
-all_numbers test first zero each = refl
-all_numbers test first (suc count) each =
-    let here : test first ≡ true = each first (omega arith) (omega arith) in
-    let later : list_all test (numbers_from (first + 1) count) ≡ true = all_numbers test (first + 1) count
-    (λ k low high. each k (omega arith) (omega arith)) in
-    rw (here, later) refl
-
-pub not_all_numbers : (test : ℕ → Bool) (first count k : ℕ) → first ≤ k → k < first + count → test k ≡ false →
-    list_all test (numbers_from first count) ≡ false
-not_all_numbers test first zero k low high fails = absurd (omega arith)
-not_all_numbers test first (suc count) k low high fails = ⊎_elim
-    (λ e. and_left (test first) (list_all test (numbers_from (first + 1) count)) (ap test (sym e) ∙ fails))
-    (λ ne. and_right (test first) (list_all test (numbers_from (first + 1) count))
-    (not_all_numbers test (first + 1) count k (omega arith) (omega arith) fails))
-    (cases_eq k first)
 
 -- ---- the arrivals of a question
 
@@ -82,33 +64,6 @@ pub any_flat : {X Y : Type 0} (test : Y → Bool) (f : X → List Y) (xs : List 
 any_flat test f [] = refl
 any_flat test f (x ∷ xs) = list_any-append test (f x) (flat_map f xs) ∙ ap (λ b. list_any test (f x) || b)
     (any_flat test f xs)
-
-pub any_numbers : (p q : ℕ → Bool) (first count : ℕ) → ((k : ℕ) → first ≤ k → k < first + count → p k ≡ q k) →
-    list_any p (numbers_from first count) ≡ list_any q (numbers_from first count)
-any_numbers p q first zero same = refl
-any_numbers p q first (suc count) same =
-    let here : p first ≡ q first = same first (omega arith) (omega arith) in
-    let later : list_any p (numbers_from (first + 1) count) ≡ list_any q (numbers_from (first + 1) count) = any_numbers
-    p q (first + 1) count (λ k low high. same k (omega arith) (omega arith)) in
-    rw (here, later) refl
-
-pub no_number : (test : ℕ → Bool) (first count : ℕ) → ((k : ℕ) → first ≤ k → k < first + count → test k ≡ false) →
-    list_any test (numbers_from first count) ≡ false
-no_number test first zero none = refl
-no_number test first (suc count) none =
-    let here : test first ≡ false = none first (omega arith) (omega arith) in
-    let later : list_any test (numbers_from (first + 1) count) ≡ false = no_number test (first + 1) count
-    (λ k low high. none k (omega arith) (omega arith)) in
-    rw (here, later) refl
-
-pub some_number : (test : ℕ → Bool) (first count k : ℕ) → first ≤ k → k < first + count → test k ≡ true →
-    list_any test (numbers_from first count) ≡ true
-some_number test first zero k low high found = absurd (omega arith)
-some_number test first (suc count) k low high found = ⊎_elim
-    (λ e. ap (λ b. b || list_any test (numbers_from (first + 1) count)) (ap test (sym e) ∙ found))
-    (λ ne. or_right (test first) (list_any test (numbers_from (first + 1) count))
-    (some_number test (first + 1) count k (omega arith) (omega arith) found))
-    (cases_eq k first)
 
 -- every rank has arrived as often as this one
 pub arrived_is : (q : Question) (kind : Kind) (rank ranks : ℕ) → q.rank ≡ rank → q.ranks ≡ ranks →

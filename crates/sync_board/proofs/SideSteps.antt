@@ -1,17 +1,11 @@
 -- What one call more does to the counts and tables of a side.
 use Rattle.std.proofs.Common.{◌≡◌, ℕ, zero, suc, ◌+◌, ◌<◌, ◌≤◌, Bool, cond, List, [], ◌∷◌, ◌++◌, length, get_or, take}
-use Rattle.std.proofs.Common.{reverse, refl, ap, sym, ◌∙◌, zero-add, arith, Option, Some, None, IfSome}
-use Rattle.std.proofs.lemmas.List.{take_all, take_more, reverse-append, take-append-le, length-append}
+use Rattle.std.proofs.Common.{refl, ap, sym, ◌∙◌, arith}
+use Rattle.std.proofs.lemmas.List.{take_all, take_more, take-append-le, length-append}
 use Rattle.call_rules.specs.Ranks.{is_member}
-use Rattle.board_rules.specs.Posts.{naming}
+use Rattle.board_rules.proofs.PostLaws.{naming_more}
 use Rattle.sync_board.specs.declared.sides.Side.{Side}
 use Rattle.sync_board.specs.Sides.{Done, IsGroup, AreGroups, CountsGroups, IsRaised, Keeps}
-use Rattle.sync_board.proofs.OneMore.{count_more}
-
-pub naming_more : (rank : ℕ) (groups : List (List ℕ)) (group : List ℕ) →
-    naming rank (groups ++ group ∷ []) ≡ naming rank groups + cond (is_member rank group) 1 0
-naming_more rank groups group = count_more (is_member rank) groups (group ∷ []) ∙ ap (λ n. naming rank groups + n)
-    (zero-add (cond (is_member rank group) 1 0))
 
 pub counts_more : (counts new : List ℕ) (named : List Bool) (groups : List (List ℕ)) (group : List ℕ) →
     CountsGroups counts groups → IsGroup named group → IsRaised counts named new →
@@ -43,9 +37,6 @@ group_at (one ∷ stored) [] k d e are within = absurd are
 group_at (one ∷ stored) (other ∷ groups) zero d e are within = are.0
 group_at (one ∷ stored) (other ∷ groups) (suc k) d e are within = group_at stored groups k d e are.1 (omega arith)
 
-pub last_of : (posts : List (List ℕ)) (group : List ℕ) → get_or (reverse (posts ++ group ∷ [])) 0 [] ≡ group
-last_of posts group = ap (λ xs. get_or xs 0 []) (reverse-append posts (group ∷ []))
-
 -- a start that no complete has reached yet is not completed, and one that they have passed is
 pub completed_before : (completes : ℕ) (starts : List (List ℕ)) (group : List ℕ) → completes ≤ length starts →
     take completes (starts ++ group ∷ []) ≡ take completes starts
@@ -66,10 +57,6 @@ pub completed_no_more : (completes : ℕ) (starts : List (List ℕ)) → length 
     take (completes + 1) starts ≡ take completes starts
 completed_no_more completes starts past = take_all (completes + 1) starts (omega arith)
     ∙ sym (take_all completes starts past)
-
-pub some_so : {X : Type 0} (P Q : X → Type 0) → ((x : X) → P x → Q x) → (o : Option X) → IfSome o P → IfSome o Q
-some_so P Q so None given = given
-some_so P Q so (Some x) given = so x given
 
 pub with_start_past : (side : Side) (named : List Bool) (new : List ℕ) → length side.starts.items < side.completes →
     IsRaised side.completed_to named new →

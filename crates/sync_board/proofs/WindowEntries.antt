@@ -6,12 +6,14 @@ use Rattle.std.proofs.lemmas.Bool.{eqb-true, ltb-true, or_cases, true≢false}
 use Rattle.rma_types.specs.declared.accesses.Step.{Step}
 use Rattle.rma_types.specs.declared.accesses.Step.TheVariants.{Arrive}
 use Rattle.rma_types.specs.declared.calls.Asserts.{Asserts}
-use Rattle.call_rules.specs.Actions.{Creates, Creation, Fences, Frees, Posts, Starts, Completes, Waits, Synchronises}
-use Rattle.call_rules.specs.Actions.{action_of}
+use Rattle.rma_types.specs.declared.actions.Creation.{Creation}
+use Rattle.rma_types.specs.declared.actions.Action.TheVariants.{Creates, Frees, Synchronises}
+use Rattle.rma_types.specs.declared.actions.Synchronisation.TheVariants.{Fences, Posts, Starts, Completes, Waits}
+use Rattle.rma_types.specs.Actions.{action_of}
 use Rattle.call_rules.specs.Ranks.{is_member, is_rank, members_of, names_twice}
 use Rattle.rank_rules.specs.EpochTests.{is_wrong_group}
 use Rattle.board_rules.specs.Questions.{Question}
-use Rattle.kept_rows.specs.KeptCalls.{kept_call}
+use Rattle.rma_types.specs.KeptCalls.{kept_call}
 use Rattle.sync_board.specs.Rounds.{with_creation, with_fence, with_free}
 use Rattle.sync_board.specs.Sides.{AreRanks, Done, done, own, with_post, with_start, with_complete, with_wait}
 use Rattle.sync_board.specs.Windows.{done_on, entered, entries_after}

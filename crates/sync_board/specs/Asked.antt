@@ -2,7 +2,7 @@
 use Rattle.std.specs.Prelude.{◌≡◌, ℕ, ◌<◌, ◌≤◌, List, IfSome}
 use Rattle.rma_types.specs.declared.scripts.Layout.{Layout}
 use Rattle.rma_types.specs.declared.calls.Call.{Call}
-use Rattle.call_rules.specs.Actions.{window_of_call}
+use Rattle.rma_types.specs.Actions.{window_of_call}
 use Rattle.rank_rules.specs.Windows.{window_number}
 use Rattle.board_rules.specs.Board.{Decision, Refuse, Allow, NotYet}
 use Rattle.board_rules.specs.Entries.{Row, window_of}

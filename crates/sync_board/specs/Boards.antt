@@ -9,14 +9,18 @@ use Rattle.rma_types.specs.declared.calls.Call.{Call}
 use Rattle.rma_types.specs.declared.scripts.Layout.{Layout}
 use Rattle.rma_types.specs.declared.scripts.MemoryPart.{MemoryPart}
 use Rattle.rma_types.specs.declared.scripts.Part.{Part}
-use Rattle.call_rules.specs.Actions.{Action, Creates, Frees, Attaches, Detaches, Synchronises, Meets, Moves}
-use Rattle.call_rules.specs.Actions.{EndsRequest, Creation, Transfer, action_of, creation_of, transfer_of}
+use Rattle.rma_types.specs.declared.actions.Action.{Action}
+use Rattle.rma_types.specs.declared.actions.Action.TheVariants.{Creates, Frees, Attaches, Detaches, Synchronises, Meets}
+use Rattle.rma_types.specs.declared.actions.Action.TheVariants.{Moves, EndsRequest}
+use Rattle.rma_types.specs.declared.actions.Creation.{Creation}
+use Rattle.rma_types.specs.declared.actions.Transfer.{Transfer}
+use Rattle.rma_types.specs.Actions.{action_of, creation_of, transfer_of}
 use Rattle.call_rules.specs.Ranks.{natural}
 use Rattle.call_rules.specs.Transfers.{rank_reached, bytes_of}
 use Rattle.call_rules.specs.WellFormed.{IsWrittenCall}
 use Rattle.rank_rules.specs.EpochTests.{names_wrong_rank, is_wrong_target}
 use Rattle.rank_rules.specs.Windows.{part_at}
-use Rattle.board_rules.specs.Board.{Decision, Refuse, Allow, NotYet, decide}
+use Rattle.board_rules.specs.Board.{Refuse, Allow, NotYet, decide}
 use Rattle.board_rules.specs.Entries.{Row, acts, window_of, collective_of}
 use Rattle.board_rules.specs.Shapes.{part_made, parts_of}
 use Rattle.kept_rows.specs.Gifts.{Front, Given, rows_given, gained_by}
@@ -41,6 +45,14 @@ rows_on board = rows_given board.entries
 -- the entry as users of the board see it
 abbrev pub entry_row : Given → EntryRow
 entry_row one = record { rank = one.row.rank; call = one.row.number; step = one.row.step }
+
+-- the rank that an entry belongs to
+abbrev pub rank_of : Given → ℕ
+rank_of one = one.row.rank
+
+-- the board as it was before its first entry: what never changes of it
+abbrev pub before_entries : BoardState → BoardState
+before_entries board = record board { entries = [] }
 
 -- the front is that of some token
 pub record IsFrontOfToken {N : Type 0} (front_of : N → Front) (front : Front) : Type 0 where

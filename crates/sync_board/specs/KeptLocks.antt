@@ -1,10 +1,10 @@
 -- The locks of one window, by what its entries have done: MPI 3.1, section 11.5.3.
-use Rattle.std.specs.Prelude.{◌≡◌, ℕ, Bool, false, not, ◌==◌, nat_le, List, Option, None, ℤ}
+use Rattle.std.specs.Prelude.{◌≡◌, ℕ, Bool, false, not, ◌&&◌, ◌==◌, nat_le, nat_lt, List, Option, None, ℤ}
 use Rattle.std.specs.List.{filter, list_any}
 use Rattle.std.specs.Option.{option_map_or}
 use Rattle.rma_types.specs.declared.calls.Call.{Call}
 use Rattle.rma_types.specs.declared.calls.Lock.{Lock}
-use Rattle.call_rules.specs.Actions.{synchronisation_of}
+use Rattle.rma_types.specs.Actions.{synchronisation_of}
 use Rattle.call_rules.specs.Pieces.{numbers_from}
 use Rattle.board_rules.specs.Entries.{Act}
 use Rattle.board_rules.specs.Locks.{Held, held_locks, is_given_back, do_clash, lock_of, locks_at, unlock_of}
@@ -46,10 +46,16 @@ clashes held asked = list_any (λ one. list_any (do_clash one) held) asked
 abbrev pub asked_from : ℕ → ℕ → Lock → ℕ → ℕ → List Held
 asked_from rank window kind first count = locks_at rank window kind (numbers_from first count)
 
--- the table is the window's, and has the locks that are held there after the entries, at ranks of the run, of which there
--- are at most 16
+-- the locks of a list without those of a rank at the targets from one up to, but without, another
+abbrev pub left_within : ℕ → ℕ → ℕ → ℕ → List Held → List Held
+left_within rank window first end held =
+    filter (λ (one : Held). not (one.holder == rank && one.window == window && is_within one.target)) held
+  where
+    is_within : ℕ → Bool
+    is_within target = nat_le first target && nat_lt target end
+
+-- the table is the window's, and has the locks that are held there after the entries, at ranks of the run
 pub record KeepsLocks (ranks window : ℕ) (entries : List Act) (table : WindowLocks) : Type 0 where
   pub number : table.window ≡ window
   pub held : HasSameLocks table.held (held_on ranks window entries)
-  pub targets : AtRanks 16 table.held
-  pub ranks_alone : AtRanks ranks table.held
+  pub targets : AtRanks ranks table.held

@@ -4,7 +4,8 @@ use Rattle.std.specs.Option.{option_map, option_map_or}
 use Rattle.rma_types.specs.declared.calls.Asserts.{Asserts}
 use Rattle.rma_types.specs.declared.calls.Call.{Call}
 use Rattle.rma_types.specs.declared.calls.Flavor.{Flavor}
-use Rattle.call_rules.specs.Actions.{Creation, creation_of, synchronisation_of}
+use Rattle.rma_types.specs.declared.actions.Creation.{Creation}
+use Rattle.rma_types.specs.Actions.{creation_of, synchronisation_of}
 use Rattle.board_rules.specs.Rounds.{asserts_of_fence}
 use Rattle.sync_board.specs.Sides.{Done}
 use Rattle.board_rules.specs.Entries.{Collective, Creation as CreationCollective, Freeing as FreeingCollective}

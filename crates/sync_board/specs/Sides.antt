@@ -5,7 +5,8 @@ use Rattle.std.specs.Prelude.{◌++◌, length, map, take, reverse, slice_index,
 use Rattle.std.specs.List.{count_by, filter, flat_map, fold}
 use Rattle.std.specs.Option.{option_map_or}
 use Rattle.rma_types.specs.declared.calls.Call.{Call}
-use Rattle.call_rules.specs.Actions.{Synchronisation, synchronisation_of, action_of}
+use Rattle.rma_types.specs.declared.actions.Synchronisation.{Synchronisation}
+use Rattle.rma_types.specs.Actions.{synchronisation_of, action_of}
 use Rattle.call_rules.specs.Ranks.{is_member}
 use Rattle.rank_rules.specs.Ranges.{Range}
 use Rattle.board_rules.specs.AttachedRanges.{ranges_after}

@@ -5,7 +5,7 @@ use Rattle.rma_types.specs.declared.accesses.Step.{Step}
 use Rattle.rma_types.specs.declared.scripts.Layout.{Layout}
 use Rattle.board_rules.specs.Entries.{Act}
 use Rattle.board_rules.specs.Questions.{Question}
-use Rattle.kept_rows.specs.KeptCalls.{kept_call}
+use Rattle.rma_types.specs.KeptCalls.{kept_call}
 use Rattle.rank_rules.specs.Ranges.{Range}
 use Rattle.sync_board.specs.Boards.{bytes_at}
 use Rattle.sync_board.specs.KeptLocks.{held_on}

@@ -1,6 +1,6 @@
 //! A next entry, as it is asked.
 ghost use Rattle.std.specs.Prelude.{◌≡◌, ◌<◌, ◌≤◌, true};
-ghost use Rattle.call_rules.specs.Actions.{target_of};
+ghost use Rattle.rma_types.specs.Actions.{target_of};
 ghost use Rattle.call_rules.specs.Ranks.{is_rank, natural as natural_of};
 ghost use Rattle.call_rules.specs.Transfers.{rank_reached};
 

@@ -1,7 +1,7 @@
 //! An entry that is allowed, put to what is kept of its window (MPI 3.1, section 11.5).
 ghost use Rattle.std.specs.Prelude.{◌≡◌, true, OnOk, OnErr};
 ghost use Rattle.rma_types.specs.declared.accesses.Step.TheVariants.{Arrive, Leave, One};
-ghost use Rattle.call_rules.specs.Actions.{action_of};
+ghost use Rattle.rma_types.specs.Actions.{action_of};
 ghost use Rattle.rma_types.specs.declared.scripts.Layout.{Layout};
 ghost use Rattle.board_rules.specs.Board.{is_allowed_now};
 ghost use Rattle.board_rules.specs.Questions.{Question};
@@ -9,11 +9,12 @@ ghost use Rattle.sync_board.specs.Asked.{IsQuestion, MayBeAsked};
 ghost use Rattle.sync_board.specs.Nothing.{brings_nothing};
 ghost use Rattle.sync_board.specs.Windows.{KeepsAfter, KeepsBefore};
 
-use crate::asked::{Asked, rank_of};
+use crate::asked::Asked;
 use crate::layouts::KeptLayout;
+use crate::reach::{reach_all, reach_one};
 use crate::truths::natural;
 use crate::window_record::WindowRecord;
-use rma_types::{Call, Flavor, NoMemory, Step};
+use rma_types::{Call, Flavor, Lock, NoMemory, Step};
 use std::alloc::Global;
 
 impl WindowRecord {
@@ -152,21 +153,23 @@ impl WindowRecord {
                 Ok(())
             }
             Call::LockOne { kind, target, .. } => {
-                let target = rank_of(*target, asked.ranks);
-                self.lock_one(window, rank, *kind, target);
+                let reach = reach_one(*target, asked.ranks);
+                self.lock_state.lock(window, rank, *kind, reach);
                 Ok(())
             }
             Call::Unlock { target, .. } => {
-                let target = rank_of(*target, asked.ranks);
-                self.unlock_one(window, rank, target);
+                let reach = reach_one(*target, asked.ranks);
+                self.lock_state.unlock(window, rank, reach);
                 Ok(())
             }
             Call::LockAll { .. } => {
-                self.lock_all(window, rank, asked.ranks);
+                let reach = reach_all(asked.ranks);
+                self.lock_state.lock(window, rank, Lock::Shared, reach);
                 Ok(())
             }
             Call::UnlockAll { .. } => {
-                self.unlock_all(window, rank);
+                let reach = reach_all(asked.ranks);
+                self.lock_state.unlock(window, rank, reach);
                 Ok(())
             }
             Call::Flush { .. }

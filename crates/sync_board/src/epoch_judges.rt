@@ -1,41 +1,33 @@
 //! What a post, a start, a wait and a lock are answered, by what is kept of the window (MPI 3.1, sections 11.5.2 and
 //! 11.5.3).
-ghost use Rattle.std.specs.Prelude.{◌≡◌, ℕ, ◌<◌, ◌≤◌, Bool, true, false, Some, None, List, ℤ};
+ghost use Rattle.std.specs.Prelude.{◌≡◌, ℕ, ◌<◌, ◌≤◌, Bool, false, Option, List, ℤ};
 ghost use Rattle.rma_types.specs.declared.accesses.Step.TheVariants.{One};
-ghost use Rattle.rma_types.specs.declared.calls.Lock.TheVariants.{Shared as SharedLock};
 ghost use Rattle.rma_types.specs.declared.scripts.Layout.{Layout};
-ghost use Rattle.call_rules.specs.Actions.{Locks, Posts, Starts, Synchronises, Waits, action_of};
-ghost use Rattle.call_rules.specs.Ranks.{natural as natural_of};
+ghost use Rattle.rma_types.specs.declared.actions.Action.TheVariants.{Synchronises};
+ghost use Rattle.rma_types.specs.declared.actions.Synchronisation.TheVariants.{Locks, Posts, Starts, Waits};
+ghost use Rattle.rma_types.specs.Actions.{action_of};
 ghost use Rattle.board_rules.specs.Board.{decision, meets_post};
-ghost use Rattle.board_rules.specs.Posts.{is_posted as is_posted_at};
 ghost use Rattle.board_rules.specs.Questions.{Question};
 ghost use Rattle.rank_rules.specs.EpochTests.{is_wrong_group};
 ghost use Rattle.sync_board.specs.Asked.{IsQuestion, decision_of};
+ghost use Rattle.sync_board.specs.Reaches.{Reaches};
 ghost use Rattle.sync_board.specs.Windows.{KeepsBefore};
 
 use crate::asked::{Asked, Judged};
 use crate::matches::{has_completes, has_posts};
 use crate::truths::truths_of;
 use crate::window_record::WindowRecord;
+use entry_gains::Reach;
 use rma_types::{Asserts, Class, Group, Lock};
 
 impl WindowRecord {
-    /// The rank is posted.
-    fn is_posted(&self, rank: u8) -> bool
-        ensures { (layout : Layout) (q : Question) → KeepsBefore layout q self.now →
-            result ≡ is_posted_at q rank }
+    /// A rank of the reach is posted.
+    fn is_any_posted(&self, reach: Reach) -> bool
+        ensures { (layout : Layout) (q : Question) (target : Option ℤ) → Reaches q.ranks target reach →
+            KeepsBefore layout q self.now → result ≡ meets_post q target }
     {
-        self.side_table.is_posted(rank as usize)
-    }
-
-    /// One of so many ranks is posted.
-    fn is_any_posted(&self, ranks: u8) -> bool
-        ensures { (layout : Layout) (q : Question) → q.ranks ≡ ranks →
-            KeepsBefore layout q self.now →
-            result ≡ meets_post q None }
-    {
-        for rank in 0..ranks {
-            if self.is_posted(rank) {
+        for rank in reach.first..reach.end {
+            if self.side_table.is_posted(rank as usize) {
                 return true;
             }
         }
@@ -88,35 +80,18 @@ impl WindowRecord {
         }
     }
 
-    /// The answer to a lock: the post of its target refuses it, and a lock that excludes it has it wait.
-    pub(crate) fn judge_lock(&self, kind: Lock, target: u8) -> Judged
-        requires { target < 16 }
-        ensures { (layout : Layout) (q : Question) (win : ℕ) (named : ℤ) (asserts : Asserts) →
-            action_of q.call ≡ Synchronises win (Locks kind (Some named) asserts) → natural_of named ≡ target →
+    /// The answer to a lock of a kind: a post of a rank of the reach refuses it, and a lock that excludes it has it
+    /// wait.
+    pub(crate) fn judge_lock(&self, kind: Lock, reach: Reach) -> Judged
+        requires { reach.end ≤ 16 }
+        ensures { (layout : Layout) (q : Question) (win : ℕ) (target : Option ℤ) (asserts : Asserts) →
+            action_of q.call ≡ Synchronises win (Locks kind target asserts) → Reaches q.ranks target reach →
             KeepsBefore layout q self.now → decision_of result ≡ decision q One }
     {
-        if self.is_posted(target) {
+        if self.is_any_posted(reach) {
             return Judged::Refused(Class::Sync);
         }
-        if self.lock_state.may_lock(kind, target) {
-            Judged::Allowed
-        } else {
-            Judged::NotYet
-        }
-    }
-
-    /// The answer to a lock_all: the post of any rank refuses it, and an exclusive lock has it wait.
-    pub(crate) fn judge_lock_all(&self, asked: &Asked) -> Judged
-        requires { asked.now.ranks ≤ 16 }
-        ensures { (layout : Layout) (q : Question) (win : ℕ) (asserts : Asserts) →
-            IsQuestion q asked.now →
-            action_of q.call ≡ Synchronises win (Locks SharedLock None asserts) →
-            KeepsBefore layout q self.now → decision_of result ≡ decision q One }
-    {
-        if self.is_any_posted(asked.ranks) {
-            return Judged::Refused(Class::Sync);
-        }
-        if self.lock_state.may_lock_all() {
+        if self.lock_state.may_lock(kind, reach) {
             Judged::Allowed
         } else {
             Judged::NotYet

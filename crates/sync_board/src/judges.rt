@@ -2,7 +2,11 @@
 ghost use Rattle.std.specs.Prelude.{◌≡◌, ℕ, ◌^◌, ◌<◌, ◌≤◌, Some};
 ghost use Rattle.rma_types.specs.declared.accesses.Step.TheVariants.{Arrive, Leave, One};
 ghost use Rattle.rma_types.specs.declared.scripts.Layout.{Layout};
-ghost use Rattle.call_rules.specs.Actions.{Creates, Creation, Fences, Moves, Synchronises, Transfer, action_of};
+ghost use Rattle.rma_types.specs.declared.actions.Creation.{Creation};
+ghost use Rattle.rma_types.specs.declared.actions.Transfer.{Transfer};
+ghost use Rattle.rma_types.specs.declared.actions.Action.TheVariants.{Creates, Moves, Synchronises};
+ghost use Rattle.rma_types.specs.declared.actions.Synchronisation.TheVariants.{Fences};
+ghost use Rattle.rma_types.specs.Actions.{action_of};
 ghost use Rattle.call_rules.specs.Ranks.{natural as natural_of};
 ghost use Rattle.call_rules.specs.Transfers.{rank_reached};
 ghost use Rattle.board_rules.specs.Board.{decision};
@@ -12,11 +16,12 @@ ghost use Rattle.sync_board.specs.Asked.{IsQuestion, MayBeJudged, decision_of};
 ghost use Rattle.sync_board.specs.Rounds.{collective_by};
 ghost use Rattle.sync_board.specs.Windows.{KeepsBefore};
 
-use crate::asked::{Asked, Judged, rank_of, reached};
+use crate::asked::{Asked, Judged, reached};
+use crate::reach::{reach_all, reach_one};
 use crate::rounds::Kind;
 use crate::truths::natural;
 use crate::window_record::WindowRecord;
-use rma_types::{Asserts, Call, Class, Dtype, Flavor, Step};
+use rma_types::{Asserts, Call, Class, Dtype, Flavor, Lock, Step};
 
 impl WindowRecord {
     /// The answer to the arrival at a creation.
@@ -142,9 +147,9 @@ impl WindowRecord {
             Call::TestWin { .. } => self.judge_wait(asked),
             Call::LockOne { kind, target, .. } => self.judge_lock(
                 *kind,
-                rank_of(*target, asked.ranks),
+                reach_one(*target, asked.ranks),
             ),
-            Call::LockAll { .. } => self.judge_lock_all(asked),
+            Call::LockAll { .. } => self.judge_lock(Lock::Shared, reach_all(asked.ranks)),
             Call::Put {
                 target,
                 disp,

@@ -1,7 +1,7 @@
 //! The layout of the ranks' memory, and the parts that creations bring (MPI 3.1, sections 11.2.1 to 11.2.4).
 ghost use Rattle.std.specs.Prelude.{◌≡◌, ℕ, true, [], IfOk, slice_index_or};
 ghost use Rattle.std.specs.Option.{option_map_or};
-ghost use Rattle.call_rules.specs.Actions.{creation_of};
+ghost use Rattle.rma_types.specs.Actions.{creation_of};
 ghost use Rattle.rank_rules.specs.Windows.{no_part};
 ghost use Rattle.board_rules.specs.Shapes.{base_of, part_made};
 ghost use Rattle.sync_board.specs.KeptParts.{AreInOrder, IsInOrder, base_for};

@@ -1,14 +1,16 @@
 //! The locks of one window, with a table from the first lock on (MPI 3.1, section 11.5.3).
-ghost use Rattle.std.specs.Prelude.{◌≡◌, ℕ, ◌<◌, ◌≤◌, true, List, [], ◌∷◌, ◌++◌, Some, None, ℤ};
-ghost use Rattle.rma_types.specs.declared.calls.Lock.TheVariants.{Shared as SharedLock};
-ghost use Rattle.call_rules.specs.Ranks.{natural};
+ghost use Rattle.std.specs.Prelude.{◌≡◌, ℕ, ◌-◌, ◌<◌, ◌≤◌, not, true, false, List, [], ◌∷◌, ◌++◌, Option, Some, ℤ};
+ghost use Rattle.std.specs.List.{list_any};
 ghost use Rattle.board_rules.specs.Entries.{Act};
-ghost use Rattle.board_rules.specs.Locks.{are_free, is_locked as is_locked_at, locks_asked};
+ghost use Rattle.board_rules.specs.Locks.{are_free, do_clash, is_locked as is_locked_at, locks_asked};
 ghost use Rattle.board_rules.specs.Questions.{Question};
+ghost use Rattle.lock_table.specs.HeldLocks.{HasSameLocks, kept, lock};
 ghost use Rattle.sync_board.specs.HeldHere.{KeepsHeld};
-ghost use Rattle.sync_board.specs.KeptLocks.{KeepsLocks, held_on, lock_in, unlock_in};
+ghost use Rattle.sync_board.specs.KeptLocks.{AllOn, KeepsLocks, asked_from, clashes, held_on, left_within, lock_in};
+ghost use Rattle.sync_board.specs.KeptLocks.{unlock_in};
+ghost use Rattle.sync_board.specs.Reaches.{Reaches};
 
-use crate::locks;
+use entry_gains::Reach;
 use lock_table::LockTable;
 use rma_types::Lock;
 
@@ -29,6 +31,74 @@ fn made(table: Option<LockTable>, window: u32) -> LockTable
     }
 }
 
+/// Whether no held lock excludes one of the kind at a rank of the reach.
+fn may_grant(table: &LockTable, kind: Lock, reach: Reach) -> bool
+    requires { reach.end ≤ 16 }
+    ensures { (rank : ℕ) → result ≡ not (clashes table.now.held
+        (asked_from rank table.now.window kind reach.first (reach.end - reach.first))) }
+{
+    for target in reach.first..reach.end {
+        if !table.may_grant(target, kind) {
+            return false;
+        }
+    }
+    true
+}
+
+/// A lock comes, where no held lock excludes it.
+fn grant_at(table: &mut LockTable, rank: u8, kind: Lock, target: u8)
+    requires rank { rank < 16 }
+    requires target { target < 16 }
+    ensures window { table.new.window ≡ table.old.window }
+    ensures held { AllOn table.old.window table.old.held →
+        list_any (do_clash (lock table.old.window target kind rank)) table.old.held ≡ false →
+        HasSameLocks table.new.held (table.old.held ++ lock table.old.window target kind rank ∷ []) }
+{
+    if table.may_grant(target, kind) && !table.holds(target, rank) {
+        table.grant(target, rank, kind);
+    }
+}
+
+/// A lock comes at each rank of the reach, where no held lock excludes it.
+fn grant(table: &mut LockTable, rank: u8, kind: Lock, reach: Reach)
+    requires rank { rank < 16 }
+    requires end { reach.end ≤ 16 }
+    ensures window { table.new.window ≡ table.old.window }
+    ensures held { reach.first ≤ reach.end → AllOn table.old.window table.old.held →
+        clashes table.old.held (asked_from rank table.old.window kind reach.first (reach.end - reach.first)) ≡
+        false → HasSameLocks table.new.held (table.old.held ++
+        asked_from rank table.old.window kind reach.first (reach.end - reach.first)) }
+{
+    for target in reach.first..reach.end {
+        grant_at(table, rank, kind, target);
+    }
+}
+
+/// The lock of a rank at a target goes, where it holds one.
+fn release_at(table: &mut LockTable, rank: u8, target: u8)
+    requires rank { rank < 16 }
+    requires target { target < 16 }
+    ensures window { table.new.window ≡ table.old.window }
+    ensures held { HasSameLocks table.new.held (kept rank table.old.window target table.old.held) }
+{
+    if table.holds(target, rank) {
+        table.release(target, rank);
+    }
+}
+
+/// The locks of a rank at the ranks of the reach go.
+fn release(table: &mut LockTable, rank: u8, reach: Reach)
+    requires rank { rank < 16 }
+    requires end { reach.end ≤ 16 }
+    ensures window { table.new.window ≡ table.old.window }
+    ensures held { reach.first ≤ reach.end → HasSameLocks table.new.held
+        (left_within rank table.old.window reach.first reach.end table.old.held) }
+{
+    for target in reach.first..reach.end {
+        release_at(table, rank, target);
+    }
+}
+
 impl LockState {
     /// No lock is held.
     pub(crate) fn new() -> LockState
@@ -38,27 +108,15 @@ impl LockState {
         LockState { table: None }
     }
 
-    /// Whether a lock of this kind at a target is free.
-    pub(crate) fn may_lock(&self, kind: Lock, target: u8) -> bool
-        requires { target < 16 }
-        ensures { (q : Question) (asked : ℤ) → natural asked ≡ target →
+    /// Whether a lock of this kind is free at each rank of the reach.
+    pub(crate) fn may_lock(&self, kind: Lock, reach: Reach) -> bool
+        requires { reach.end ≤ 16 }
+        ensures { (q : Question) (target : Option ℤ) → Reaches q.ranks target reach →
             KeepsHeld q.ranks q.window q.entries self.now.table →
-            result ≡ are_free q (locks_asked q kind (Some asked)) }
+            result ≡ are_free q (locks_asked q kind target) }
     {
         match &self.table {
-            Some(table) => locks::may_lock(table, kind, target),
-            None => true,
-        }
-    }
-
-    /// Whether a shared lock at each rank is free.
-    pub(crate) fn may_lock_all(&self) -> bool
-        ensures { (q : Question) →
-            KeepsHeld q.ranks q.window q.entries self.now.table →
-            result ≡ are_free q (locks_asked q SharedLock None) }
-    {
-        match &self.table {
-            Some(table) => locks::may_lock_all(table),
+            Some(table) => may_grant(table, kind, reach),
             None => true,
         }
     }
@@ -70,69 +128,38 @@ impl LockState {
             result ≡ is_locked_at q rank }
     {
         match &self.table {
-            Some(table) => locks::is_locked(table, rank),
+            Some(table) => table.is_held(rank),
             None => false,
         }
     }
 
-    /// The rank has taken a lock that was free, at a target.
-    pub(crate) fn lock_one(&mut self, window: u32, rank: u8, kind: Lock, target: u8)
+    /// The rank has taken a lock, that was free, at each rank of the reach.
+    pub(crate) fn lock(&mut self, window: u32, rank: u8, kind: Lock, reach: Reach)
         requires rank { rank < 16 }
-        requires target { target < 16 }
-        ensures { (q : Question) (act : Act) (asked : ℤ) → natural asked ≡ target →
-            target < q.ranks →
+        requires end { reach.end ≤ 16 }
+        ensures { (q : Question) (act : Act) (target : Option ℤ) → Reaches q.ranks target reach →
             q.window ≡ window → act.window ≡ q.window → act.row.rank ≡ rank → q.rank ≡ rank →
-            lock_in act.row.call ≡ Some (kind, Some asked) →
-            are_free q (locks_asked q kind (Some asked)) ≡ true →
+            lock_in act.row.call ≡ Some (kind, target) → are_free q (locks_asked q kind target) ≡ true →
             KeepsHeld q.ranks q.window q.entries self.old.table →
             KeepsHeld q.ranks q.window (q.entries ++ act ∷ []) self.new.table }
     {
         let mut table = made(self.table.take(), window);
-        locks::lock_one(&mut table, rank, kind, target);
+        grant(&mut table, rank, kind, reach);
         self.table = Some(table);
     }
 
-    /// The rank has taken a shared lock, that was free, at each of so many ranks.
-    pub(crate) fn lock_all(&mut self, window: u32, rank: u8, ranks: u8)
+    /// The rank has given back its locks at the ranks of the reach, where it held any.
+    pub(crate) fn unlock(&mut self, window: u32, rank: u8, reach: Reach)
         requires rank { rank < 16 }
-        requires ranks { ranks ≤ 16 }
-        ensures { (q : Question) (act : Act) → q.ranks ≡ ranks → q.window ≡ window →
-            act.window ≡ q.window → act.row.rank ≡ rank → q.rank ≡ rank →
-            lock_in act.row.call ≡ Some (SharedLock, None) →
-            are_free q (locks_asked q SharedLock None) ≡ true →
-            KeepsHeld q.ranks q.window q.entries self.old.table →
-            KeepsHeld q.ranks q.window (q.entries ++ act ∷ []) self.new.table }
-    {
-        let mut table = made(self.table.take(), window);
-        locks::lock_all(&mut table, rank, ranks);
-        self.table = Some(table);
-    }
-
-    /// The rank has given back its lock at a target, where it held one.
-    pub(crate) fn unlock_one(&mut self, window: u32, rank: u8, target: u8)
-        requires rank { rank < 16 }
-        requires target { target < 16 }
-        ensures { (ranks at : ℕ) (entries : List Act) (act : Act) (asked : ℤ) →
-            natural asked ≡ target → at ≡ window →
-            act.window ≡ at → act.row.rank ≡ rank → unlock_in act.row.call ≡ Some (Some asked) →
+        requires end { reach.end ≤ 16 }
+        ensures { (ranks at : ℕ) (entries : List Act) (act : Act) (target : Option ℤ) →
+            Reaches ranks target reach →
+            at ≡ window → act.window ≡ at → act.row.rank ≡ rank → unlock_in act.row.call ≡ Some target →
             KeepsHeld ranks at entries self.old.table →
             KeepsHeld ranks at (entries ++ act ∷ []) self.new.table }
     {
         let mut table = made(self.table.take(), window);
-        locks::unlock_one(&mut table, rank, target);
-        self.table = Some(table);
-    }
-
-    /// The rank has given back all its locks.
-    pub(crate) fn unlock_all(&mut self, window: u32, rank: u8)
-        requires { rank < 16 }
-        ensures { (ranks at : ℕ) (entries : List Act) (act : Act) → at ≡ window →
-            act.window ≡ at → act.row.rank ≡ rank → unlock_in act.row.call ≡ Some None →
-            KeepsHeld ranks at entries self.old.table →
-            KeepsHeld ranks at (entries ++ act ∷ []) self.new.table }
-    {
-        let mut table = made(self.table.take(), window);
-        locks::unlock_all(&mut table, rank);
+        release(&mut table, rank, reach);
         self.table = Some(table);
     }
 }

@@ -2,7 +2,7 @@
 ghost use Rattle.std.specs.Prelude.{◌≡◌, ℕ, ◌<◌, ◌^◌, true, Some, List, IfOk, OnOk, OnErr};
 ghost use Rattle.rma_types.specs.declared.accesses.Step.TheVariants.{Arrive};
 ghost use Rattle.rma_types.specs.declared.scripts.Layout.{Layout};
-ghost use Rattle.call_rules.specs.Actions.{Creation};
+ghost use Rattle.rma_types.specs.declared.actions.Creation.{Creation};
 ghost use Rattle.rank_rules.specs.Windows.{window_number};
 ghost use Rattle.board_rules.specs.Board.{decision, is_allowed_now};
 ghost use Rattle.board_rules.specs.Entries.{Barrier as BarrierCollective, Act, Row, acts, collective_of, window_of};

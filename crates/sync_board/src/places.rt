@@ -1,6 +1,6 @@
 //! The window that an entry is on, by name and round (MPI 3.1, section 11.2).
 ghost use Rattle.std.specs.Prelude.{◌≡◌, ℕ, ◌<◌, IfSome};
-ghost use Rattle.call_rules.specs.Actions.{window_of_call as window_named_in};
+ghost use Rattle.rma_types.specs.Actions.{window_of_call as window_named_in};
 ghost use Rattle.call_rules.specs.WellFormed.{IsWrittenCall};
 ghost use Rattle.board_rules.specs.Entries.{begins_window as does_begin_window, is_creation as is_creation_call};
 

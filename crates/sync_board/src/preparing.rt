@@ -3,7 +3,8 @@ ghost use Rattle.std.specs.Prelude.{◌≡◌, ◌<◌, ℕ, List, ◌∷◌, []
 ghost use Rattle.board_rules.specs.Board.{Allow, decide};
 ghost use Rattle.board_rules.specs.Entries.{Row, acts, window_of};
 ghost use Rattle.kept_rows.specs.Gifts.{Given};
-ghost use Rattle.kept_rows.specs.KeptCalls.{kept_call as kept_call_of, kept_row};
+ghost use Rattle.rma_types.specs.KeptCalls.{kept_call};
+ghost use Rattle.kept_rows.specs.KeptCalls.{kept_row};
 ghost use Rattle.rank_rules.specs.Windows.{window_number};
 ghost use Rattle.sync_board.specs.Asked.{IsAfter, MayBeAsked, row_asked};
 ghost use Rattle.sync_board.specs.Boards.{BoardState, IsLayoutOf, IsMadeBy, rows_on};
@@ -19,7 +20,6 @@ use crate::made::shape_made;
 use crate::state::State;
 use cell_face::Token;
 use entry_gains::Gains;
-use kept_rows::kept_call;
 use rma_types::{Call, NoMemory};
 use std::alloc::Global;
 use window_regions::Shape;
@@ -34,7 +34,7 @@ pub(crate) struct Prepared {
 /// The call of an entry as it is kept, and the window that the entry makes.
 fn prepare(alloc: Global, asked: &Asked, state: &State) -> Result<Prepared, NoMemory>
     requires { asked.now.name < 32 }
-    ensures call { IfOk result (λ prepared. prepared.call ≡ kept_call_of asked.now.call.now) }
+    ensures call { IfOk result (λ prepared. prepared.call ≡ kept_call asked.now.call.now) }
     ensures made { IfOk result (λ prepared. (board : BoardState) → board.ranks ≡ asked.now.ranks →
         IsLayoutOf board.ranks board.layout →
         window_of (rows_on board) (row_asked asked.now) ≡ window_number asked.now.round asked.now.name →
@@ -43,7 +43,7 @@ fn prepare(alloc: Global, asked: &Asked, state: &State) -> Result<Prepared, NoMe
 {
     match shape_made(alloc, asked, &state.windows) {
         Err(_) => Err(NoMemory),
-        Ok(made) => match kept_call(alloc, asked.call) {
+        Ok(made) => match asked.call.copy_without_values(alloc) {
             Err(_) => Err(NoMemory),
             Ok(call) => Ok(Prepared { call, made }),
         },
@@ -86,7 +86,7 @@ pub(crate) fn prepare_entry<N: Token>(
         IsSound N.origin name gains.new }
     ensures space { OnOk result (HasSpace list.new) }
     ensures room { OnOk result (HasGainsRoom gains.new) }
-    ensures call { IfOk result (λ prepared. prepared.call ≡ kept_call_of asked.now.call.now) }
+    ensures call { IfOk result (λ prepared. prepared.call ≡ kept_call asked.now.call.now) }
     ensures made { IfOk result (λ prepared. (board : BoardState) → board.ranks ≡ asked.now.ranks →
         IsLayoutOf board.ranks board.layout →
         window_of (rows_on board) (row_asked asked.now) ≡ window_number asked.now.round asked.now.name →

@@ -1,14 +1,15 @@
 //! What is kept of one window.
-ghost use Rattle.std.specs.Prelude.{◌≡◌, ℕ, ◌+◌, ◌^◌, ◌<◌, ◌≤◌, Bool, true, false, Some, None, List, ℤ, OnOk, OnErr};
+ghost use Rattle.std.specs.Prelude.{◌≡◌, ℕ, ◌+◌, ◌^◌, ◌<◌, ◌≤◌, Bool, false, ℤ, List, OnOk, OnErr};
 ghost use Rattle.rma_types.specs.declared.accesses.Step.{Step};
 ghost use Rattle.rma_types.specs.declared.accesses.Step.TheVariants.{Arrive, Leave};
-ghost use Rattle.rma_types.specs.declared.calls.Lock.TheVariants.{Shared as SharedLock};
 ghost use Rattle.rma_types.specs.declared.scripts.Layout.{Layout};
-ghost use Rattle.call_rules.specs.Actions.{Attaches, Completes, Creates, Creation, Detaches, Fences, Frees, Locks};
-ghost use Rattle.call_rules.specs.Actions.{Posts, Starts, Synchronises, Unlocks, Waits, action_of};
+ghost use Rattle.rma_types.specs.declared.actions.Creation.{Creation};
+ghost use Rattle.rma_types.specs.declared.actions.Action.TheVariants.{Attaches, Creates, Detaches, Frees, Synchronises};
+ghost use Rattle.rma_types.specs.declared.actions.Synchronisation.TheVariants.{Completes, Fences, Posts, Starts};
+ghost use Rattle.rma_types.specs.declared.actions.Synchronisation.TheVariants.{Waits};
+ghost use Rattle.rma_types.specs.Actions.{action_of};
 ghost use Rattle.call_rules.specs.Ranks.{natural};
 ghost use Rattle.rank_rules.specs.EpochTests.{is_wrong_group};
-ghost use Rattle.board_rules.specs.Locks.{are_free, locks_asked};
 ghost use Rattle.board_rules.specs.Questions.{Question};
 ghost use Rattle.sync_board.specs.Boards.{bytes_at};
 ghost use Rattle.board_rules.specs.Entries.{Act};
@@ -23,7 +24,7 @@ use crate::region_table::RegionTable;
 use crate::round_table::RoundTable;
 use crate::side_table::SideTable;
 use crate::truths::truths_of;
-use rma_types::{Asserts, Flavor, Group, Lock, NoMemory, Part};
+use rma_types::{Asserts, Flavor, Group, NoMemory, Part};
 use std::alloc::Global;
 
 /// The tables of one window. Each is empty until it is used.
@@ -159,56 +160,6 @@ impl WindowRecord {
             }
             Err(_) => Err(NoMemory),
         }
-    }
-
-    /// The rank has locked one target.
-    pub(crate) fn lock_one(&mut self, window: u32, rank: u8, kind: Lock, target: u8)
-        requires rank { rank < 16 }
-        requires target { target < 16 }
-        ensures { (layout : Layout) (q : Question) (number : ℕ) (step : Step) (win : ℕ) (asked : ℤ)
-            (asserts : Asserts) → q.rank ≡ rank → q.window ≡ window →
-            action_of q.call ≡ Synchronises win (Locks kind (Some asked) asserts) →
-            natural asked ≡ target → target < q.ranks → are_free q (locks_asked q kind (Some asked)) ≡ true →
-            KeepsBefore layout q self.old → KeepsAfter layout q number step self.new }
-    {
-        self.lock_state.lock_one(window, rank, kind, target);
-    }
-
-    /// The rank has locked all ranks.
-    pub(crate) fn lock_all(&mut self, window: u32, rank: u8, ranks: u8)
-        requires rank { rank < 16 }
-        requires ranks { ranks ≤ 16 }
-        ensures { (layout : Layout) (q : Question) (number : ℕ) (step : Step) (win : ℕ)
-            (asserts : Asserts) →
-            q.rank ≡ rank → q.ranks ≡ ranks → q.window ≡ window →
-            action_of q.call ≡ Synchronises win (Locks SharedLock None asserts) →
-            are_free q (locks_asked q SharedLock None) ≡ true →
-            KeepsBefore layout q self.old → KeepsAfter layout q number step self.new }
-    {
-        self.lock_state.lock_all(window, rank, ranks);
-    }
-
-    /// The rank has unlocked one target.
-    pub(crate) fn unlock_one(&mut self, window: u32, rank: u8, target: u8)
-        requires rank { rank < 16 }
-        requires target { target < 16 }
-        ensures { (layout : Layout) (q : Question) (number : ℕ) (step : Step) (win : ℕ)
-            (asked : ℤ) →
-            q.rank ≡ rank → q.window ≡ window → action_of q.call ≡ Synchronises win (Unlocks (Some asked)) →
-            natural asked ≡ target →
-            KeepsBefore layout q self.old → KeepsAfter layout q number step self.new }
-    {
-        self.lock_state.unlock_one(window, rank, target);
-    }
-
-    /// The rank has unlocked all ranks.
-    pub(crate) fn unlock_all(&mut self, window: u32, rank: u8)
-        requires { rank < 16 }
-        ensures { (layout : Layout) (q : Question) (number : ℕ) (step : Step) (win : ℕ) →
-            q.rank ≡ rank → q.window ≡ window → action_of q.call ≡ Synchronises win (Unlocks None) →
-            KeepsBefore layout q self.old → KeepsAfter layout q number step self.new }
-    {
-        self.lock_state.unlock_all(window, rank);
     }
 
     /// The rank has attached so many bytes from the base on.

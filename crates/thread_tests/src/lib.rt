@@ -2,6 +2,10 @@
 #![tactic(auto)]
 
 #[cfg(test)]
+mod many;
+#[cfg(test)]
+mod rows;
+#[cfg(test)]
 mod sums;
 #[cfg(test)]
 mod touches;

@@ -6,7 +6,7 @@ use native.Mathlib.Decide.{ℕ_discrete}
 use Rattle.std.specs.Prelude.{All, leb, if◌then◌else◌}
 use Rattle.std.proofs.lemmas.Bool.Decides.{leb_tells}
 use Rattle.std.proofs.lemmas.List.{append-nil, append_assoc}
-use Rattle.std.proofs.lemmas.List.Elements.{All-cons, All-head, All-tail}
+use Rattle.std.proofs.lemmas.List.Elements.{All-cons, All-head, All-tail, filter-append}
 use Rattle.turn_lock.specs.Lists.{of, longer}
 use Rattle.turn_lock.specs.Rules.{weight, times}
 use Rattle.turn_lock.specs.Views.{numbers_from}
@@ -33,6 +33,9 @@ module _ {E : Type 0} where
       let h = prefix_shorter xs ys zs (p.0, ap (λ (l : List E). drop 1 l) p.1) (q.0, ap (λ (l : List E). drop 1 l) q.1) (omega arith) in
       let e : x ≡ y = ap (λ (l : List E). get_or l 0 z) p.1 ∙ sym (ap (λ (l : List E). get_or l 0 z) q.1) in
       (h.0, λ i. e i ∷ h.1 i)
+
+  pub prefix_of : (owner : E → ℕ) (n : ℕ) (xs ys : List E) → IsPrefix xs ys → IsPrefix (of owner n xs) (of owner n ys)
+  prefix_of owner n xs ys p = (of owner n p.0, sym (filter-append (λ (e : E). eqb (owner e) n) xs p.0) ∙ ap (of owner n) p.1)
 
   longer_by : (xs ys zs : List E) → IsPrefix xs zs → IsPrefix ys zs → (b : Bool) → ((b ≡ true) × (length ys ≤ length xs)) ⊎ ((b ≡ false) × (length xs < length ys))
       → IsPrefix xs (if b then xs else ys) × IsPrefix ys (if b then xs else ys) × IsPrefix (if b then xs else ys) zs

@@ -13,7 +13,7 @@ use Rattle.turn_lock.specs.Rules.{weight, times, drawn, has_drawn, Fits, Kept}
 use Rattle.turn_lock.specs.Steps.{Learns}
 use Rattle.turn_lock.specs.declared.views.View.{View}
 use Rattle.turn_lock.proofs.Totals.{total_append, total_cut, total_joined, total_over}
-use Rattle.turn_lock.proofs.Entries.{all_none, longer_prefix, numbers_length, numbers_once, numbers_gave}
+use Rattle.turn_lock.proofs.Entries.{all_none, longer_prefix, prefix_of, numbers_length, numbers_once, numbers_gave}
 use Rattle.turn_lock.proofs.Moves.{none_some, drawn_le, recut, reseen}
 
 some_same : {A : Type 0} (a b : A) → Some a ≡ Some b → b ≡ a
@@ -117,7 +117,7 @@ module _ {V E O : Type 0} (list : V → List E) (owner : E → ℕ) (origin : V 
       (λ p. ⊎_elim (λ q. subst (λ (z : View E O). FitsHere k.log k.served k.line z) q.1 (both_fits k.log k.served k.line v w f g)) (λ q. k.fits j u q.1) (at_set s.views id j (both v w) u p.1))
       (at_set (set s.views id (both v w)) other j spent u d))
 
-  pub learns : (slots id : ℕ) (st : Step (Option V)) (n : ℕ) (g kn h : List E) (o : O) → Allows Rule slots id (hearing n g kn h o, []) 1 (λ m. m) (Learns st (hearing n g kn h o, []))
+  pub learns : (slots id : ℕ) (st : Step (Option V)) (n : ℕ) (g kn h : List E) (o : O) → Allows Rule slots id (hearing n g kn h o, []) 1 (λ m. m) (Learns owner st (hearing n g kn h o, []))
   learns slots id st n g kn h o s k long at small =
       let v : View E O = hearing n g kn h o in
       let w : View E O = resting n g (longer kn h) o in
@@ -138,7 +138,12 @@ module _ {V E O : Type 0} (list : V → List E) (owner : E → ℕ) (origin : V 
               gave = f.gave;
               of_origin = f.of_origin;
             }),
-        (refl, p.0, All-cons (λ (l : List E). IsPrefix l (longer kn h)) h [] p.1 (all_none (λ (l : List E). IsPrefix l (longer kn h)))),
+        (
+          refl,
+          p.0,
+          All-cons (λ (l : List E). IsPrefix l (longer kn h)) h [] p.1 (all_none (λ (l : List E). IsPrefix l (longer kn h))),
+          subst (IsPrefix (of owner n (longer kn h))) (All-head (HasGiven k.log) (n, g) [] f.gave).1 (prefix_of owner n (longer kn h) k.log p.2),
+        ),
       )
 
   pub opens : (x : V) → list x ≡ [] → origin x ≡ from → seats < 2 ^ 32 → Rule (opening (0 ∷ 0 ∷ []) (Some x ∷ []) (opening_view seats from))
@@ -200,8 +205,8 @@ module _ {V E O : Type 0} (list : V → List E) (owner : E → ℕ) (origin : V 
   -- the same for a seat that is known to be so
 
   pub learns_at : (slots id : ℕ) (m : Me (Option V) (View E O)) (n : ℕ) (g kn h : List E) (o : O) → m ≡ (hearing n g kn h o, [])
-      → Allows Rule slots id m 1 (λ x. x) (Learns (step 0 0 0 0 none) m)
-  learns_at slots id m n g kn h o e = subst (λ (z : Me (Option V) (View E O)). Allows Rule slots id z 1 (λ x. x) (Learns (step 0 0 0 0 none) z)) (sym e) (learns slots id (step 0 0 0 0 none) n g kn h o)
+      → Allows Rule slots id m 1 (λ x. x) (Learns owner (step 0 0 0 0 none) m)
+  learns_at slots id m n g kn h o e = subst (λ (z : Me (Option V) (View E O)). Allows Rule slots id z 1 (λ x. x) (Learns owner (step 0 0 0 0 none) z)) (sym e) (learns slots id (step 0 0 0 0 none) n g kn h o)
 
   pub deals_at : (id : ℕ) (v : View E O) (p : ℕ × List E) (ps : List (ℕ × List E)) (o : O) → v ≡ dealing (p ∷ ps) o → Splits Rule id v (without_first v) (first_alone v)
   deals_at id v p ps o e = subst (λ (z : View E O). Splits Rule id z (without_first z) (first_alone z)) (sym e) (deals id p ps o)

@@ -47,12 +47,14 @@ module _ {V E O : Type 0} where
   abbrev pub Draws : Step (Option V) → Seated V E O → ℕ → Seated V E O → Type 0
   Draws s m found after = (t : ℕ) × (found ≡ t % 2 ^ 64) × (after ≡ (drawing m.0 t, m.1))
 
-  -- the longest list is known, which all others begin
-  abbrev pub Learns : Step (Option V) → Seated V E O → ℕ → Seated V E O → Type 0
-  Learns s m found after =
+  -- the longest list is known, which all others begin; what it has of the first number is what was given under it, as
+  -- far as the list goes
+  abbrev pub Learns : (E → ℕ) → Step (Option V) → Seated V E O → ℕ → Seated V E O → Type 0
+  Learns owner s m found after =
       (after ≡ (learning m.0, m.1))
       × IsPrefix m.0.known (learning m.0).known
       × All (λ (heard : List E). IsPrefix heard (learning m.0).known) m.0.heard
+      × IsPrefix (of owner (number m.0) (learning m.0).known) (given m.0)
 
 module _ {V E O : Type 0} (list : V → List E) where
   -- the view after the value was given back

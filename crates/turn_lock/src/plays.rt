@@ -33,7 +33,7 @@ pub(crate) struct Learn;
 impl<V: Listed> Play<Option<V>, View<V::Entry, V::Origin>> for Learn {
     ghost use Rattle.turn_lock.specs.Steps.{Learns};
 
-    ghost then = { Learns };
+    ghost then = { Learns V.owner };
 }
 
 /// A seat of its own for the first number.

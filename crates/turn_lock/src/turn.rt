@@ -117,6 +117,8 @@ impl<V: Listed> Turn<V> {
         ensures knows { known_by seat.new ≡ longer (known_by seat.old) (known_by other.old) }
         ensures old { IsPrefix (known_by seat.old) (known_by seat.new) }
         ensures others { IsPrefix (known_by other.old) (known_by seat.new) }
+        ensures own { IsPrefix (of V.owner (number_of seat.old) (known_by seat.new))
+            (given_by seat.old) }
         ensures other { IsIdle V.origin self.now other.new }
         ensures other_stays { IsSameSeat other.old other.new ×
             (known_by other.new ≡ known_by other.old) }

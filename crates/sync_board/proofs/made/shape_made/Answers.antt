@@ -1,6 +1,6 @@
 use Rattle.std.proofs.Common.{refl, sym, ◌∙◌, subst, Some, None}
 use Rattle.rma_types.specs.declared.accesses.Step.{Step}
-use Rattle.call_rules.specs.Actions.{creation_of}
+use Rattle.rma_types.specs.Actions.{creation_of}
 use Rattle.sync_board.specs.Asked.{row_asked}
 use Rattle.sync_board.specs.Boards.{IsMadeBy}
 use Rattle.sync_board.proofs.MadeShapes.{none_made, one_made}

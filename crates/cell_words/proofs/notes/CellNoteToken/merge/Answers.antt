@@ -1,9 +1,9 @@
 use Rattle.std.proofs.Common.{◌≡◌, ap, sym, ◌∙◌, arith, ℕ, List, [], length, get_or}
 use Rattle.atomic_table.specs.Table.{Me}
 use Rattle.cell_face.specs.Fronts.{greater}
+use Rattle.cell_face.proofs.GreaterFronts.{length-greater}
 use Rattle.cell_words.specs.declared.views.View.{View}
 use Rattle.cell_words.specs.Views.{bare, joined}
-use Rattle.cell_words.proofs.Elements.{length_greater}
 use Rattle.cell_words.proofs.notes.CellNoteToken.merge.Goals as goal
 
 pub invariant_of-self : goal.invariant_of-self
@@ -22,7 +22,7 @@ invariant_of-self c =
       ap (λ t. t.words) c.into_seat.ensures.table,
       ap (λ n. n.table.words) c.self.view_is,
     ) in
-    let whole = length_greater c.self.inside.seat.me.0.lows c.args.other.lows same in (
+    let whole = length-greater c.self.inside.seat.me.0.lows c.args.other.lows same in (
       omega (
         arith,
         whole,

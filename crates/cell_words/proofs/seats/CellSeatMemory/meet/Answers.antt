@@ -3,10 +3,10 @@ use Rattle.std.proofs.lemmas.List.{append-nil}
 use Rattle.atomic_table.specs.Table.{Me}
 use Rattle.atomic_table.specs.Seated.{TableId}
 use Rattle.cell_face.specs.Faces.{Takes}
+use Rattle.cell_face.proofs.GreaterFronts.{length-greater}
 use Rattle.cell_words.specs.declared.views.View.{View}
 use Rattle.cell_words.specs.Views.{bare, joined}
 use Rattle.cell_words.specs.Holders.{Seated, face_of}
-use Rattle.cell_words.proofs.Elements.{length_greater}
 use Rattle.cell_words.proofs.SeatFaces.{seated, seat_takes}
 use Rattle.cell_words.proofs.seats.CellSeatMemory.meet.Goals as goal
 
@@ -26,7 +26,7 @@ invariant_of-self c =
       ap (λ t. t.words) c.into_seat.ensures.table,
       ap (λ n. n.table.words) c.self.view_is,
     ) in
-    let whole = length_greater mine.lows c.args.note.lows same in (
+    let whole = length-greater mine.lows c.args.note.lows same in (
       omega (
         arith,
         whole,

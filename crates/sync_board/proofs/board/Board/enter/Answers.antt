@@ -2,18 +2,19 @@ use Rattle.std.proofs.Common.{◌≡◌, ◌+◌, ◌<◌, IfSome, List, [], ◌
 use Rattle.std.proofs.lemmas.List.{length-append}
 use Rattle.std.specs.Option.{option_map}
 use Rattle.rma_types.specs.declared.calls.Call.{Call}
-use Rattle.call_rules.specs.Actions.{action_of, transfer_of}
+use Rattle.rma_types.specs.Actions.{action_of, transfer_of}
 use Rattle.board_rules.specs.Board.{Allow, decide}
 use Rattle.board_rules.specs.Entries.{Row, acts}
 use Rattle.kept_rows.specs.Gifts.{Front, Given, gained_by, rows_given}
 use Rattle.kept_rows.specs.KeptCalls.{kept_row}
+use Rattle.kept_rows.proofs.GiftLaws.{rows_more}
 use Rattle.entry_gains.specs.Gains.{IsNext, Keeps, one_more}
 use Rattle.sync_board.specs.Asked.{IsAfter, row_asked}
 use Rattle.sync_board.specs.Boards.{BoardState, IsLayoutOf, LooksInside, NamesRanks, rows_on, with_entry}
 use Rattle.sync_board.specs.Counted.{KeepsState}
 use Rattle.sync_board.specs.Named.{KeepsWindows}
 use Rattle.sync_board.specs.Lists.{IsList, entries_in}
-use Rattle.sync_board.proofs.BoardSteps.{entered_list, gift_from, givens_length, list_more, looks, names_so, rows_more}
+use Rattle.sync_board.proofs.BoardSteps.{entered_list, gift_from, givens_length, list_more, looks, names_so}
 use Rattle.sync_board.proofs.BoardSteps.{same_entries, unchanged, whole_of}
 use Rattle.sync_board.proofs.LookUps.{looks_inside}
 use Rattle.sync_board.proofs.board.Board.enter.Goals as goal

@@ -1,8 +1,8 @@
 use Rattle.std.proofs.Common.{◌≡◌, ◌∙◌, sym, arith, ⊎_elim}
 use Rattle.std.specs.List.{list_any}
 use Rattle.std.proofs.lemmas.Bool.{cases_lt}
+use Rattle.call_rules.proofs.NumbersFrom.{all_numbers, not_all_numbers}
 use Rattle.rank_rules.specs.Ranges.{has_byte}
-use Rattle.sync_board.proofs.RoundSteps.{all_numbers, not_all_numbers}
 use Rattle.sync_board.proofs.regions.Regions.covers.Goals as goal
 
 pub loop-address-preserved : goal.loop-address-preserved

@@ -1,11 +1,12 @@
 use Rattle.std.proofs.Common.{◌≡◌, ℕ, ◌∙◌, ap, sym, subst, true, false, length, arith, ⊎_elim}
 use Rattle.std.specs.List.{list_any}
 use Rattle.std.proofs.lemmas.Bool.{cases_lt}
+use Rattle.call_rules.proofs.NumbersFrom.{no_number, some_number}
 use Rattle.board_rules.specs.Rounds.{is_differing_fence}
 use Rattle.sync_board.specs.declared.rounds.Kind.TheVariants.{Fence}
 use Rattle.sync_board.specs.Rounds.{arrival_in}
 use Rattle.sync_board.specs.Sides.{done_at}
-use Rattle.sync_board.proofs.RoundSteps.{no_number, round_is, some_number}
+use Rattle.sync_board.proofs.RoundSteps.{round_is}
 use Rattle.sync_board.proofs.round_table.RoundTable.has_other_fence.Goals as goal
 
 pub returns-then-fence_differs : goal.returns-then-fence_differs

@@ -1,8 +1,9 @@
 use Rattle.std.proofs.Common.{◌≡◌, ℕ, ◌∙◌, ap, sym, subst, true, leb, length, arith, ⊎_elim}
 use Rattle.std.proofs.lemmas.Bool.{cases_lt, le-leb, lt-leb}
+use Rattle.call_rules.proofs.NumbersFrom.{all_numbers, not_all_numbers}
 use Rattle.sync_board.specs.Rounds.{arrivals_by}
 use Rattle.sync_board.specs.Sides.{done_at}
-use Rattle.sync_board.proofs.RoundSteps.{all_numbers, arrived_is, not_all_numbers}
+use Rattle.sync_board.proofs.RoundSteps.{arrived_is}
 use Rattle.sync_board.proofs.round_table.RoundTable.have_all_arrived.Goals as goal
 
 pub returns-then-arrived-begun : goal.returns-then-arrived-begun

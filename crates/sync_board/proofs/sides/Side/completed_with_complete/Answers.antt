@@ -1,10 +1,11 @@
 use Rattle.std.proofs.Common.{List, Bool, subst, arith}
+use Rattle.list_laws.proofs.Options.{if_some_weaker}
 use Rattle.sync_board.specs.Sides.{IsRaised}
-use Rattle.sync_board.proofs.SideSteps.{some_so, with_complete_of, with_complete_past}
+use Rattle.sync_board.proofs.SideSteps.{with_complete_of, with_complete_past}
 use Rattle.sync_board.proofs.sides.Side.completed_with_complete.Goals as goal
 
 pub returns-then-at-len : goal.returns-then-at-len
-returns-then-at-len c = some_so _ _
+returns-then-at-len c = if_some_weaker _ _
     (λ new more.
     let P : List Bool → Type 0 = λ named. IsRaised c.args.self.now.completed_to named new in
     with_complete_of c.args.self.now new c.index.result.now (omega arith) (subst P c.index.ensures more))

@@ -1,9 +1,10 @@
 use Rattle.std.proofs.Common.{arith}
-use Rattle.sync_board.proofs.SideSteps.{some_so, with_start_past, with_start_before}
+use Rattle.list_laws.proofs.Options.{if_some_weaker}
+use Rattle.sync_board.proofs.SideSteps.{with_start_past, with_start_before}
 use Rattle.sync_board.proofs.sides.Side.completed_with_start.Goals as goal
 
 pub returns-then-len-self : goal.returns-then-len-self
-returns-then-len-self c = some_so _ _ (λ new more. with_start_past c.args.self.now c.args.group.now new
+returns-then-len-self c = if_some_weaker _ _ (λ new more. with_start_past c.args.self.now c.args.group.now new
     (omega arith) more) c.raised.result c.raised.ensures
 
 pub returns-else-len-self : goal.returns-else-len-self

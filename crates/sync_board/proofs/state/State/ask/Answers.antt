@@ -1,6 +1,6 @@
 use Rattle.std.proofs.Common.{◌≡◌, ◌+◌, ◌*◌, ◌-◌, cond, refl, ap, sym, ◌∙◌, Some}
 use Rattle.std.specs.Option.{option_map_or}
-use Rattle.call_rules.specs.Actions.{window_of_call}
+use Rattle.rma_types.specs.Actions.{window_of_call}
 use Rattle.rank_rules.specs.Windows.{window_number}
 use Rattle.board_rules.specs.Entries.{Row, creations, round_of}
 use Rattle.sync_board.proofs.state.State.ask.Goals as goal

@@ -1,10 +1,10 @@
-use Rattle.std.proofs.Common.{◌≡◌, ◌+◌, cond, get_or, length, Bool, true, false, refl, ap, sym, ◌∙◌, subst, Option}
-use Rattle.std.proofs.Common.{Some, None, ⊎_elim}
+use Rattle.std.proofs.Common.{◌+◌, cond, get_or, length, refl, ap, sym, ◌∙◌, subst}
+use Rattle.std.proofs.Common.{⊎_elim}
 use Rattle.std.proofs.lemmas.Bool.{cases_eq}
-use Rattle.rma_types.specs.declared.classes.Class.{Class}
-use Rattle.board_rules.specs.Board.{Allow, decision_by, is_allowed_now, refusal}
+use Rattle.board_rules.specs.Board.{is_allowed_now, refusal}
 use Rattle.board_rules.specs.Entries.{Act, Barrier, Row, acts, arrivals}
 use Rattle.board_rules.specs.Questions.{Question, question}
+use Rattle.board_rules.proofs.DecisionLaws.{allowed_now}
 use Rattle.sync_board.specs.Asked.{IsQuestion, row_asked}
 use Rattle.sync_board.specs.Named.{KeepsWindows}
 use Rattle.sync_board.specs.Windows.{entered}
@@ -12,11 +12,6 @@ use Rattle.sync_board.proofs.ActSteps.{acts_entered}
 use Rattle.sync_board.proofs.BegunSteps.{begun_more}
 use Rattle.sync_board.proofs.Meetings.{met_here, met_same, window_zero}
 use Rattle.sync_board.proofs.state.State.enter.Goals as goal
-
-allowed_so : (o : Option Class) (b : Bool) → decision_by o b ≡ Allow → b ≡ true
-allowed_so (Some class) b e = cc
-allowed_so None true e = refl
-allowed_so None false e = cc
 
 pub returns-in-Ok-clause-ok : goal.returns-in-Ok-clause-ok
 returns-in-Ok-clause-ok c = λ rows after allowed kept.
@@ -51,7 +46,7 @@ returns-in-Ok-clause-ok c = λ rows after allowed kept.
       windows = subst (λ entries. KeepsWindows c.args.layout.now c.args.asked.now.ranks entries
           c.enter.new.self.names.items) (sym more)
           (c.in-Ok.ensures.ok q is (after.window ∙ after.number)
-          (allowed_so (refusal q c.args.asked.now.step) (is_allowed_now q c.args.asked.now.step) allowed)
+          (allowed_now (refusal q c.args.asked.now.step) (is_allowed_now q c.args.asked.now.step) allowed)
           kept.windows);
     }
 

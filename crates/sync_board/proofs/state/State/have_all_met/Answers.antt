@@ -1,8 +1,8 @@
 use Rattle.std.proofs.Common.{◌≡◌, ℕ, ◌∙◌, ap, sym, subst, true, leb, length, get_or, arith, ⊎_elim}
 use Rattle.std.proofs.lemmas.Bool.{cases_lt, le-leb, lt-leb}
+use Rattle.call_rules.proofs.NumbersFrom.{all_numbers, not_all_numbers}
 use Rattle.board_rules.specs.Entries.{Barrier, acts, arrivals}
 use Rattle.sync_board.proofs.Meetings.{all_met}
-use Rattle.sync_board.proofs.RoundSteps.{all_numbers, not_all_numbers}
 use Rattle.sync_board.proofs.state.State.have_all_met.Goals as goal
 
 pub returns-then-arrived-begun : goal.returns-then-arrived-begun

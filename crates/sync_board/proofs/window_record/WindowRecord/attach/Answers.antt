@@ -1,11 +1,11 @@
 use Rattle.std.proofs.Common.{◌≡◌, ◌+◌, ◌≤◌, ◌∷◌, ◌++◌, [], false, refl, ap, ◌∙◌}
 use Rattle.std.proofs.lemmas.Bool.{and_right}
 use Rattle.std.proofs.lemmas.Result.{on_err_weaker, on_ok_weaker}
-use Rattle.call_rules.specs.Actions.{Attaches}
+use Rattle.rma_types.specs.declared.actions.Action.TheVariants.{Attaches}
 use Rattle.call_rules.specs.Ranks.{natural}
 use Rattle.rank_rules.specs.Ranges.{Range}
 use Rattle.board_rules.specs.Entries.{is_arrive}
-use Rattle.kept_rows.specs.KeptCalls.{kept_call}
+use Rattle.rma_types.specs.KeptCalls.{kept_call}
 use Rattle.sync_board.specs.Boards.{bytes_at}
 use Rattle.sync_board.specs.Sides.{Done}
 use Rattle.sync_board.specs.Windows.{done_on, entries_after}

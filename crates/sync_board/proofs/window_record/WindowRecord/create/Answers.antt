@@ -1,8 +1,10 @@
 use Rattle.std.proofs.Common.{refl, ap, ◌∙◌, Some}
 use Rattle.std.specs.Option.{option_map}
 use Rattle.rma_types.specs.declared.accesses.Step.TheVariants.{Arrive}
-use Rattle.call_rules.specs.Actions.{Creates, Creation, creation_in}
-use Rattle.kept_rows.specs.KeptCalls.{kept_call}
+use Rattle.rma_types.specs.declared.actions.Creation.{Creation}
+use Rattle.rma_types.specs.declared.actions.Action.TheVariants.{Creates}
+use Rattle.rma_types.specs.Actions.{creation_in}
+use Rattle.rma_types.specs.KeptCalls.{kept_call}
 use Rattle.sync_board.specs.Rounds.{with_creation}
 use Rattle.sync_board.specs.Windows.{done_on, entered, entries_after}
 use Rattle.sync_board.proofs.HeldSteps.{held_unless, inside_each, ranges_by, regions_each}

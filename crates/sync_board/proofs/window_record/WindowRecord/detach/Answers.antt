@@ -1,10 +1,10 @@
 use Rattle.std.proofs.Common.{◌+◌, ◌≤◌, not, eqb, false, refl, ap, ◌∙◌}
 use Rattle.std.proofs.lemmas.Bool.{and_right}
-use Rattle.call_rules.specs.Actions.{Detaches}
+use Rattle.rma_types.specs.declared.actions.Action.TheVariants.{Detaches}
 use Rattle.call_rules.specs.Ranks.{natural}
 use Rattle.rank_rules.specs.Ranges.{Range}
 use Rattle.board_rules.specs.Entries.{is_arrive}
-use Rattle.kept_rows.specs.KeptCalls.{kept_call}
+use Rattle.rma_types.specs.KeptCalls.{kept_call}
 use Rattle.sync_board.specs.Boards.{bytes_at}
 use Rattle.sync_board.specs.KeptRanges.{without}
 use Rattle.sync_board.specs.Sides.{Done}

@@ -2,7 +2,7 @@ use Rattle.std.proofs.Common.{ap, refl, ◌∙◌, subst}
 use Rattle.std.specs.Option.{option_map_or}
 use Rattle.std.proofs.lemmas.Result.{on_ok_weaker}
 use Rattle.rank_rules.specs.Windows.{no_part}
-use Rattle.call_rules.specs.Actions.{action_of, creation_of}
+use Rattle.rma_types.specs.Actions.{action_of, creation_of}
 use Rattle.board_rules.specs.Shapes.{part_made}
 use Rattle.sync_board.specs.Boards.{BringsInside}
 use Rattle.sync_board.proofs.window_record.WindowRecord.enter_arrival.Goals as goal

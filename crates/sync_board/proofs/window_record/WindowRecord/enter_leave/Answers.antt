@@ -1,5 +1,5 @@
 use Rattle.std.proofs.Common.{ap, ◌∙◌}
-use Rattle.call_rules.specs.Actions.{action_of}
+use Rattle.rma_types.specs.Actions.{action_of}
 use Rattle.sync_board.proofs.window_record.WindowRecord.enter_leave.Goals as goal
 
 pub returns-in-Free : goal.returns-in-Free

@@ -2,9 +2,11 @@ use Rattle.std.proofs.Common.{refl, ap, None}
 use Rattle.std.proofs.lemmas.Result.{on_err_weaker, on_ok_weaker}
 use Rattle.std.specs.Option.{option_map_or}
 use Rattle.rma_types.specs.declared.accesses.Step.TheVariants.{Arrive}
-use Rattle.call_rules.specs.Actions.{Fences, Synchronises, synchronisation_in}
+use Rattle.rma_types.specs.declared.actions.Action.TheVariants.{Synchronises}
+use Rattle.rma_types.specs.declared.actions.Synchronisation.TheVariants.{Fences}
+use Rattle.rma_types.specs.Actions.{synchronisation_in}
 use Rattle.board_rules.specs.Rounds.{asserts_of_fence}
-use Rattle.kept_rows.specs.KeptCalls.{kept_call}
+use Rattle.rma_types.specs.KeptCalls.{kept_call}
 use Rattle.sync_board.specs.Rounds.{with_fence}
 use Rattle.sync_board.specs.Windows.{done_on, entries_after}
 use Rattle.sync_board.proofs.HeldSteps.{parts_unless, held_unless, inside_each, ranges_by, regions_each}

@@ -1,8 +1,8 @@
 use Rattle.std.proofs.Common.{refl}
 use Rattle.std.proofs.lemmas.Result.{on_err_weaker, on_ok_weaker}
 use Rattle.rma_types.specs.declared.accesses.Step.TheVariants.{Arrive}
-use Rattle.call_rules.specs.Actions.{Frees}
-use Rattle.kept_rows.specs.KeptCalls.{kept_call}
+use Rattle.rma_types.specs.declared.actions.Action.TheVariants.{Frees}
+use Rattle.rma_types.specs.KeptCalls.{kept_call}
 use Rattle.sync_board.specs.Rounds.{with_free}
 use Rattle.sync_board.specs.Windows.{done_on, entries_after}
 use Rattle.sync_board.proofs.HeldSteps.{parts_unless, held_unless, inside_each, ranges_by, regions_each}

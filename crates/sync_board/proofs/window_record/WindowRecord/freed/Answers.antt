@@ -1,7 +1,7 @@
 use Rattle.std.proofs.Common.{refl, ap}
 use Rattle.rma_types.specs.declared.accesses.Step.TheVariants.{Leave}
-use Rattle.call_rules.specs.Actions.{Frees}
-use Rattle.kept_rows.specs.KeptCalls.{kept_call}
+use Rattle.rma_types.specs.declared.actions.Action.TheVariants.{Frees}
+use Rattle.rma_types.specs.KeptCalls.{kept_call}
 use Rattle.sync_board.specs.Sides.{Done}
 use Rattle.sync_board.specs.Windows.{done_on, entries_after}
 use Rattle.sync_board.proofs.HeldSteps.{parts_unless, held_unless, inside_by}

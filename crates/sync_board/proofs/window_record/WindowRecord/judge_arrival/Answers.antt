@@ -1,5 +1,5 @@
 use Rattle.std.proofs.Common.{ap, refl, ◌∙◌}
-use Rattle.call_rules.specs.Actions.{action_of}
+use Rattle.rma_types.specs.Actions.{action_of}
 use Rattle.sync_board.proofs.window_record.WindowRecord.judge_arrival.Goals as goal
 
 pub returns-in-Allocate : goal.returns-in-Allocate

@@ -1,6 +1,6 @@
 use Rattle.std.proofs.Common.{◌≡◌, ◌*◌, not, refl, ap, sym, ◌∙◌}
 use Rattle.rma_types.specs.declared.classes.Class.TheVariants.{Range as RangeClass}
-use Rattle.call_rules.specs.Actions.{Moves}
+use Rattle.rma_types.specs.declared.actions.Action.TheVariants.{Moves}
 use Rattle.call_rules.specs.Transfers.{bytes_of}
 use Rattle.board_rules.specs.Board.{refuse_if}
 use Rattle.sync_board.specs.Sides.{done_at}

@@ -1,16 +1,23 @@
 use mir.Syntax.{w32}
 use mir.Val.{SFits, of_z, to_z}
-use Rattle.std.proofs.Common.{◌≡◌, ℕ, ℤ, ap, refl, sym, ◌∙◌, subst, false, rules}
+use Rattle.std.proofs.Common.{◌≡◌, ℕ, ℤ, ap, refl, sym, ◌∙◌, subst, false, rules, Some, None}
 use Rattle.std.proofs.Math.Facts.{to_z-of_z}
 use Rattle.call_rules.specs.Ranks.{natural}
-use Rattle.call_rules.specs.Actions.{action_of, target_of}
+use Rattle.rma_types.specs.Actions.{action_of, target_of}
 use Rattle.call_rules.specs.Transfers.{rank_reached}
 use Rattle.rank_rules.specs.EpochTests.{is_wrong_group}
 use Rattle.sync_board.specs.Boards.{NamesRanks}
+use Rattle.sync_board.specs.Reaches.{Reaches}
+use Rattle.entry_gains.specs.declared.deeds.Reach.{Reach}
 use Rattle.sync_board.proofs.window_record.WindowRecord.judge_one.Goals as goal
 
 as_read : (z : ℤ) (r : ℕ) → SFits w32 z → r ≡ natural (to_z w32 (of_z w32 z)) → natural z ≡ r
 as_read z r fits is = ap natural (sym (to_z-of_z fits)) ∙ sym is
+
+as_named : (z : ℤ) (reach : Reach) → SFits w32 z → (ranks asked : ℕ) → ranks ≡ asked →
+    Reaches asked (Some (to_z w32 (of_z w32 z))) reach → Reaches ranks (Some z) reach
+as_named z reach fits ranks asked same is = rw same
+    (subst (λ named. Reaches asked (Some named) reach) (to_z-of_z fits) is)
 
 pub returns-in-Post : goal.returns-in-Post
 returns-in-Post c = λ layout q is kept. c.judge_post.ensures layout q _ _ _ is
@@ -32,13 +39,14 @@ returns-in-TestWin c = λ layout q is kept. c.judge_wait-in-TestWin.ensures layo
     (ap action_of (is.call ∙ c.in-TestWin.is)) kept
 
 pub returns-in-LockOne : goal.returns-in-LockOne
-returns-in-LockOne c = λ layout q is kept. c.judge_lock.ensures layout q _ _ _
-    (ap action_of (is.call ∙ c.in-LockOne.is)) (as_read c.in-LockOne.target c.rank_of.result (search rules)
-    (sym c.rank_of.ensures.value)) kept
+returns-in-LockOne c = λ layout q is kept.
+    c.judge_lock.ensures layout q _ (Some c.in-LockOne.target) _ (ap action_of (is.call ∙ c.in-LockOne.is))
+    (as_named c.in-LockOne.target c.reach_one.result (search rules) q.ranks _ is.ranks c.reach_one.ensures) kept
 
 pub returns-in-LockAll : goal.returns-in-LockAll
-returns-in-LockAll c = λ layout q is kept. c.judge_lock_all.ensures layout q _ _ is
-    (ap action_of (is.call ∙ c.in-LockAll.is)) kept
+returns-in-LockAll c = λ layout q is kept.
+    c.judge_lock-in-LockAll.ensures layout q _ None _ (ap action_of (is.call ∙ c.in-LockAll.is))
+    (rw is.ranks c.reach_all.ensures) kept
 
 pub returns-in-Put : goal.returns-in-Put
 returns-in-Put c = λ layout q is kept.

@@ -1,5 +1,6 @@
 use Rattle.std.proofs.Common.{refl, sym, ◌∙◌}
-use Rattle.call_rules.specs.Actions.{Starts, Synchronises}
+use Rattle.rma_types.specs.declared.actions.Action.TheVariants.{Synchronises}
+use Rattle.rma_types.specs.declared.actions.Synchronisation.TheVariants.{Starts}
 use Rattle.call_rules.specs.Ranks.{members_of}
 use Rattle.sync_board.proofs.Judged.{allowed, waits}
 use Rattle.sync_board.proofs.WindowEntries.{group_below}

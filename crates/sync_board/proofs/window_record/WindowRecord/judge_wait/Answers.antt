@@ -1,5 +1,6 @@
 use Rattle.std.proofs.Common.{refl, sym, ◌∙◌}
-use Rattle.call_rules.specs.Actions.{Synchronises, Waits}
+use Rattle.rma_types.specs.declared.actions.Action.TheVariants.{Synchronises}
+use Rattle.rma_types.specs.declared.actions.Synchronisation.TheVariants.{Waits}
 use Rattle.sync_board.proofs.Judged.{allowed, waits}
 use Rattle.sync_board.proofs.Matched.{last_is}
 use Rattle.sync_board.proofs.window_record.WindowRecord.judge_wait.Goals as goal

@@ -1,5 +1,5 @@
 use Rattle.std.proofs.Common.{ap, ◌∙◌}
-use Rattle.call_rules.specs.Actions.{action_of}
+use Rattle.rma_types.specs.Actions.{action_of}
 use Rattle.sync_board.specs.Nothing.{brings_nothing}
 use Rattle.sync_board.proofs.NothingSteps.{nothing_entered}
 use Rattle.sync_board.proofs.window_record.WindowRecord.pass.Goals as goal

@@ -1,12 +1,13 @@
 use Rattle.std.proofs.Common.{refl}
 use Rattle.std.proofs.lemmas.Result.{on_err_weaker, on_ok_weaker}
-use Rattle.call_rules.specs.Actions.{Posts, Synchronises}
+use Rattle.list_laws.proofs.Lists.{last_of}
+use Rattle.rma_types.specs.declared.actions.Action.TheVariants.{Synchronises}
+use Rattle.rma_types.specs.declared.actions.Synchronisation.TheVariants.{Posts}
 use Rattle.call_rules.specs.Ranks.{members_of}
 use Rattle.sync_board.specs.Sides.{with_post}
 use Rattle.sync_board.specs.Windows.{done_on, entries_after}
 use Rattle.sync_board.proofs.HeldSteps.{parts_unless, held_unless, inside_each, ranges_by, regions_each}
 use Rattle.sync_board.proofs.SameParts.{members_posted, rounds_by}
-use Rattle.sync_board.proofs.SideSteps.{last_of}
 use Rattle.sync_board.proofs.WindowEntries.{group_below, post_at}
 use Rattle.sync_board.proofs.WindowSteps.{same_for}
 use Rattle.sync_board.proofs.window_record.WindowRecord.post.Goals as goal

@@ -1,6 +1,7 @@
 use Rattle.std.proofs.Common.{refl}
 use Rattle.std.proofs.lemmas.Result.{on_err_weaker, on_ok_weaker}
-use Rattle.call_rules.specs.Actions.{Starts, Synchronises}
+use Rattle.rma_types.specs.declared.actions.Action.TheVariants.{Synchronises}
+use Rattle.rma_types.specs.declared.actions.Synchronisation.TheVariants.{Starts}
 use Rattle.call_rules.specs.Ranks.{members_of}
 use Rattle.sync_board.specs.Sides.{with_start}
 use Rattle.sync_board.specs.Windows.{done_on, entries_after}

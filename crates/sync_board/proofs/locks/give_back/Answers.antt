@@ -1,8 +1,0 @@
-use Rattle.std.proofs.Common.{◌∙◌, sym}
-use Rattle.sync_board.proofs.LockTests.{none_goes}
-use Rattle.sync_board.proofs.locks.give_back.Goals as goal
-
-pub returns-else-holds-clause-held : goal.returns-else-holds-clause-held
-returns-else-holds-clause-held c =
-    none_goes c.args.table.now.window c.args.target c.args.rank c.args.table.now.held
-    (sym c.holds.ensures ∙ c.if-holds.false)

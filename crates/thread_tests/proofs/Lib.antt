@@ -1,0 +1,2 @@
+-- Lemmas over plain lists.
+mod PassLists
