@@ -12,14 +12,16 @@ use Rattle.rma_types.specs.declared.dtypes.Dtype.TheVariants.{Int8, Int16, Int32
 use Rattle.rma_types.specs.declared.scripts.MemoryPart.{MemoryPart}
 use Rattle.rma_types.specs.declared.scripts.Script.{Script}
 use Rattle.rma_types.specs.Datatypes.{size_of}
+use Rattle.rma_types.proofs.MemoryLaws.{bytes_in}
 use Rattle.access_steps.specs.Plans.{LiesWithin}
-use Rattle.call_rules.specs.Actions.{Transfer, transfer_of}
+use Rattle.rma_types.specs.declared.actions.Transfer.{Transfer}
+use Rattle.rma_types.specs.Actions.{transfer_of}
 use Rattle.call_rules.specs.Layout.{layout, cells_of, memory_bytes, memory_of, parts_from, ranks_of}
 use Rattle.call_rules.specs.Pieces.{piece_at}
 use Rattle.call_rules.specs.Ranks.{natural}
 use Rattle.call_rules.specs.Transfers.{bytes_of}
 use Rattle.call_rules.specs.WellFormed.{IsWellFormed}
-use Rattle.step_laws.proofs.Memory.{bytes_in, cells_in, byte_is_inside}
+use Rattle.step_laws.proofs.Memory.{cells_in, byte_is_inside}
 use Rattle.step_laws.specs.Inside.{bytes_at, LiesInMemory}
 
 abbrev memory_in : List (ℕ × List Call) → ℕ

@@ -3,6 +3,7 @@ use Rattle.std.proofs.Common.{◌≡◌, ℕ, ◌+◌, ◌<◌, ◌≤◌, Bool,
 use Rattle.std.proofs.Common.{subst, arith}
 use Rattle.std.specs.Prelude.{ℤ, pos, negsuc, int_lt, is_some}
 use Rattle.std.proofs.lemmas.Bool.{ltb-false}
+use Rattle.list_laws.proofs.Numbers.{further}
 use Rattle.rma_types.specs.declared.accesses.Step.{Step}
 use Rattle.rma_types.specs.declared.accesses.Step.TheVariants.{Arrive, Leave, One}
 use Rattle.rma_types.specs.declared.calls.Call.{Call}
@@ -13,10 +14,19 @@ use Rattle.rma_types.specs.declared.calls.Call.TheVariants.{FlushLocalAll, Sync,
 use Rattle.rma_types.specs.declared.calls.Call.TheVariants.{Cas, Load, Store, WaitReq, TestReq}
 use Rattle.rma_types.specs.declared.calls.Flavor.TheVariants.{Create as CreateFlavor}
 use Rattle.rma_types.specs.declared.scripts.Script.{Script}
+use Rattle.rank_rules.proofs.ClassLaws.{none_applies}
+use Rattle.rank_rules.proofs.KnowledgeLaws.{epochs_allow}
 use Rattle.board_rules.specs.Entries.{collective_in, collective_of}
-use Rattle.call_rules.specs.Actions.{Action, Creates, Frees, Attaches, Detaches, Synchronises, Meets, Moves}
-use Rattle.call_rules.specs.Actions.{EndsRequest, Synchronisation, Fences, Posts, Starts, Completes, Waits, Locks}
-use Rattle.call_rules.specs.Actions.{Unlocks, Flushes, Syncs, Transfer, Target, Own, Null, Named, action_of}
+use Rattle.rma_types.specs.declared.actions.Action.{Action}
+use Rattle.rma_types.specs.declared.actions.Action.TheVariants.{Creates, Frees, Attaches, Detaches, Synchronises, Meets}
+use Rattle.rma_types.specs.declared.actions.Action.TheVariants.{Moves, EndsRequest}
+use Rattle.rma_types.specs.declared.actions.Synchronisation.{Synchronisation}
+use Rattle.rma_types.specs.declared.actions.Synchronisation.TheVariants.{Fences, Posts, Starts, Completes, Waits, Locks}
+use Rattle.rma_types.specs.declared.actions.Synchronisation.TheVariants.{Unlocks, Flushes, Syncs}
+use Rattle.rma_types.specs.declared.actions.Target.{Target}
+use Rattle.rma_types.specs.declared.actions.Transfer.{Transfer}
+use Rattle.rma_types.specs.declared.actions.Target.TheVariants.{Own, Null, Named}
+use Rattle.rma_types.specs.Actions.{action_of}
 use Rattle.call_rules.specs.Layout.{layout}
 use Rattle.call_rules.specs.Ranks.{natural}
 use Rattle.call_rules.specs.WellFormed.{IsWellFormed}
@@ -31,7 +41,7 @@ use Rattle.rank_rules.specs.WindowTests.{window_class, window_tests}
 use Rattle.std.specs.Prelude.{slice_get}
 use Rattle.step_laws.proofs.Memory.{allocate_has_memory}
 use Rattle.step_laws.proofs.OwnRoom.{attach_is_inside, creation_is_inside}
-use Rattle.step_laws.proofs.OwnTests.{epochs_allow, none_applies, windows_allow}
+use Rattle.step_laws.proofs.OwnTests.{windows_allow}
 use Rattle.step_runs.specs.BoardSteps.{next_row}
 use Rattle.sync_board.specs.Boards.{BoardState, BringsInside, MayAsk, NamesRanks, bytes_at, is_step_of}
 use Rattle.cell_face.specs.Faces.{Face}
@@ -52,9 +62,6 @@ names_ranks ranks epochs (Moves t) e = (none_applies (epoch_tests ranks epochs (
 names_ranks ranks epochs (EndsRequest req) e = tt
 
 -- ---- ranges
-
-further : (a b c : ℕ) → a ≤ b → b ≤ c → a ≤ c
-further a b c h k = omega arith
 
 some_bytes : (bytes : ℤ) → int_lt bytes (pos 1) ≡ false → 1 ≤ natural bytes
 some_bytes (pos n) e = let above = ltb-false n 1 e in omega arith

@@ -1,20 +1,26 @@
 -- The delivery of a pending access: what it asks, and what it leaves.
 use Rattle.std.proofs.Common.{◌≡◌, ℕ, zero, suc, ◌+◌, ◌-◌, ◌<◌, ◌≤◌, Bool, true, false, cond, List, [], ◌∷◌, ◌++◌}
-use Rattle.std.proofs.Common.{length, Some, refl, sym, ◌∙◌, ap, subst, arith}
-use Rattle.std.specs.Prelude.{IsTrue, drop, map, remove, slice_get, slice_index, slice_set, ℤ, pos, negsuc}
-use Rattle.std.specs.List.{flat_map, sum_by}
+use Rattle.std.proofs.Common.{length, Option, Some, None, refl, sym, ◌∙◌, ap, subst, arith}
+use Rattle.std.specs.Prelude.{IfSome, IsTrue, drop, map, remove, slice_get, slice_index, slice_set, ℤ, pos, negsuc}
+use Rattle.std.specs.List.{AllByRecursion, flat_map, sum_by}
 use Rattle.std.specs.Option.{option_map_or}
 use Rattle.std.proofs.lemmas.Grind.{flat_map-append}
 use Rattle.std.proofs.lemmas.List.{append-nil}
+use Rattle.list_laws.proofs.Each.{each_removed}
+use Rattle.list_laws.proofs.Lists.{set_removed}
 use Rattle.rma_types.specs.declared.calls.Call.{Call}
+use Rattle.rma_types.specs.declared.schedules.Delay.TheVariants.{None as NoDelay}
 use Rattle.rma_types.specs.declared.scripts.Layout.{Layout}
 use Rattle.rma_types.specs.declared.scripts.Script.{Script}
 use Rattle.rma_record.specs.declared.items.Item.{Item}
 use Rattle.access_steps.specs.Plans.{element_count, is_update}
 use Rattle.access_steps.specs.TouchesMade.{MadeTouch, item_of}
 use Rattle.board_rules.specs.Entries.{creations}
-use Rattle.call_rules.specs.Actions.{Action, Creates, Frees, Attaches, Detaches, Synchronises, Meets, Moves}
-use Rattle.call_rules.specs.Actions.{EndsRequest, Transfer, action_of, transfer_in}
+use Rattle.rma_types.specs.declared.actions.Action.{Action}
+use Rattle.rma_types.specs.declared.actions.Action.TheVariants.{Creates, Frees, Attaches, Detaches, Synchronises, Meets}
+use Rattle.rma_types.specs.declared.actions.Action.TheVariants.{Moves, EndsRequest}
+use Rattle.rma_types.specs.declared.actions.Transfer.{Transfer}
+use Rattle.rma_types.specs.Actions.{action_of, transfer_in}
 use Rattle.call_rules.specs.declared.cells.Cell.{Cell}
 use Rattle.call_rules.specs.Ranks.{natural}
 use Rattle.call_rules.specs.WellFormed.{IsUpTo, IsWrittenAction}
@@ -23,9 +29,9 @@ use Rattle.delivery_queue.specs.Queues.{Queue, Delivers, IsDeliverable, after_de
 use Rattle.lawful_runs.specs.Logs.{row_by}
 use Rattle.lawful_runs.specs.Stages.{calls_at}
 use Rattle.rank_rules.specs.declared.pending.PendingAccess.{PendingAccess}
-use Rattle.rank_engine.specs.DataAnswers.{HasRoom}
+use Rattle.rank_engine.specs.DataAnswers.{HasRoom, opened_after}
 use Rattle.rank_engine.specs.Moves.{IsFirst}
-use Rattle.rank_engine.specs.RankStates.{RankState, own_rows, queue_of}
+use Rattle.rank_engine.specs.RankStates.{RankState, others, own_rows, queue_of}
 use Rattle.rank_engine.specs.Shares.{updates_by, updates_left, updates_of}
 use Rattle.rank_engine.specs.Sound.{ArePending, IsPending, IsSound}
 
@@ -67,11 +73,19 @@ pending_touched layout calls (other ∷ pending) (count ∷ touched) zero next o
 pending_touched layout calls (other ∷ pending) (count ∷ touched) (suc at) next one here new h =
     (h.0, pending_touched layout calls pending touched at next one here new h.1)
 
-fewer : {X : Type 0} (xs : List X) (at : ℕ) → length (remove xs at) ≤ length xs
-fewer [] zero = omega arith
-fewer [] (suc at) = omega arith
-fewer (x ∷ xs) zero = omega arith
-fewer {X} (x ∷ xs) (suc at) = let rest = fewer {X = X} xs at in omega arith
+untouched_but : (opened : Option ℕ) (touched : List ℕ) (at : ℕ) → IfSome opened (λ place. place ≡ at) →
+    AllByRecursion (λ count. count ≡ 0) (others opened touched) →
+    AllByRecursion (λ count. count ≡ 0) (remove touched at)
+untouched_but None touched at only h = each_removed (λ (count : ℕ). count ≡ 0) touched at h
+untouched_but (Some place) touched at only h =
+    subst (λ n. AllByRecursion (λ count. count ≡ 0) (remove touched n)) only h
+
+alone_but : (opened : Option ℕ) (pending : List PendingAccess) (at : ℕ) → IfSome opened (λ place. place ≡ at) →
+    others opened pending ≡ [] → remove pending at ≡ []
+alone_but None [] zero only h = refl
+alone_but None [] (suc at) only h = refl
+alone_but None (one ∷ pending) at only h = absurd (cc h)
+alone_but (Some place) pending at only h = ap (remove pending) (sym only) ∙ h
 
 -- touches are no entries
 touch_rows : (script : Script) (rank issue : ℕ) (touches : List MadeTouch) →
@@ -134,7 +148,7 @@ deliverable s at face sound room free first = record {
     λ element below.
         let lies = here.is.its.2 element below in (within _ _ _ lies.0 room.cells, lies.1),
   );
-  begun = here.is.begun;
+  begun = let begun = here.is.begun in omega arith;
   room = enough (element_count here.is.call) (slice_index s.touched at) s.free
       (few_by (action_of here.is.call) here.is.its.0) free;
   share = λ update. shared (element_count here.is.call) (updates_by calls here.one) (slice_index s.touched at)
@@ -146,7 +160,8 @@ deliverable s at face sound room free first = record {
     calls = calls_at s.stage s.agent.rank
 
     here : PendingAt s.stage.layout (calls_at s.stage s.agent.rank) s.agent.pending s.touched at
-    here = pending_at s.stage.layout (calls_at s.stage s.agent.rank) s.agent.pending s.touched at sound.pending first.0
+    here = pending_at s.stage.layout (calls_at s.stage s.agent.rank) s.agent.pending s.touched at sound.queue.each
+        first.0
 
     within : (a b c : ℕ) → a < b → b ≤ c → a < c
     within a b c h k = omega arith
@@ -171,7 +186,7 @@ pub delivered_sound : (s : RankState) (q : Queue) (at : ℕ) (done : Bool) (log 
     (knows : ℕ → Cell → Type 0) (free : ℕ) (home : List ℕ) → IsSound s →
     Delivers (queue_of s) q at done s.stage.layout (calls_at s.stage s.agent.rank) face face_after knows s.agent.log log
     →
-    at < length s.agent.pending →
+    IsFirst s.agent.pending at → IfSome s.opened (λ place. place ≡ at) →
     IsSound (record {
       stage = s.stage;
       agent = record s.agent {
@@ -180,14 +195,15 @@ pub delivered_sound : (s : RankState) (q : Queue) (at : ℕ) (done : Bool) (log 
         pending = q.pending;
       };
       touched = q.touched;
+      opened = opened_after done at;
       free = free;
       home = home;
     })
-delivered_sound s q at done log face face_after knows free home sound d within =
-    subst (λ (x : Queue). IsSound (by_queue x)) (sym d.queue_after) (by_done done)
+delivered_sound s q at done log face face_after knows free home sound d first none_else =
+    subst (λ (x : Queue). IsSound (by_queue done x)) (sym d.queue_after) (by_done done d.left)
   where
-    by_queue : Queue → RankState
-    by_queue x = record {
+    by_queue : Bool → Queue → RankState
+    by_queue b x = record {
       stage = s.stage;
       agent = record s.agent {
         log = log;
@@ -195,12 +211,14 @@ delivered_sound s q at done log face face_after knows free home sound d within =
         pending = x.pending;
       };
       touched = x.touched;
+      opened = opened_after b at;
       free = free;
       home = home;
     }
 
     here : PendingAt s.stage.layout (calls_at s.stage s.agent.rank) s.agent.pending s.touched at
-    here = pending_at s.stage.layout (calls_at s.stage s.agent.rank) s.agent.pending s.touched at sound.pending within
+    here = pending_at s.stage.layout (calls_at s.stage s.agent.rank) s.agent.pending s.touched at sound.queue.each
+        first.0
 
     rows : flat_map (row_by s.stage.script s.agent.rank) log ≡ own_rows s.stage s.agent
     rows =
@@ -211,11 +229,15 @@ delivered_sound s q at done log face face_after knows free home sound d within =
         (touch_rows s.stage.script s.agent.rank d.one.index d.touches.touches)
         ∙ append-nil (own_rows s.stage s.agent)))
 
-    short : (a b : ℕ) → a ≤ b → b ≤ 1 → a ≤ 1
-    short a b h k = omega arith
+    others_untouched : AllByRecursion (λ count. count ≡ 0) (remove s.touched at)
+    others_untouched = untouched_but s.opened s.touched at none_else sound.queue.untouched
 
-    next_pending : IsPending s.stage.layout (calls_at s.stage s.agent.rank) here.one d.next
-    next_pending =
+    alone : s.stage.delay ≡ NoDelay → remove s.agent.pending at ≡ []
+    alone delay = alone_but s.opened s.agent.pending at none_else (sound.queue.alone delay)
+
+    next_pending : d.next < element_count d.call →
+        IsPending s.stage.layout (calls_at s.stage s.agent.rank) here.one d.next
+    next_pending left =
         let one_is : d.one ≡ here.one = cc (d.here, here.here) in
         let named : slice_get (calls_at s.stage s.agent.rank) here.one.number ≡ Some d.call =
         subst (λ (p : PendingAccess). slice_get (calls_at s.stage s.agent.rank) p.number ≡ Some d.call) one_is d.named
@@ -225,31 +247,40 @@ delivered_sound s q at done log face face_after knows free home sound d within =
           call = here.is.call;
           named = here.is.named;
           its = here.is.its;
-          begun = subst (λ (c : Call). d.next ≤ element_count c) call_is d.within;
+          begun = subst (λ (c : Call). d.next < element_count c) call_is left;
         }
 
-    by_done : (b : Bool) → IsSound (by_queue (after_delivery b (queue_of s) at d.next))
-    by_done true = record {
+    by_done : (b : Bool) → (b ≡ false → d.next < element_count d.call) →
+        IsSound (by_queue b (after_delivery b (queue_of s) at d.next))
+    by_done true left = record {
       formed = sound.formed;
       layout = sound.layout;
       rank = sound.rank;
       windows = sound.windows;
       begun = sound.begun;
-      pending = pending_removed s.stage.layout (calls_at s.stage s.agent.rank) s.agent.pending s.touched at
-          sound.pending;
-      few = λ delay. short (length (remove s.agent.pending at)) (length s.agent.pending)
-          (fewer s.agent.pending at) (sound.few delay);
+      queue = record {
+        each = pending_removed s.stage.layout (calls_at s.stage s.agent.rank) s.agent.pending s.touched at
+            sound.queue.each;
+        first = tt;
+        untouched = others_untouched;
+        alone = alone;
+      };
       numbers = λ win. ap (λ r. creations r s.agent.rank win) rows ∙ sound.numbers win;
     }
-    by_done false = record {
+    by_done false left = record {
       formed = sound.formed;
       layout = sound.layout;
       rank = sound.rank;
       windows = sound.windows;
       begun = sound.begun;
-      pending = pending_touched s.stage.layout (calls_at s.stage s.agent.rank) s.agent.pending s.touched at d.next
-          here.one here.here next_pending sound.pending;
-      few = sound.few;
+      queue = record {
+        each = pending_touched s.stage.layout (calls_at s.stage s.agent.rank) s.agent.pending s.touched at d.next
+            here.one here.here (next_pending (left refl)) sound.queue.each;
+        first = first;
+        untouched = subst (AllByRecursion (λ count. count ≡ 0)) (sym (set_removed s.touched at d.next))
+            others_untouched;
+        alone = alone;
+      };
       numbers = λ win. ap (λ r. creations r s.agent.rank win) rows ∙ sound.numbers win;
     }
 
@@ -260,6 +291,7 @@ pub log_sound : (s : RankState) (log : List Item) (ended : Bool) (free : ℕ) (h
       stage = s.stage;
       agent = record s.agent { log = log; ended = ended };
       touched = s.touched;
+      opened = s.opened;
       free = free;
       home = home;
     })
@@ -269,8 +301,7 @@ log_sound s log ended free home sound rows = record {
   rank = sound.rank;
   windows = sound.windows;
   begun = sound.begun;
-  pending = sound.pending;
-  few = sound.few;
+  queue = sound.queue;
   numbers = λ win. ap (λ r. creations r s.agent.rank win) rows ∙ sound.numbers win;
 }
 
@@ -285,6 +316,7 @@ pub undelivered_sound : (s : RankState) (q : Queue) (log : List Item) (free : �
         pending = q.pending;
       };
       touched = q.touched;
+      opened = s.opened;
       free = free;
       home = home;
     })
@@ -297,6 +329,7 @@ undelivered_sound s q log free home sound e l =
         pending = x.pending;
       };
       touched = x.touched;
+      opened = s.opened;
       free = free;
       home = home;
     })) (sym e) (log_sound s log s.agent.ended free home sound (ap (flat_map (row_by s.stage.script s.agent.rank)) l))

@@ -1,5 +1,5 @@
 -- A rank that ends a call without an entry, or a call before its first entry, stays sound.
-use Rattle.std.proofs.Common.{◌≡◌, ℕ, ◌+◌, ◌≤◌, Bool, false, List, [], ◌∷◌, ◌++◌, length, sym, ◌∙◌, ap, subst, arith}
+use Rattle.std.proofs.Common.{◌≡◌, ℕ, ◌+◌, Bool, false, List, [], ◌∷◌, ◌++◌, length, Option, sym, ◌∙◌, ap, subst, arith}
 use Rattle.std.proofs.Common.{length-append}
 use Rattle.std.specs.Prelude.{◌==◌}
 use Rattle.std.specs.List.{count_by, flat_map}
@@ -14,9 +14,8 @@ use Rattle.rank_rules.specs.Epochs.{Epochs}
 use Rattle.rank_rules.specs.Requests.{Requests}
 use Rattle.step_laws.specs.Inside.{begun_names, names_so_far}
 use Rattle.step_runs.specs.Agents.{Agent, next_call}
-use Rattle.rma_types.specs.declared.schedules.Delay.TheVariants.{None as NoDelay}
 use Rattle.rank_engine.specs.RankStates.{RankState}
-use Rattle.rank_engine.specs.Sound.{IsSound, ArePending}
+use Rattle.rank_engine.specs.Sound.{AreQueued, IsSound}
 
 -- an item that is no entry adds no row
 pub no_row : (stage : Stage) (rank : ℕ) (log after : List Item) (item : Item) → row_by stage.script rank item ≡ [] →
@@ -36,12 +35,11 @@ none_begun stage agent new =
     ∙ append-nil agent.known.windows.created
 
 pub ended_sound : (s : RankState) (item : Item) (log : List Item) (epochs : List Epochs) (requests : Requests) (at : ℕ)
-    (entered drawn : Bool) (draws : ℕ) (pending : List PendingAccess) (ended : Bool) (touched : List ℕ) (free : ℕ)
-    (home : List ℕ) →
+    (entered drawn : Bool) (draws : ℕ) (pending : List PendingAccess) (ended : Bool) (touched : List ℕ)
+    (opened : Option ℕ) (free : ℕ) (home : List ℕ) →
     IsSound s → names_so_far s.stage s.agent ≡ s.agent.known.windows.created → entered ≡ false →
     row_by s.stage.script s.agent.rank item ≡ [] → log ≡ s.agent.log ++ item ∷ [] →
-    ArePending s.stage.layout (calls_at s.stage s.agent.rank) pending touched →
-    (s.stage.delay ≡ NoDelay → length pending ≤ 1) →
+    AreQueued s.stage s.agent.rank pending touched opened →
     IsSound (record {
       stage = s.stage;
       agent = record {
@@ -56,19 +54,18 @@ pub ended_sound : (s : RankState) (item : Item) (log : List Item) (epochs : List
         ended = ended;
       };
       touched = touched;
+      opened = opened;
       free = free;
       home = home;
     })
-ended_sound s item log epochs requests at entered drawn draws pending ended touched free home sound begun new none e
-    waits
-    few = record {
+ended_sound s item log epochs requests at entered drawn draws pending ended touched opened free home sound begun new none
+    e waits = record {
       formed = sound.formed;
       layout = sound.layout;
       rank = sound.rank;
       windows = sound.windows;
       begun = λ is. absurd (cc (is, new));
-      pending = waits;
-      few = few;
+      queue = waits;
       numbers = λ win. ap (λ rows. creations rows s.agent.rank win)
           (no_row s.stage s.agent.rank s.agent.log log item none e)
           ∙ (sound.numbers win
@@ -108,15 +105,15 @@ pub plain_sound : (s : RankState) (item : Item) (log : List Item) (epochs : List
         ended = ended;
       };
       touched = touched;
+      opened = s.opened;
       free = free;
       home = home;
     })
 plain_sound s item log epochs requests at drawn draws ended pending touched free home sound new none e waits touches =
-    ended_sound s item log epochs requests at s.agent.entered drawn draws pending ended touched free home sound
+    ended_sound s item log epochs requests at s.agent.entered drawn draws pending ended touched s.opened free home sound
     (none_begun s.stage s.agent new) new none e
-    (subst (λ p. ArePending s.stage.layout (calls_at s.stage s.agent.rank) p touched) (sym waits)
-    (subst (ArePending s.stage.layout (calls_at s.stage s.agent.rank) s.agent.pending) (sym touches) sound.pending))
-    (λ delay. subst (λ (p : List PendingAccess). length p ≤ 1) (sym waits) (sound.few delay))
+    (subst (λ p. AreQueued s.stage s.agent.rank p touched s.opened) (sym waits)
+    (subst (λ t. AreQueued s.stage s.agent.rank s.agent.pending t s.opened) (sym touches) sound.queue))
 
 -- the number of items after one more
 pub one_longer : (log after : List Item) (item : Item) (count : ℕ) → count ≡ length log → after ≡ log ++ item ∷ [] →

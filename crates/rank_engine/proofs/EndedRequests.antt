@@ -4,16 +4,23 @@ use Rattle.std.specs.Prelude.{◌<◌}
 use Rattle.std.proofs.lemmas.Bool.{not-false}
 use Rattle.rma_types.specs.declared.calls.Call.{Call}
 use Rattle.rma_types.specs.declared.classes.Class.TheVariants.{Request}
-use Rattle.call_rules.specs.Actions.{Action, Creates, Frees, Attaches, Detaches, Synchronises, Meets, Moves}
-use Rattle.call_rules.specs.Actions.{EndsRequest, Synchronisation, Fences, Posts, Starts, Completes, Waits, Locks}
-use Rattle.call_rules.specs.Actions.{Unlocks, Flushes, Syncs, Transfer, Target, Own, Null, Named, action_of}
+use Rattle.rma_types.specs.declared.actions.Action.{Action}
+use Rattle.rma_types.specs.declared.actions.Action.TheVariants.{Creates, Frees, Attaches, Detaches, Synchronises, Meets}
+use Rattle.rma_types.specs.declared.actions.Action.TheVariants.{Moves, EndsRequest}
+use Rattle.rma_types.specs.declared.actions.Synchronisation.{Synchronisation}
+use Rattle.rma_types.specs.declared.actions.Synchronisation.TheVariants.{Fences, Posts, Starts, Completes, Waits, Locks}
+use Rattle.rma_types.specs.declared.actions.Synchronisation.TheVariants.{Unlocks, Flushes, Syncs}
+use Rattle.rma_types.specs.declared.actions.Target.{Target}
+use Rattle.rma_types.specs.declared.actions.Transfer.{Transfer}
+use Rattle.rma_types.specs.declared.actions.Target.TheVariants.{Own, Null, Named}
+use Rattle.rma_types.specs.Actions.{action_of}
 use Rattle.call_rules.specs.WellFormed.{IsWrittenAction, IsWrittenCall}
 use Rattle.rank_rules.specs.Courses.{OneIssue, LookUpAndIssue, OneRequest, EntryOrTested, OneEntry, course_of}
 use Rattle.rank_rules.specs.Courses.{course_of_action, course_of_synchronisation, course_of_transfer, is_dynamic}
 use Rattle.rank_rules.specs.Knowledge.{Knowledge, known_after_call, own_class}
 use Rattle.rank_rules.specs.Requests.{is_live_request, request_class, without_request}
 use Rattle.rank_rules.specs.Windows.{RankWindows}
-use Rattle.step_laws.proofs.OwnTests.{first_passed}
+use Rattle.rank_rules.proofs.ClassLaws.{first_passed}
 use Rattle.step_runs.specs.DataSteps.{no_shapes}
 use Rattle.rank_engine.proofs.Passed.{requests_allow}
 use Rattle.rank_engine.specs.Moves.{request_ended}

@@ -2,35 +2,39 @@
 use Rattle.std.proofs.Common.{◌≡◌, ℕ, ◌+◌, ◌-◌, Bool, true, false, cond, List, [], ◌∷◌, ◌++◌, Option, Some, None, refl}
 use Rattle.std.proofs.Common.{sym, ◌∙◌, ap, subst, arith}
 use Rattle.std.specs.Prelude.{◌==◌, ◌&&◌, is_some, map}
-use Rattle.std.specs.List.{count_by, find, flat_map}
+use Rattle.std.specs.List.{count_by, flat_map}
 use Rattle.std.specs.Option.{option_map_or}
 use Rattle.std.proofs.Math.Path.{fun_ext}
 use Rattle.std.proofs.lemmas.Bool.{eq-eqb}
 use Rattle.std.proofs.lemmas.List.Sums.{sum_by-append, sum_by-cons}
+use Rattle.list_laws.proofs.Tests.{found_joined}
+use Rattle.list_laws.proofs.Truths.{false_inside}
 use Rattle.rma_types.specs.declared.accesses.Step.{Step}
 use Rattle.rma_types.specs.declared.accesses.Step.TheVariants.{Arrive, Leave, One}
 use Rattle.rma_types.specs.declared.calls.Call.{Call}
 use Rattle.rma_types.specs.declared.scripts.Layout.{Layout}
 use Rattle.rma_types.specs.declared.scripts.Part.{Part}
+use Rattle.rma_types.proofs.ActionLaws.{none_made, transfer_makes_none, creates_it, name_made}
 use Rattle.rma_record.specs.declared.items.Item.{Item}
 use Rattle.rma_record.specs.declared.items.Item.TheVariants.{Entry}
 use Rattle.board_rules.specs.Entries.{Act, Row, acts, begins_window, creations, is_arrive, is_by_on, is_creation}
 use Rattle.board_rules.specs.Entries.{names_window, window_of}
 use Rattle.board_rules.specs.Shapes.{part_brought, part_in, parts_of}
-use Rattle.call_rules.specs.Actions.{Creation, creation_of, window_in_action}
+use Rattle.rma_types.specs.declared.actions.Creation.{Creation}
+use Rattle.rma_types.specs.Actions.{creation_of, window_in_action}
 use Rattle.call_rules.specs.Pieces.{numbers_from}
+use Rattle.board_rules.proofs.EntryLaws.{begins_by, names_it}
 use Rattle.lawful_runs.specs.Logs.{row_by}
 use Rattle.lawful_runs.specs.Stages.{Stage}
 use Rattle.rank_rules.specs.Courses.{LookUpAndIssue, course_of}
 use Rattle.rank_rules.specs.Windows.{RankWindows, next_number, no_part, window_number}
-use Rattle.step_laws.proofs.CallCourses.{transfer_makes_none}
-use Rattle.step_laws.proofs.Creations.{creates_it}
-use Rattle.step_laws.proofs.EntryNumbers.{act_after, acts_push, begins_by, creations_push, names_it}
+use Rattle.step_laws.proofs.EntryNumbers.{act_after, acts_push, creations_push}
 use Rattle.step_laws.proofs.OwnTests.{HasIssue, transfer_with_issue}
-use Rattle.step_laws.proofs.Sound.{name_made, no_more_creations}
+use Rattle.step_laws.proofs.Sound.{no_more_creations}
 use Rattle.step_laws.specs.Inside.{begun_names, names_so_far}
 use Rattle.step_runs.specs.Agents.{Agent, next_call}
 use Rattle.step_runs.specs.BoardSteps.{next_row}
+use Rattle.step_laws.proofs.SoundEntries.{entered_names}
 use Rattle.rank_engine.proofs.Ended.{none_begun}
 use Rattle.rank_engine.proofs.EntryRows.{creations_agree, own_grows}
 use Rattle.rank_engine.specs.Entering.{IsOpening}
@@ -63,13 +67,6 @@ count_made call true win e = by_creation (creation_of call) refl
     by_creation (Some creation) makes =
         ap (λ b. cond b 1 0) (names_it call creation win makes) ∙ sym (count_one win creation.win)
 
-none_made : (call : Call) → creation_of call ≡ None → name_made call ≡ []
-none_made call none = ap (λ o. option_map_or (λ (creation : Creation). creation.win ∷ []) o []) none
-
-no_begin : (x y z : Bool) → (x && (false && y) && z) ≡ false
-no_begin true y z = refl
-no_begin false y z = refl
-
 -- ---- the first entry of two
 
 look_up_makes_none : (known : RankWindows) (call : Call) → course_of known call ≡ LookUpAndIssue →
@@ -84,7 +81,7 @@ begins_made known agent call Arrive win opens =
     count_made call (agent.rank == agent.rank) win (eq-eqb agent.rank agent.rank refl)
 begins_made known agent call Leave win opens = absurd opens
 begins_made known agent call One win opens =
-    ap (λ b. cond b 1 0) (no_begin (agent.rank == agent.rank) (is_creation call) (names_window win call))
+    ap (λ b. cond b 1 0) (false_inside (agent.rank == agent.rank) (is_creation call) (names_window win call))
     ∙ ap (count win) (sym (none_made call (look_up_makes_none known call opens)))
 
 pub opened_numbers : (stage : Stage) (agent : Agent) (call : Call) (step : Step) (place : ℕ) (log : List Item) →
@@ -107,13 +104,6 @@ opened_numbers stage agent call step place log numbers new here is opens win =
 
 -- ---- the entry that ends a call
 
--- the names so far are those after the call
-pub entered_names : (stage : Stage) (agent : Agent) (call : Call) → agent.entered ≡ true →
-    next_call stage agent ≡ Some call → names_so_far stage agent ≡ agent.known.windows.created ++ name_made call
-entered_names stage agent call begun here =
-    ap (λ b. agent.known.windows.created ++ begun_names b (next_call stage agent)) begun
-    ∙ ap (λ o. agent.known.windows.created ++ begun_names true o) here
-
 pub plain_names : (stage : Stage) (agent : Agent) (call : Call) → agent.entered ≡ false → creation_of call ≡ None →
     names_so_far stage agent ≡ agent.known.windows.created ++ name_made call
 plain_names stage agent call new none =
@@ -130,7 +120,7 @@ closed_numbers stage agent next call step place numbers here same closed is no_a
     ∙ (ap (λ rows. creations rows agent.rank win) (own_grows stage agent call step place next.log here is)
     ∙ (no_more_creations (own_rows stage agent) (next_row agent call step) agent.rank win
     (ap (λ b. agent.rank == agent.rank && (b && is_creation call) && names_window win call) no_arrive
-    ∙ no_begin (agent.rank == agent.rank) (is_creation call) (names_window win call))
+    ∙ false_inside (agent.rank == agent.rank) (is_creation call) (names_window win call))
     ∙ (numbers win ∙ ap (count win) (names ∙ (sym grows ∙ sym (none_begun stage next closed))))))
 
 -- ---- the number of the window that a Leave makes
@@ -167,11 +157,6 @@ leaves_next stage agent call creation rows numbers begun here makes own =
 
 -- ---- the parts of the window
 
-find_before : {X : Type 0} (test : X → Bool) (xs : List X) (y : X) → test y ≡ false →
-    find test (xs ++ y ∷ []) ≡ find test xs
-find_before test [] y e = ap (λ b. cond b (Some y) None) e
-find_before test (x ∷ xs) y e = ap (λ o. cond (test x) (Some x) o) (find_before test xs y e)
-
 -- an entry that is no Arrive brings no part
 pub parts_stay : (layout : Layout) (ranks : ℕ) (rows : List Row) (row : Row) (window : ℕ) → is_arrive row.step ≡ false →
     parts_of layout ranks (acts (rows ++ row ∷ [])) window ≡ parts_of layout ranks (acts rows) window
@@ -192,5 +177,6 @@ parts_stay layout ranks rows row window no_arrive =
     same : (rank : ℕ) → part_in layout (acts rows ++ act_after rows row ∷ []) window rank
         ≡ part_in layout (acts rows) window rank
     same rank = ap (λ o. option_map_or (part_brought layout) o no_part)
-        (find_before (λ (act : Act). is_by_on rank window act && begins_window act.row) (acts rows) (act_after rows row)
+        (found_joined (λ (act : Act). is_by_on rank window act && begins_window act.row) (acts rows)
+        (act_after rows row)
         (not_begins (is_by_on rank window (act_after rows row))))

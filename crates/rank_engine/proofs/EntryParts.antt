@@ -3,18 +3,25 @@ use Rattle.std.proofs.Common.{◌≡◌, ℕ, ◌+◌, ◌*◌, ◌<◌, ◌≤�
 use Rattle.std.proofs.Common.{sym, ◌∙◌, ap, subst, arith}
 use Rattle.std.specs.Prelude.{◌==◌, ◌%◌, not, pos, int_lt, is_some, IfSome}
 use Rattle.std.proofs.lemmas.Bool.{eqb-true, not-false, or_parts}
+use Rattle.list_laws.proofs.Each.{found_has}
 use Rattle.rma_types.specs.declared.accesses.Step.{Step}
 use Rattle.rma_types.specs.declared.accesses.Step.TheVariants.{Arrive, Leave, One}
 use Rattle.rma_types.specs.declared.calls.Call.{Call}
 use Rattle.rma_types.specs.declared.calls.Flavor.TheVariants.{Dynamic}
 use Rattle.rma_types.specs.Datatypes.{size_of}
 use Rattle.rma_types.specs.declared.scripts.Part.{Part}
+use Rattle.rma_types.proofs.ActionLaws.{creates_it, moves_it}
 use Rattle.rma_record.specs.declared.items.Item.{Item}
 use Rattle.rma_record.specs.declared.items.Item.TheVariants.{Entry}
+use Rattle.rank_rules.proofs.KnowledgeLaws.{epochs_allow}
 use Rattle.board_rules.specs.Entries.{acts, window_of}
 use Rattle.board_rules.specs.Shapes.{parts_of}
-use Rattle.call_rules.specs.Actions.{Action, Creates, Frees, Attaches, Detaches, Synchronises, Meets, Moves}
-use Rattle.call_rules.specs.Actions.{EndsRequest, Creation, Transfer, action_of, creation_in, creation_of, transfer_of}
+use Rattle.rma_types.specs.declared.actions.Action.{Action}
+use Rattle.rma_types.specs.declared.actions.Action.TheVariants.{Creates, Frees, Attaches, Detaches, Synchronises, Meets}
+use Rattle.rma_types.specs.declared.actions.Action.TheVariants.{Moves, EndsRequest}
+use Rattle.rma_types.specs.declared.actions.Creation.{Creation}
+use Rattle.rma_types.specs.declared.actions.Transfer.{Transfer}
+use Rattle.rma_types.specs.Actions.{action_of, creation_in, creation_of, transfer_of}
 use Rattle.call_rules.specs.Ranks.{natural}
 use Rattle.call_rules.specs.Transfers.{bytes_of, rank_reached}
 use Rattle.cell_face.specs.Faces.{Face}
@@ -26,10 +33,8 @@ use Rattle.rank_rules.specs.Knowledge.{own_class}
 use Rattle.rank_rules.specs.Windows.{Window, RankWindows, is_same_flavor, next_number, window_of_name}
 use Rattle.rank_rules.specs.WindowTests.{address_in, part_reached, place_tests, window_class}
 use Rattle.step_laws.proofs.CallCourses.{collective_moves_none, looks_up_dynamic}
-use Rattle.step_laws.proofs.Creations.{creates_it}
-use Rattle.step_laws.proofs.Lists.{found_is}
 use Rattle.step_laws.proofs.OwnRoom.{HasRightPlace, right_place}
-use Rattle.step_laws.proofs.OwnTests.{HasIssue, epochs_allow, moves_it, transfer_passed, windows_allow}
+use Rattle.step_laws.proofs.OwnTests.{HasIssue, transfer_passed, windows_allow}
 use Rattle.step_laws.specs.Inside.{bytes_at}
 use Rattle.step_laws.specs.Rooms.{IsRoomyWindow}
 use Rattle.step_runs.specs.BoardSteps.{next_row}
@@ -72,7 +77,7 @@ look_up_lies s call t sound own course moves inside window live = record {
     dynamic = looks_up_dynamic known t window looks live
 
     room : IsRoomyWindow s.stage.layout window
-    room = (found_is (IsRoomyWindow s.stage.layout) (λ (w : Window). w.win == t.win) known.windows window
+    room = (found_has (IsRoomyWindow s.stage.layout) (λ (w : Window). w.win == t.win) known.windows window
         sound.windows.roomy.windows live).0
 
     same : address_in (part_reached known window t) t.disp ≡ natural t.disp
@@ -148,8 +153,7 @@ opened_sound s call step place log free home board face sound ready new opens lo
   begun = λ _. subst (λ (o : Option Call). IfSome o (IsBegun s.stage.layout s.agent.known)) (sym ready.here)
       (opens_begun s call step sound ready.own opens
       (subst (λ l. IfSome (transfer_of call) (LooksInside l s.agent.rank)) ready.board_is.layout looked));
-  pending = sound.pending;
-  few = sound.few;
+  queue = sound.queue;
   numbers = opened_numbers s.stage s.agent call step place log sound.numbers new ready.here is opens;
 }
 

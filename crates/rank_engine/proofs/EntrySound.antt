@@ -9,25 +9,31 @@ use Rattle.rma_types.specs.declared.calls.Call.{Call}
 use Rattle.rma_types.specs.declared.calls.Flavor.TheVariants.{Dynamic}
 use Rattle.rma_types.specs.declared.scripts.Layout.{Layout}
 use Rattle.rma_types.specs.declared.scripts.Part.{Part}
+use Rattle.rma_types.proofs.ActionLaws.{creates_it, name_made}
 use Rattle.rma_record.specs.declared.items.Item.{Item}
 use Rattle.rma_record.specs.declared.items.Item.TheVariants.{Entry}
+use Rattle.rank_rules.proofs.WindowLaws.{created_grows}
 use Rattle.board_rules.specs.Entries.{Row, is_arrive}
-use Rattle.call_rules.specs.Actions.{Action, Creates, Frees, Attaches, Detaches, Synchronises, Meets, Moves}
-use Rattle.call_rules.specs.Actions.{EndsRequest, Creation, action_of, creation_in}
+use Rattle.rma_types.specs.declared.actions.Action.{Action}
+use Rattle.rma_types.specs.declared.actions.Action.TheVariants.{Creates, Frees, Attaches, Detaches, Synchronises, Meets}
+use Rattle.rma_types.specs.declared.actions.Action.TheVariants.{Moves, EndsRequest}
+use Rattle.rma_types.specs.declared.actions.Creation.{Creation}
+use Rattle.rma_types.specs.Actions.{action_of, creation_in}
+use Rattle.step_laws.proofs.SoundEntries.{entered_names}
 use Rattle.cell_face.specs.Faces.{Face}
 use Rattle.rank_rules.specs.Courses.{Course, course_of}
 use Rattle.rank_rules.specs.Epochs.{Epochs}
 use Rattle.rank_rules.specs.Knowledge.{own_class}
 use Rattle.rank_rules.specs.Windows.{RankWindows, is_same_flavor, no_part, part_at, windows_after}
-use Rattle.step_laws.proofs.Creations.{creates_it, own_has_room}
-use Rattle.step_laws.proofs.Sound.{AreRoomyShapes, MakesByAddress, created_grows, name_made, rank_stays, space_stays}
+use Rattle.step_laws.proofs.Creations.{own_has_room}
+use Rattle.step_laws.proofs.Sound.{AreRoomyShapes, MakesByAddress, rank_stays, space_stays}
 use Rattle.step_laws.proofs.Sound.{windows_stay_roomy}
 use Rattle.step_laws.specs.Inside.{bytes_at, names_so_far}
 use Rattle.step_laws.specs.Rooms.{FitsMemory, IsByAddress}
 use Rattle.step_runs.specs.Agents.{Agent, next_call}
 use Rattle.sync_board.specs.Boards.{ArePartsInside, BoardState, IsMadeBy}
 use Rattle.window_regions.specs.declared.window.Shape.{Shape}
-use Rattle.rank_engine.proofs.EntryNumbers.{closed_numbers, entered_names, plain_names}
+use Rattle.rank_engine.proofs.EntryNumbers.{closed_numbers, plain_names}
 use Rattle.rank_engine.specs.Entering.{IsAnswered, IsClosing, IsPut, IsReady}
 use Rattle.rank_engine.specs.declared.asking.Answer.{Answer}
 use Rattle.rank_engine.specs.declared.asking.Answer.TheVariants.{Entered}
@@ -149,8 +155,7 @@ closed_sound s call step place log windows epochs free home sound here closes le
   rank = sound.rank;
   windows = learnt.0;
   begun = λ e. absurd (cc e);
-  pending = sound.pending;
-  few = sound.few;
+  queue = sound.queue;
   numbers = closed_numbers s.stage s.agent next call step place sound.numbers here refl refl is
       (no_arrive step s.agent.entered (course_of s.agent.known.windows call) closes)
       (closing_names s call step sound here closes) learnt.1;

@@ -17,8 +17,9 @@ use Rattle.board_rules.specs.Entries.{Row, is_arrive}
 use Rattle.cell_face.specs.Faces.{Face}
 use Rattle.kept_rows.proofs.KeptActs.{synchronisation_kept}
 use Rattle.kept_rows.specs.Gifts.{Given, gained_by}
-use Rattle.kept_rows.specs.KeptCalls.{kept_call, kept_row}
-use Rattle.call_rules.specs.Actions.{synchronisation_of}
+use Rattle.rma_types.specs.KeptCalls.{kept_call}
+use Rattle.kept_rows.specs.KeptCalls.{kept_row}
+use Rattle.rma_types.specs.Actions.{synchronisation_of}
 use Rattle.lawful_runs.specs.Logs.{row_by}
 use Rattle.lawful_runs.specs.Stages.{calls_at, shapes_in}
 use Rattle.step_runs.specs.Agents.{Agent, keep_item}
@@ -98,7 +99,7 @@ past_get [] P place l = tt
 past_get (x ∷ xs) P zero l = absurd (omega arith)
 past_get (x ∷ xs) P (suc n) l = past_get xs P n (omega arith)
 
-all_dropped : {X : Type 0} (xs : List X) → drop (length xs) xs ≡ []
+pub all_dropped : {X : Type 0} (xs : List X) → drop (length xs) xs ≡ []
 all_dropped [] = refl
 all_dropped (x ∷ xs) = all_dropped xs
 
@@ -228,14 +229,15 @@ still_steps to s after call board face face_after ready same rank own pending is
         ap (λ n. drop n to.rows) (sym (ap length same ∙ as_many board)) ∙ all_dropped to.rows
 
 -- an item that is no entry ends the call
-pub item_moved : (s after : RankState) (item : Item) →
-    IsMove s after (without_delivery (with_item s.stage s.agent item)) None →
+pub item_moved : (s after : RankState) (item : Item) → s.opened ≡ None →
+    IsMove s after (without_delivery (with_item s.stage s.agent item)) →
     (with_item s.stage s.agent item).pending ≡ s.agent.pending →
     after ≡ record s { agent = with_item s.stage s.agent item; free = after.free }
-item_moved s after item move same =
+item_moved s after item closed move same =
     move.rank
-    ∙ ap (λ t. record s { agent = with_item s.stage s.agent item; touched = t; free = after.free })
+    ∙ (ap (λ t. record s { agent = with_item s.stage s.agent item; touched = t; opened = None; free = after.free })
     (nothing_touched s.touched s.agent.pending)
+    ∙ ap (λ o. record s { agent = with_item s.stage s.agent item; opened = o; free = after.free }) (sym closed))
 
 pub waiting_turn : (s : RankState) (call : Call) (step : Step) (go : Agent → Agent) (board : BoardState)
     (face face_after : Face) → IsReady s call board face → IsHandedOver face face_after →
@@ -259,7 +261,7 @@ waiting_turn s call step go board face face_after ready handed decided =
 pub refused_turn : (s after : RankState) (call : Call) (step : Step) (go : Agent → Agent) (class : Class) (seen : ℕ)
     (board : BoardState) (face face_after : Face) → IsReady s call board face → IsHandedOver face face_after →
     decide board.ranks (rows_on board) (next_row s.agent call step) ≡ Refuse class → seen ≡ length board.entries →
-    IsMove s after (without_delivery (with_item s.stage s.agent (Refused s.agent.at class seen))) None →
+    IsMove s after (without_delivery (with_item s.stage s.agent (Refused s.agent.at class seen))) →
     IsTurn Did 1 (enter s.stage s.agent (rows_on board) call step go) s after board board face face_after
 refused_turn s after call step go class seen board face face_after ready handed decided all move =
     subst (λ to. IsTurn Did 1 to s after board board face face_after) (sym is_refused) (record {
@@ -289,7 +291,7 @@ refused_turn s after call step go class seen board face face_after ready handed 
           (Refused s.agent.at class n);
       free = after.free;
     })
-        same (item_moved s after (Refused s.agent.at class seen) move refl)
+        same (item_moved s after (Refused s.agent.at class seen) ready.closed move refl)
 
     is_refused : enter s.stage s.agent (rows_on board) call step go ≡ refuse_entry s.stage s.agent (rows_on board) class
     is_refused = ap (λ d. enter_by d s.stage s.agent (rows_on board) call step go)

@@ -9,12 +9,17 @@ use Rattle.rma_types.specs.declared.scripts.Part.{Part}
 use Rattle.rma_record.specs.declared.items.Item.{Item}
 use Rattle.rma_record.specs.declared.items.Item.TheVariants.{Entry, Refused as RefusedItem}
 use Rattle.rma_types.specs.declared.classes.Class.{Class}
-use Rattle.board_rules.specs.Board.{Refuse, decide, decision_by}
+use Rattle.rank_rules.proofs.KnowledgeLaws.{learns_nothing}
+use Rattle.board_rules.specs.Board.{Refuse, decide}
 use Rattle.board_rules.specs.Questions.{question}
 use Rattle.board_rules.specs.Rounds.{all_arrived}
 use Rattle.board_rules.specs.Entries.{Row}
-use Rattle.call_rules.specs.Actions.{Action, Creates, Frees, Attaches, Detaches, Synchronises, Meets, Moves}
-use Rattle.call_rules.specs.Actions.{EndsRequest, Transfer, action_of, transfer_in, transfer_of}
+use Rattle.rma_types.specs.declared.actions.Action.{Action}
+use Rattle.rma_types.specs.declared.actions.Action.TheVariants.{Creates, Frees, Attaches, Detaches, Synchronises, Meets}
+use Rattle.rma_types.specs.declared.actions.Action.TheVariants.{Moves, EndsRequest}
+use Rattle.rma_types.specs.declared.actions.Transfer.{Transfer}
+use Rattle.rma_types.specs.Actions.{action_of, transfer_in, transfer_of}
+use Rattle.board_rules.proofs.DecisionLaws.{never_refused}
 use Rattle.cell_face.specs.Faces.{Face}
 use Rattle.lawful_runs.specs.Stages.{calls_at, shapes_in}
 use Rattle.rank_rules.specs.Courses.{Course, OneNull, OneIssue, LookUpAndIssue, OneFlush, OneRequest, ArriveAndLeave}
@@ -24,7 +29,7 @@ use Rattle.rank_rules.specs.Knowledge.{Knowledge, ends_call, learn}
 use Rattle.rank_rules.specs.Requests.{Requests, requests_after}
 use Rattle.rank_rules.specs.Windows.{RankWindows, windows_after}
 use Rattle.step_laws.proofs.CallCourses.{collective_moves_none, learns_call, one_entry_moves_none}
-use Rattle.step_laws.proofs.EntryMoves.{IsOneEntry as IsOneEntryByLaws, learns_nothing, look_up_opens}
+use Rattle.step_laws.proofs.EntryMoves.{IsOneEntry as IsOneEntryByLaws, look_up_opens}
 use Rattle.step_runs.specs.Agents.{Agent, end_call, enter_call}
 use Rattle.step_runs.specs.BoardSteps.{enter, put_entry, next_row}
 use Rattle.sync_board.specs.Boards.{BoardState, rows_on}
@@ -284,8 +289,7 @@ pub turned_away : (s between after : RankState) (call : Call) (step : Step) (go 
     IsHandedOver face face_after → answer ≡ Refused class seen →
     IsAnswered (next_row s.agent call step) answer board board_after face face_after → between ≡ s →
     IsMove between after (without_delivery (with_item between.stage between.agent
-    (RefusedItem between.agent.at class seen)))
-    None →
+    (RefusedItem between.agent.at class seen))) →
     IsTurn Did 1 (enter s.stage s.agent (rows_on board) call step go) s after board board_after face face_after
 turned_away s between after call step go answer class seen board board_after face face_after ready handed is answered
     same
@@ -295,12 +299,7 @@ turned_away s between after call step go answer class seen board board_after fac
     (sym said.2)
     (refused_turn s after call step go class seen board face face_after ready handed said.0 said.1
     (subst (λ (x : RankState). IsMove x after
-    (without_delivery (with_item x.stage x.agent (RefusedItem x.agent.at class seen))) None) same move))
-
--- a Leave is never refused
-never_refused : (b : Bool) (class : Class) → decision_by None b ≡ Refuse class → ⊥
-never_refused true class e = cc e
-never_refused false class e = cc e
+    (without_delivery (with_item x.stage x.agent (RefusedItem x.agent.at class seen)))) same move))
 
 closing_new : (known : RankWindows) (step : Step) (begun : Bool) (call : Call) (ranks : ℕ) (rows : List Row)
     (agent : Agent)

@@ -3,11 +3,13 @@ use Rattle.std.proofs.Common.{◌≡◌, ℕ, List, Option, Some, None, sym, ◌
 use Rattle.std.specs.Prelude.{ℤ, pos, negsuc, IfSome}
 use Rattle.rma_types.specs.declared.scripts.Part.{Part}
 use Rattle.rma_types.specs.declared.calls.Call.{Call}
-use Rattle.call_rules.specs.Actions.{Attaches, Creates, Creation, action_of}
-use Rattle.step_laws.proofs.OwnTests.{none_applies}
+use Rattle.rma_types.specs.declared.actions.Creation.{Creation}
+use Rattle.rma_types.specs.declared.actions.Action.TheVariants.{Attaches, Creates}
+use Rattle.rma_types.specs.Actions.{action_of}
 use Rattle.call_rules.specs.Ranks.{natural}
 use Rattle.rank_rules.specs.Windows.{RankWindows, next_number, windows_after, with_window}
 use Rattle.rank_rules.specs.WindowTests.{window_class, window_tests}
+use Rattle.rank_rules.proofs.ClassLaws.{none_applies}
 use Rattle.window_regions.specs.declared.window.Shape.{Shape}
 use Rattle.rank_engine.specs.Learning.{HasParts, HasShape}
 

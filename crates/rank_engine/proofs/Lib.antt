@@ -21,6 +21,7 @@ pub mod MovesMade
 pub mod NewRanks
 pub mod NextEntries
 pub mod Passed
+pub mod Progress
 pub mod RefusalItems
 pub mod RefusedMoves
 pub mod RefusedTurns
@@ -28,6 +29,7 @@ pub mod Scripts
 pub mod Shares
 pub mod StepsMade
 pub mod ThenSteps
+pub mod ToldGifts
 pub mod TwoEntries
 pub mod Unwritten
 pub mod Ways

@@ -2,18 +2,18 @@
 use Rattle.std.proofs.Common.{◌≡◌, ℕ, zero, suc, ◌+◌, ◌-◌, ◌≤◌, ◌⊎◌, inl, inr, Bool, true, false, cond, List, [], ◌∷◌}
 use Rattle.std.proofs.Common.{◌++◌, length, drop, Option, Some, None, refl, sym, ◌∙◌, ap, subst, arith, length-append}
 use Rattle.std.specs.Prelude.{map, nat_lt, slice_get}
-use Rattle.std.specs.List.{sum_by, AllByRecursion}
+use Rattle.std.specs.List.{sum_by}
 use Rattle.std.specs.Option.{option_map_or}
 use Rattle.std.proofs.lemmas.List.{append-nil}
 use Rattle.std.proofs.lemmas.List.Sums.{sum_by-cons}
 use Rattle.rma_types.specs.declared.accesses.Access.{Access}
 use Rattle.rma_types.specs.declared.calls.Call.{Call}
 use Rattle.rma_types.specs.declared.classes.Class.{Class}
-use Rattle.rma_types.specs.declared.schedules.Delay.{Delay}
 use Rattle.rma_types.specs.declared.scripts.Layout.{Layout}
 use Rattle.rma_record.specs.declared.items.Item.{Item}
 use Rattle.rma_record.specs.declared.items.Item.TheVariants.{Issue, Null, Flush, Request, Refused, Ended}
-use Rattle.call_rules.specs.Actions.{Transfer, transfer_of}
+use Rattle.rma_types.specs.declared.actions.Transfer.{Transfer}
+use Rattle.rma_types.specs.Actions.{transfer_of}
 use Rattle.lawful_runs.specs.Stages.{Stage, calls_at}
 use Rattle.rank_rules.specs.Courses.{Course, OneNull, OneIssue, LookUpAndIssue, OneFlush, OneRequest, ArriveAndLeave}
 use Rattle.rank_rules.specs.Courses.{EntryOrTested, OneEntry, access_of, course_of}
@@ -21,16 +21,12 @@ use Rattle.rank_rules.specs.Knowledge.{own_class}
 use Rattle.rank_rules.specs.Pending.{made_pending}
 use Rattle.rank_rules.specs.declared.pending.PendingAccess.{PendingAccess}
 use Rattle.step_runs.specs.Agents.{Agent, awaited_by, has_pending, keep_item, must_draw, next_call}
-use Rattle.step_runs.specs.DataSteps.{Move, begin, draw, end, first_item, go_on, is_at_once, issue, issue_of, judge}
+use Rattle.step_runs.specs.DataSteps.{Move, begin, draw, end, first_item, go_on, issue, issue_of, judge}
 use Rattle.step_runs.specs.DataSteps.{just_delivers, move_of, no_shapes, wait_or_go_on, with_item, without_delivery}
 use Rattle.rank_engine.proofs.MovesMade.{nothing_touched}
-use Rattle.rank_engine.specs.RankStates.{RankState, is_at_hand, moves_to, own_move}
+use Rattle.rank_engine.specs.RankStates.{RankState, moves_to, own_move}
 use Rattle.rank_engine.specs.Shares.{updates_ahead, updates_by, updates_left, updates_of}
 use Rattle.rank_engine.specs.Sound.{ArePending, IsSound}
-
--- none of the accesses is touched in the step of its Issue
-abbrev pub AreLater : Delay → List PendingAccess → Type 0
-AreLater delay pending = AllByRecursion (λ (one : PendingAccess). is_at_once delay one.access ≡ false) pending
 
 -- nothing but at most one item is added
 pub record Stays (agent next : Agent) : Type 0 where
@@ -47,8 +43,6 @@ pub record Finishes (stage : Stage) (agent : Agent) (move : Move) : Type 0 where
   pub at : move.agent.at ≡ agent.at + 1
   pub made : List PendingAccess
   pub pending : move.agent.pending ≡ agent.pending ++ made
-  pub later : AreLater stage.delay made
-      ⊎ ((one : PendingAccess) × (made ≡ one ∷ []) × (move.delivers ≡ Some (length agent.pending)))
   pub due : updates_left (calls_at stage agent.rank) made (map (λ (_ : PendingAccess). 0) made) ≤ updates_of call
   pub few : length move.agent.log ≤ length agent.log + 1
 
@@ -76,7 +70,6 @@ with_item_kind stage agent call item here = inr (record {
   at = refl;
   made = [];
   pending = sym (append-nil agent.pending);
-  later = inl tt;
   due = omega arith;
   few = longer agent.log item;
 })
@@ -93,21 +86,12 @@ issue_kind stage agent call here = by_transfer (transfer_of call)
       at = refl;
       made = made_pending one;
       pending = refl;
-      later = by_delay (nat_lt 0 access.len) (is_at_once stage.delay access) refl;
       due = by_bytes (nat_lt 0 access.len);
       few = longer agent.log (Issue agent.at access);
     })
       where
         one : PendingAccess
         one = record { index = length agent.log; number = agent.at; access = access; fetches = t.fetches }
-
-        by_delay : (long once : Bool) → is_at_once stage.delay access ≡ once →
-            AreLater stage.delay (cond long (one ∷ []) [])
-            ⊎ ((other : PendingAccess) × (cond long (one ∷ []) [] ≡ other ∷ []) ×
-            (cond once (Some (length agent.pending)) None ≡ Some (length agent.pending)))
-        by_delay false once e = inl tt
-        by_delay true true e = inr (one, refl, refl)
-        by_delay true false e = inl (e, tt)
 
         by_bytes : (b : Bool) → updates_left (calls_at stage agent.rank) (cond b (one ∷ []) [])
             (map (λ (_ : PendingAccess). 0) (cond b (one ∷ []) [])) ≤ updates_of call
@@ -184,12 +168,12 @@ move_kind stage agent = by_call (next_call stage agent) refl
     by_call (Some call) e = by_entered call e agent.entered
 
 pub own_kind : (s : RankState) → IsKind s.stage s.agent (own_move s)
-own_kind s = by_hand (is_at_hand s)
+own_kind s = by_opened s.opened
   where
-    by_hand : (b : Bool) → IsKind s.stage s.agent
-        (cond b (just_delivers s.agent (length s.agent.pending - 1)) (move_of s.stage s.agent))
-    by_hand true = inl (same s.agent s.agent refl refl refl refl)
-    by_hand false = move_kind s.stage s.agent
+    by_opened : (o : Option ℕ) → IsKind s.stage s.agent
+        (option_map_or (just_delivers s.agent) o (move_of s.stage s.agent))
+    by_opened None = move_kind s.stage s.agent
+    by_opened (Some at) = inl (same s.agent s.agent refl refl refl refl)
 
 pub kind_few : (stage : Stage) (agent : Agent) (move : Move) → IsKind stage agent move →
     length move.agent.log ≤ length agent.log + 1
@@ -253,7 +237,8 @@ move_ahead s move sound (inr finishes) =
     let later : ℕ = sum_by updates_of (drop (s.agent.at + 1) calls) in
     let parts : updates_left calls (s.agent.pending ++ made) (s.touched ++ map (λ (_ : PendingAccess). 0) made) ≡ left +
     due =
-    left_append s.stage.layout calls s.agent.pending made s.touched (map (λ (_ : PendingAccess). 0) made) sound.pending
+    left_append s.stage.layout calls s.agent.pending made s.touched (map (λ (_ : PendingAccess). 0) made)
+    sound.queue.each
     in
     let is : updates_ahead (moves_to s move) ≡ later + (left + due) =
     ahead_is s move (s.agent.at + 1) (s.agent.pending ++ made) finishes.rank finishes.at finishes.pending

@@ -10,20 +10,18 @@ use Rattle.rank_rules.specs.declared.pending.PendingAccess.{PendingAccess}
 use Rattle.rank_rules.specs.Pending.{awaited, gives_way, must_wait, share_cell, way}
 use Rattle.rank_rules.specs.Requests.{Requests}
 use Rattle.call_rules.specs.Transfers.{is_ordered_kind}
-use Rattle.lawful_runs.specs.TouchLaw.{is_local}
-use Rattle.rma_types.specs.declared.accesses.Kind.{Kind}
-use Rattle.rma_types.specs.declared.accesses.Kind.TheVariants.{Get, Put, Acc, Cas, Load, Store}
 use Rattle.rma_types.specs.declared.calls.Call.{Call}
 use Rattle.rma_types.specs.declared.schedules.Delay.{Delay}
 use Rattle.rma_types.specs.declared.schedules.Delay.TheVariants.{None as NoDelay, End as EndDelay}
 use Rattle.rma_types.specs.declared.schedules.Delay.TheVariants.{Seeded as SeededDelay}
 use Rattle.lawful_runs.specs.Stages.{Stage}
+use Rattle.lawful_runs.proofs.TouchLaws.{local_is_unordered}
 use Rattle.step_runs.specs.Agents.{Agent, is_seeded, must_draw}
 use Rattle.step_runs.specs.DataSteps.{draw, is_at_once, just_delivers}
 use Rattle.step_runs.specs.Generator.{drawn_from, next_state}
 use Rattle.rank_engine.proofs.Ways.{way_alone, way_twice}
 use Rattle.rank_engine.specs.Moves.{IsFirst, IsMove}
-use Rattle.rank_engine.specs.RankStates.{RankState}
+use Rattle.rank_engine.specs.RankStates.{RankState, delivery_of, moves_to}
 
 all_dropped : {X : Type 0} (xs : List X) → drop (length xs) xs ≡ []
 all_dropped [] = refl
@@ -37,11 +35,12 @@ nothing_touched touched pending =
 
 -- a pending access is named
 pub names_one : (s : RankState) (at : ℕ) → IsFirst s.agent.pending at →
-    IsMove s s (just_delivers s.agent at) (Some at)
+    IsMove s (record s { opened = Some at }) (just_delivers s.agent at)
 names_one s at first = record {
-  rank = ap (λ touched. record s { touched = touched }) (sym (nothing_touched s.touched s.agent.pending));
-  place_is = ap (λ b. cond b (Some at) None) (sym (lt-ltb at (length s.agent.pending) first.0));
-  first = first;
+  rank = ap (λ touched. record s { touched = touched; opened = Some at })
+      (sym (nothing_touched s.touched s.agent.pending))
+      ∙ ap (λ o. record (moves_to s (just_delivers s.agent at)) { opened = o })
+      (ap (λ b. cond b (Some at) None) (sym (lt-ltb at (length s.agent.pending) first.0)));
   above = omega arith;
   below = omega arith;
 }
@@ -57,24 +56,24 @@ awaited_first requests call pending at e = by_place (position (must_wait request
         let is : at ≡ way pending n = cc h in
         subst (λ m. way pending m ≡ m) (sym is) (way_twice pending n)
 
+-- the access that a draw names gives way to none
+pub drawn_first : (pending : List PendingAccess) (place number : ℕ) → 0 < length pending →
+    place ≡ way pending (number % length pending) → place ≤ number % length pending → IsFirst pending place
+drawn_first pending place number some is low = (
+  omega arith,
+  subst (λ m. way pending m ≡ m) (sym is) (way_twice pending (number % length pending)),
+)
+
 -- an odd draw names one
-pub draws_one : (s : RankState) (draws number place free : ℕ) → draws ≡ next_state s.agent.draws →
+pub draws_one : (s : RankState) (draws number place : ℕ) → draws ≡ next_state s.agent.draws →
     number ≡ drawn_from draws → number % 2 ≡ 1 →
     place ≡ way s.agent.pending (number / 2 % length s.agent.pending) → place < length s.agent.pending →
-    free ≡ s.free →
-    IsMove s (record s { agent = record s.agent { drawn = true; draws = draws }; free = free }) (draw s.agent)
-    (Some place)
-draws_one s draws number place free d n odd is within f = record {
-  rank = cc (d, touches);
-  place_is = sym (ap (λ b. option_and_then inside (cond b (Some named) None)) odd_test
-      ∙ (ap (option_and_then inside) (ap Some same) ∙ inner));
-  first = (
-    within,
-    subst (λ m. way s.agent.pending m ≡ m) (sym is)
-        (way_twice s.agent.pending (number / 2 % length s.agent.pending)),
-  );
-  above = subst (λ m. s.free ≤ m + 1) (sym f) (omega arith);
-  below = subst (λ m. m ≤ s.free) (sym f) (omega arith);
+    IsMove s (record s { agent = record s.agent { drawn = true; draws = draws }; opened = Some place })
+    (draw s.agent)
+draws_one s draws number place d n odd is within = record {
+  rank = cc (d, touches, names);
+  above = omega arith;
+  below = omega arith;
 }
   where
     inside : ℕ → Option ℕ
@@ -95,6 +94,10 @@ draws_one s draws number place free d n odd is within f = record {
     inner : inside place ≡ Some place
     inner = ap (λ b. cond b (Some place) None) (lt-ltb place (length s.agent.pending) within)
 
+    names : delivery_of (draw s.agent) ≡ Some place
+    names = ap (λ b. option_and_then inside (cond b (Some named) None)) odd_test
+        ∙ (ap (option_and_then inside) (ap Some same) ∙ inner)
+
 -- a draw is made where something is pending
 pub some_waits : (stage : Stage) (agent : Agent) → must_draw stage agent ≡ true → 0 < length agent.pending
 some_waits stage agent e = by_tests (is_seeded stage.delay) agent.drawn (length agent.pending) e
@@ -107,14 +110,6 @@ some_waits stage agent e = by_tests (is_seeded stage.delay) agent.drawn (length 
     by_tests a b n h = by_length n (and_parts (a && not b) (not (n == 0)) h).1
 
 -- ---- issues
-
-local_kind : (kind : Kind) → is_local kind ≡ true → is_ordered_kind kind ≡ false
-local_kind Get e = refl
-local_kind Put e = refl
-local_kind (Acc op dtype) e = absurd (cc e)
-local_kind (Cas dtype) e = absurd (cc e)
-local_kind Load e = refl
-local_kind Store e = refl
 
 unordered : (one other : PendingAccess) → is_ordered_kind one.access.kind ≡ false → gives_way one other ≡ false
 unordered one other e =
@@ -129,8 +124,8 @@ only (y ∷ z ∷ ys) (suc at) x here few = absurd (omega arith)
 local_alone : (delay : Delay) (one : PendingAccess) → (delay ≡ NoDelay → ⊥) → is_at_once delay one.access ≡ true →
     (other : PendingAccess) → gives_way one other ≡ false
 local_alone NoDelay one apart e other = absurd (apart refl)
-local_alone EndDelay one apart e other = unordered one other (local_kind one.access.kind e)
-local_alone SeededDelay one apart e other = unordered one other (local_kind one.access.kind e)
+local_alone EndDelay one apart e other = unordered one other (local_is_unordered one.access.kind e)
+local_alone SeededDelay one apart e other = unordered one other (local_is_unordered one.access.kind e)
 
 -- the access that is touched in the step of its Issue gives way to none
 pub at_once_first : (delay : Delay) (pending : List PendingAccess) (at : ℕ) (one : PendingAccess) →

@@ -4,15 +4,23 @@ use Rattle.std.proofs.Common.{sym, ◌∙◌, ap, subst, arith}
 use Rattle.std.specs.Prelude.{◌==◌, ◌^◌, ℤ, pos, negsuc, IfSome, nat_lt}
 use Rattle.std.specs.Option.{option_and_then, option_map_or}
 use Rattle.std.proofs.lemmas.Bool.{not-false, ltb-true, ltb-false}
+use Rattle.list_laws.proofs.Each.{found_has}
 use Rattle.rma_types.specs.declared.calls.Call.{Call}
 use Rattle.rma_types.specs.declared.calls.Flavor.TheVariants.{Dynamic}
 use Rattle.rma_types.specs.declared.scripts.Layout.{Layout}
-use Rattle.call_rules.specs.Actions.{Action, Creates, Frees, Attaches, Detaches, Synchronises, Meets, Moves}
-use Rattle.call_rules.specs.Actions.{EndsRequest, Transfer, Target, Own, Null, Named, action_of, transfer_in}
-use Rattle.call_rules.specs.Actions.{transfer_of}
+use Rattle.rma_types.specs.declared.actions.Action.{Action}
+use Rattle.rma_types.specs.declared.actions.Action.TheVariants.{Creates, Frees, Attaches, Detaches, Synchronises, Meets}
+use Rattle.rma_types.specs.declared.actions.Action.TheVariants.{Moves, EndsRequest}
+use Rattle.rma_types.specs.declared.actions.Target.{Target}
+use Rattle.rma_types.specs.declared.actions.Transfer.{Transfer}
+use Rattle.rma_types.specs.declared.actions.Target.TheVariants.{Own, Null, Named}
+use Rattle.rma_types.specs.Actions.{action_of, transfer_in, transfer_of}
+use Rattle.rma_types.proofs.ActionLaws.{moves_it}
 use Rattle.call_rules.specs.Ranks.{natural}
 use Rattle.call_rules.specs.Transfers.{rank_reached, bytes_of}
 use Rattle.call_rules.specs.WellFormed.{IsWrittenCall, IsWrittenAction, IsNumber}
+use Rattle.rank_rules.proofs.ClassLaws.{least_none, first_passed}
+use Rattle.rank_rules.proofs.KnowledgeLaws.{epochs_allow}
 use Rattle.rank_epochs.specs.Accepted.{IsAccepted}
 use Rattle.rank_rules.specs.Classes.{first_class, least_class}
 use Rattle.rank_rules.specs.Courses.{course_of, course_of_action}
@@ -22,9 +30,8 @@ use Rattle.rank_rules.specs.Requests.{Requests, is_live_request, request_class}
 use Rattle.rank_rules.specs.Windows.{Window, RankWindows, window_of_name, is_same_flavor}
 use Rattle.rank_rules.specs.WindowTests.{address_of, is_unattached, part_reached, passes_end, place_tests, window_class}
 use Rattle.rma_types.specs.declared.classes.Class.TheVariants.{Request}
-use Rattle.step_laws.proofs.Lists.{found_is}
 use Rattle.step_laws.proofs.OwnRoom.{HasRightPlace, counts_and_ranks, right_place}
-use Rattle.step_laws.proofs.OwnTests.{HasIssue, least_none, epochs_allow, windows_allow, first_passed, moves_it}
+use Rattle.step_laws.proofs.OwnTests.{HasIssue, windows_allow}
 use Rattle.step_laws.proofs.OwnTests.{transfer_passed}
 use Rattle.step_laws.specs.Inside.{bytes_at}
 use Rattle.step_laws.specs.Rooms.{AreRoomy, IsRoomyWindow}
@@ -154,7 +161,7 @@ small_place layout known call t most few mine roomy written own issues moves = (
     by_window None live = tt
     by_window (Some window) live = small_address layout known.windows t window most
         (subst IsWrittenAction is written).place
-        (found_is (IsRoomyWindow layout) (λ (w : Window). w.win == t.win) known.windows.windows window roomy.windows
+        (found_has (IsRoomyWindow layout) (λ (w : Window). w.win == t.win) known.windows.windows window roomy.windows
         live).0
         (right_place known.windows known.epochs window t
         (subst (λ a. HasIssue (course_of_action known.windows a)) is issues) passed_epochs

@@ -4,14 +4,14 @@ use Rattle.std.proofs.Common.{drop, refl, sym, ◌∙◌, ap, subst, arith, appe
 use Rattle.std.specs.Prelude.{Contains, slice_index_or}
 use Rattle.std.specs.List.{AllByRecursion}
 use Rattle.std.proofs.lemmas.List.{append-nil}
+use Rattle.list_laws.proofs.Each.{each_append}
 use Rattle.rma_types.specs.declared.classes.Class.{Class}
 use Rattle.rma_record.specs.declared.items.Item.{Item}
 use Rattle.rma_record.specs.declared.items.Item.TheVariants.{Issue, Null, Touch, Flush, Request, Entry, Tested, Refused}
 use Rattle.rma_record.specs.declared.items.Item.TheVariants.{Ended}
-use Rattle.step_laws.proofs.Lists.{each_append}
 use Rattle.step_runs.specs.Agents.{Agent}
 use Rattle.rank_engine.specs.RankStates.{RankState}
-use Rattle.rank_engine.specs.Refusals.{RefusesAlone}
+use Rattle.rank_engine.specs.Refusals.{OnlyRefuses, RefusesAlone, WhereRefused}
 
 abbrev pub is_refusal : Item → Bool
 is_refusal (Issue call access) = false
@@ -70,8 +70,10 @@ only_one : (one item : Item) → Contains (one ∷ []) item → one ≡ item
 only_one one item (zero, lt, is) = is
 only_one one item (suc k, lt, is) = absurd (omega arith)
 
-pub plain_alone : (before after : RankState) → AddsPlain before.agent.log after.agent.log → RefusesAlone before after
-plain_alone before after adds number class seen inside =
+-- where no refused call was added, none is among the items
+pub plain_never : (before after : RankState) → AddsPlain before.agent.log after.agent.log → (P : Type 0) →
+    WhereRefused before after P
+plain_never before after adds P number class seen inside =
     let items : List Item = adds.items in
     let is : drop (length before.agent.log) after.agent.log ≡ items =
     ap (drop (length before.agent.log)) adds.more ∙ all_dropped before.agent.log items in
@@ -80,6 +82,10 @@ plain_alone before after adds number class seen inside =
     let plain : is_refusal (Refused number class seen) ≡ false =
     subst IsPlain among.2 (plain_at items among.0 (Refused number class seen) adds.plain among.1) in
     absurd (cc plain)
+
+pub plain_alone : (before after : RankState) → AddsPlain before.agent.log after.agent.log → RefusesAlone before after
+plain_alone before after adds number class seen =
+    plain_never before after adds (OnlyRefuses before after number class seen) number class seen
 
 pub refuses_alone : (before after : RankState) → Refuses before.agent after.agent → after.touched ≡ before.touched →
     RefusesAlone before after

@@ -1,5 +1,5 @@
 -- A step without the board refuses the rank's next call alone, or none of its items is a refused call.
-use Rattle.std.proofs.Common.{◌≡◌, ℕ, ◌-◌, ◌⊎◌, inl, inr, Bool, true, false, cond, List, [], ◌∷◌, ◌++◌, length, drop}
+use Rattle.std.proofs.Common.{◌≡◌, ℕ, ◌⊎◌, inl, inr, Bool, true, false, cond, List, [], ◌∷◌, ◌++◌, length, drop}
 use Rattle.std.proofs.Common.{Option, Some, None, refl, sym, ◌∙◌, ap, subst}
 use Rattle.std.specs.Prelude.{map, nat_lt}
 use Rattle.std.specs.List.{AllByRecursion}
@@ -11,7 +11,8 @@ use Rattle.rma_record.specs.declared.items.Item.{Item}
 use Rattle.rma_record.specs.declared.items.Item.TheVariants.{Issue, Null, Flush, Request, Ended}
 use Rattle.access_steps.specs.TouchesMade.{MadeTouch, item_of}
 use Rattle.call_rules.specs.declared.cells.Cell.{Cell}
-use Rattle.call_rules.specs.Actions.{Transfer, transfer_of}
+use Rattle.rma_types.specs.declared.actions.Transfer.{Transfer}
+use Rattle.rma_types.specs.Actions.{transfer_of}
 use Rattle.cell_face.specs.Faces.{Face}
 use Rattle.lawful_runs.specs.Stages.{Stage}
 use Rattle.rank_rules.specs.Courses.{Course, OneNull, OneIssue, LookUpAndIssue, OneFlush, OneRequest, ArriveAndLeave}
@@ -24,12 +25,12 @@ use Rattle.step_runs.specs.DataSteps.{move_of, no_shapes, wait_or_go_on, with_it
 use Rattle.rank_engine.proofs.KeptLogs.{keeps_outcome}
 use Rattle.rank_engine.proofs.MovesMade.{nothing_touched}
 use Rattle.rank_engine.proofs.RefusalItems.{AddsPlain, IsPlain, Refuses, adds_none, adds_one, adds_then, plain_alone}
-use Rattle.rank_engine.proofs.RefusalItems.{refuses_alone}
+use Rattle.rank_engine.proofs.RefusalItems.{plain_never, refuses_alone}
 use Rattle.rank_engine.specs.DataAnswers.{IsDelivered}
 use Rattle.rank_engine.specs.KeptItems.{KeepsItems}
 use Rattle.rank_engine.specs.Moves.{IsMove}
-use Rattle.rank_engine.specs.RankStates.{RankState, delivery_of, is_at_hand, own_move}
-use Rattle.rank_engine.specs.Refusals.{RefusesAlone}
+use Rattle.rank_engine.specs.RankStates.{RankState, delivery_of, own_move}
+use Rattle.rank_engine.specs.Refusals.{RefusesAlone, WhereRefused}
 
 -- a move that refuses delivers nothing
 abbrev MoveOutcome : Agent → Move → Type 0
@@ -110,12 +111,12 @@ move_outcome stage agent = by_call (next_call stage agent)
     by_call (Some call) = by_entered call agent.entered
 
 own_outcome : (s : RankState) → MoveOutcome s.agent (own_move s)
-own_outcome s = by_hand (is_at_hand s)
+own_outcome s = by_opened s.opened
   where
-    by_hand : (b : Bool) → MoveOutcome s.agent
-        (cond b (just_delivers s.agent (length s.agent.pending - 1)) (move_of s.stage s.agent))
-    by_hand true = inl (adds_none s.agent.log)
-    by_hand false = move_outcome s.stage s.agent
+    by_opened : (o : Option ℕ) → MoveOutcome s.agent
+        (option_map_or (just_delivers s.agent) o (move_of s.stage s.agent))
+    by_opened None = move_outcome s.stage s.agent
+    by_opened (Some at) = inl (adds_none s.agent.log)
 
 -- ---- the delivery after it
 
@@ -124,7 +125,7 @@ touches_plain issue [] = tt
 touches_plain issue (touch ∷ touches) = (refl, touches_plain issue touches)
 
 -- the rank after a move alone
-pub move_alone : (before after : RankState) → IsMove before after (own_move before) None → RefusesAlone before after
+pub move_alone : (before after : RankState) → IsMove before after (own_move before) → RefusesAlone before after
 move_alone before after move = by_outcome (own_outcome before)
   where
     is : after.agent ≡ (own_move before).agent
@@ -142,30 +143,45 @@ move_alone before after move = by_outcome (own_outcome before)
         (subst (Refuses before.agent) (sym is) refuses) (touched refuses.pending)
 
 -- the rank after a move and a delivery: none of the items is a refused call
-pub delivery_alone : (before between after : RankState) (at : ℕ) (done : Bool) (face face_after : Face)
-    (knows : ℕ → Cell → Type 0) → IsMove before between (own_move before) (Some at) →
-    IsDelivered (Some at) between after done face face_after knows → RefusesAlone before after
-delivery_alone before between after at done face face_after knows move delivered = by_outcome (own_outcome before)
+delivery_plain : (before between after : RankState) (at : ℕ) (done : Bool) (face face_after : Face)
+    (knows : ℕ → Cell → Type 0) → IsMove before between (own_move before) → between.opened ≡ Some at →
+    IsDelivered (Some at) between after done face face_after knows → AddsPlain before.agent.log after.agent.log
+delivery_plain before between after at done face face_after knows move opens delivered =
+    by_outcome (own_outcome before)
   where
     is : between.agent ≡ (own_move before).agent
     is = ap (λ (s : RankState). s.agent) move.rank
 
-    by_outcome : MoveOutcome before.agent (own_move before) → RefusesAlone before after
-    by_outcome (inl adds) = plain_alone before after (adds_then before.agent.log between.agent.log after.agent.log
+    by_outcome : MoveOutcome before.agent (own_move before) → AddsPlain before.agent.log after.agent.log
+    by_outcome (inl adds) = adds_then before.agent.log between.agent.log after.agent.log
         (subst (λ (a : Agent). AddsPlain before.agent.log a.log) (sym is) adds) (record {
           items = map (item_of delivered.1.one.index) delivered.1.touches.touches;
           more = delivered.1.touches.items;
           plain = touches_plain delivered.1.one.index delivered.1.touches.touches;
-        }))
+        })
     by_outcome (inr (refuses, none)) =
         let nowhere : delivery_of (own_move before) ≡ None =
         ap (option_and_then (λ at. cond (nat_lt at (length (own_move before).agent.pending)) (Some at) None)) none in
-        absurd (cc (nowhere, move.place_is))
+        absurd (cc (nowhere, ap (λ (s : RankState). s.opened) move.rank, opens))
+
+pub delivery_alone : (before between after : RankState) (at : ℕ) (done : Bool) (face face_after : Face)
+    (knows : ℕ → Cell → Type 0) → IsMove before between (own_move before) → between.opened ≡ Some at →
+    IsDelivered (Some at) between after done face face_after knows → RefusesAlone before after
+delivery_alone before between after at done face face_after knows move opens delivered =
+    plain_alone before after
+    (delivery_plain before between after at done face face_after knows move opens delivered)
+
+pub delivery_untouched : (before between after : RankState) (at : ℕ) (done : Bool) (face face_after : Face)
+    (knows : ℕ → Cell → Type 0) → IsMove before between (own_move before) → between.opened ≡ Some at →
+    IsDelivered (Some at) between after done face face_after knows → WhereRefused before after (face_after ≡ face)
+delivery_untouched before between after at done face face_after knows move opens delivered =
+    plain_never before after
+    (delivery_plain before between after at done face face_after knows move opens delivered) (face_after ≡ face)
 
 -- what was kept before a move stays in front
-pub move_keeps : (before after : RankState) (place : Option ℕ) → IsMove before after (own_move before) place →
+pub move_keeps : (before after : RankState) → IsMove before after (own_move before) →
     KeepsItems before.agent.log after.agent.log
-move_keeps before after place move =
+move_keeps before after move =
     subst (λ (a : Agent). KeepsItems before.agent.log a.log) (sym (ap (λ (s : RankState). s.agent) move.rank))
     (by_outcome (own_outcome before))
   where

@@ -1,7 +1,9 @@
 -- A step at the board refuses the rank's next call alone, or its items are an entry, two, or a false test.
-use Rattle.std.proofs.Common.{◌≡◌, ℕ, inl, inr, Bool, true, false, cond, List, length, Result, Ok, Err, refl, ap, subst}
-use Rattle.std.proofs.Common.{sym}
-use Rattle.std.specs.Prelude.{IfOk}
+use Rattle.std.proofs.Common.{◌≡◌, ◌⊎◌, ℕ, inl, inr, Bool, true, false, cond, List, [], ◌∷◌, ◌++◌, length, drop, Result, Ok}
+use Rattle.std.proofs.Common.{Err, refl, sym, ◌∙◌, ap, subst}
+use Rattle.std.specs.Prelude.{IfOk, map}
+use Rattle.std.proofs.lemmas.List.{append-nil, map-append}
+use Rattle.list_laws.proofs.Lists.{cancel}
 use Rattle.rma_types.specs.declared.accesses.Step.{Step}
 use Rattle.rma_types.specs.declared.accesses.Step.TheVariants.{Arrive, Leave, One}
 use Rattle.rma_types.specs.declared.calls.Call.{Call}
@@ -18,28 +20,35 @@ use Rattle.step_runs.specs.Agents.{Agent, end_call, enter_call}
 use Rattle.step_runs.specs.BoardSteps.{AtBoard, enter_by, put_entry, entry_of, first_entry, leave, leave_if_entered}
 use Rattle.step_runs.specs.BoardSteps.{next_row, refuse_entry, test_by, stay_waiting}
 use Rattle.sync_board.specs.Boards.{BoardState, rows_on}
-use Rattle.rank_engine.proofs.RefusalItems.{AddsPlain, Outcome, Refuses, adds_none, adds_one, adds_then, plain_alone}
-use Rattle.rank_engine.proofs.RefusalItems.{refuses_alone}
-use Rattle.rank_engine.specs.Entering.{IsTurn}
+use Rattle.rank_engine.proofs.RefusalItems.{AddsPlain, Refuses, adds_none, adds_one, adds_then, plain_alone}
+use Rattle.rank_engine.proofs.RefusalItems.{plain_never, refuses_alone}
+use Rattle.rank_engine.proofs.EntrySteps.{all_dropped, as_many}
+use Rattle.kept_rows.specs.Gifts.{Given, rows_given}
+use Rattle.kept_rows.specs.KeptCalls.{kept_row}
+use Rattle.rank_engine.specs.Entering.{IsTurn, StepsTo}
 use Rattle.rank_engine.specs.RankStates.{RankState}
-use Rattle.rank_engine.specs.Refusals.{RefusesAlone}
+use Rattle.rank_engine.specs.Refusals.{RefusesAlone, WhereRefused}
 use Rattle.rank_engine.specs.declared.answers.Turned.{Turned}
 
+-- a step that refuses leaves the rows as they were
+abbrev EntryOutcome : Agent → List Row → AtBoard → Type 0
+EntryOutcome agent rows to = AddsPlain agent.log to.agent.log ⊎ (Refuses agent to.agent × (to.rows ≡ rows))
+
 refused_outcome : (stage : Stage) (agent : Agent) (rows : List Row) (class : Class) →
-    Outcome agent (refuse_entry stage agent rows class).agent
+    EntryOutcome agent rows (refuse_entry stage agent rows class)
 refused_outcome stage agent rows class =
-    inr (record { class = class; seen = length rows; log = refl; known = refl; pending = refl })
+    inr (record { class = class; seen = length rows; log = refl; known = refl; pending = refl }, refl)
 
 enter_outcome : (d : Decision) (stage : Stage) (agent : Agent) (rows : List Row) (call : Call) (step : Step)
     (after : Agent → Agent) → ((next : Agent) → (after next).log ≡ next.log) →
-    Outcome agent (enter_by d stage agent rows call step after).agent
+    EntryOutcome agent rows (enter_by d stage agent rows call step after)
 enter_outcome (Refuse class) stage agent rows call step after same = refused_outcome stage agent rows class
 enter_outcome Allow stage agent rows call step after same =
     inl (subst (AddsPlain agent.log) (sym (same _)) (adds_one agent.log (Entry agent.at (length rows) step) refl))
 enter_outcome NotYet stage agent rows call step after same = inl (adds_none agent.log)
 
 test_outcome : (d : Decision) (stage : Stage) (agent : Agent) (rows : List Row) (call : Call) →
-    Outcome agent (test_by d stage agent rows call).agent
+    EntryOutcome agent rows (test_by d stage agent rows call)
 test_outcome (Refuse class) stage agent rows call = refused_outcome stage agent rows class
 test_outcome Allow stage agent rows call = inl (adds_one agent.log (Entry agent.at (length rows) One) refl)
 test_outcome NotYet stage agent rows call = inl (adds_one agent.log (Tested agent.at (length rows)) refl)
@@ -56,7 +65,7 @@ leave_adds stage agent rows call =
     by_allowed false = adds_none agent.log
 
 arrive_outcome : (d : Decision) (stage : Stage) (agent : Agent) (rows : List Row) (call : Call) →
-    Outcome agent (leave_if_entered stage call (enter_by d stage agent rows call Arrive enter_call)).agent
+    EntryOutcome agent rows (leave_if_entered stage call (enter_by d stage agent rows call Arrive enter_call))
 arrive_outcome (Refuse class) stage agent rows call = refused_outcome stage agent rows class
 arrive_outcome Allow stage agent rows call =
     let arrived : AtBoard = put_entry stage agent rows call Arrive enter_call in
@@ -65,12 +74,12 @@ arrive_outcome Allow stage agent rows call =
     (leave_adds stage arrived.agent arrived.rows call))
 arrive_outcome NotYet stage agent rows call = by_entered agent.entered
   where
-    by_entered : (b : Bool) → Outcome agent (cond b (leave stage agent rows call) (stay_waiting agent rows)).agent
+    by_entered : (b : Bool) → EntryOutcome agent rows (cond b (leave stage agent rows call) (stay_waiting agent rows))
     by_entered true = inl (leave_adds stage agent rows call)
     by_entered false = inl (adds_none agent.log)
 
 first_outcome : (course : Course) (stage : Stage) (agent : Agent) (rows : List Row) (call : Call) →
-    Outcome agent (first_entry course stage agent rows call).agent
+    EntryOutcome agent rows (first_entry course stage agent rows call)
 first_outcome OneNull stage agent rows call = inl (adds_none agent.log)
 first_outcome OneIssue stage agent rows call = inl (adds_none agent.log)
 first_outcome LookUpAndIssue stage agent rows call =
@@ -87,11 +96,11 @@ first_outcome OneEntry stage agent rows call =
     (λ next. refl)
 
 entry_outcome : (stage : Stage) (agent : Agent) (rows : List Row) (call : Call) →
-    Outcome agent (entry_of stage agent rows call).agent
+    EntryOutcome agent rows (entry_of stage agent rows call)
 entry_outcome stage agent rows call = by_entered agent.entered
   where
-    by_entered : (b : Bool) → Outcome agent (cond b (leave stage agent rows call)
-        (first_entry (course_of agent.known.windows call) stage agent rows call)).agent
+    by_entered : (b : Bool) → EntryOutcome agent rows (cond b (leave stage agent rows call)
+        (first_entry (course_of agent.known.windows call) stage agent rows call))
     by_entered true = inl (leave_adds stage agent rows call)
     by_entered false = first_outcome (course_of agent.known.windows call) stage agent rows call
 
@@ -107,11 +116,58 @@ entry_alone before after rows call is = by_outcome (entry_outcome before.stage b
     agent : after.agent ≡ to
     agent = ap (λ (s : RankState). s.agent) is
 
-    by_outcome : Outcome before.agent to → RefusesAlone before after
+    by_outcome : EntryOutcome before.agent rows (entry_of before.stage before.agent rows call) →
+        RefusesAlone before after
     by_outcome (inl adds) = plain_alone before after
         (subst (λ (a : Agent). AddsPlain before.agent.log a.log) (sym agent) adds)
-    by_outcome (inr refuses) = refuses_alone before after
+    by_outcome (inr (refuses, same)) = refuses_alone before after
         (subst (Refuses before.agent) (sym agent) refuses) (ap (λ (s : RankState). s.touched) is)
+
+-- the board after it
+same_board : (board board_after : BoardState) (rows : List Row) (given : List Given) →
+    rows ≡ rows_on board → board_after ≡ record board { entries = board.entries ++ given } →
+    rows_on board_after ≡ rows_on board ++ map kept_row (drop (length board.entries) rows) → board_after ≡ board
+same_board board board_after rows given same is grown =
+    is ∙ ap (λ l. record board { entries = l })
+    (ap (λ l. board.entries ++ l) (none given more) ∙ append-nil board.entries)
+  where
+    none : (list : List Given) → rows_given list ≡ [] → list ≡ []
+    none [] e = refl
+    none (one ∷ list) e = absurd (cc e)
+
+    nothing : drop (length board.entries) rows ≡ []
+    nothing = ap (λ l. drop (length board.entries) l) same
+        ∙ (ap (λ n. drop n (rows_on board)) (sym (as_many board)) ∙ all_dropped (rows_on board))
+
+    more : rows_given given ≡ []
+    more = cancel (rows_on board) (rows_given given) []
+        (sym (map-append (λ (one : Given). one.row) board.entries given)
+        ∙ (ap rows_on (sym is) ∙ (grown ∙ ap (λ l. rows_on board ++ map kept_row l) nothing)))
+
+entry_untouched : (before after : RankState) (call : Call) (board board_after : BoardState) (face face_after : Face) →
+    StepsTo (entry_of before.stage before.agent (rows_on board) call) before after board board_after face face_after →
+    WhereRefused before after (board_after ≡ board)
+entry_untouched before after call board board_after face face_after steps =
+    by_outcome (entry_outcome before.stage before.agent (rows_on board) call)
+  where
+    to : AtBoard
+    to = entry_of before.stage before.agent (rows_on board) call
+
+    by_outcome : EntryOutcome before.agent (rows_on board) (entry_of before.stage before.agent (rows_on board) call) →
+        WhereRefused before after (board_after ≡ board)
+    by_outcome (inl adds) = plain_never before after (subst (λ (a : Agent). AddsPlain before.agent.log a.log)
+        (sym (ap (λ (s : RankState). s.agent) steps.rank)) adds) (board_after ≡ board)
+    by_outcome (inr (refuses, same)) = λ number class seen inside.
+        same_board board board_after to.rows steps.given same steps.entries steps.rows
+
+pub turn_untouched : {E : Type 0} (result : Result Turned E) (items : ℕ) (before after : RankState) (call : Call)
+    (board board_after : BoardState) (face face_after : Face) →
+    IfOk result (λ turned. IsTurn turned items (entry_of before.stage before.agent (rows_on board) call)
+    before after board board_after face face_after) →
+    IfOk result (λ _. WhereRefused before after (board_after ≡ board))
+turn_untouched (Ok turned) items before after call board board_after face face_after turn =
+    entry_untouched before after call board board_after face face_after turn.steps
+turn_untouched (Err e) items before after call board board_after face face_after turn = tt
 
 pub turn_alone : {E : Type 0} (result : Result Turned E) (items : ℕ) (before after : RankState) (call : Call)
     (board board_after : BoardState) (face face_after : Face) →

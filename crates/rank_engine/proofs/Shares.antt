@@ -1,42 +1,32 @@
 -- What a delivery takes of the share is what it takes of the updates ahead.
 use Rattle.std.proofs.Common.{◌≡◌, ℕ, zero, suc, ◌+◌, ◌-◌, ◌≤◌, Bool, true, false, cond, not, List, [], ◌∷◌, ◌++◌}
-use Rattle.std.proofs.Common.{length, Option, Some, None, refl, sym, ◌∙◌, ap, subst, arith, length-append}
+use Rattle.std.proofs.Common.{length, Option, Some, None, refl, sym, ◌∙◌, ap, subst, arith}
 use Rattle.std.specs.Prelude.{drop, map, remove, slice_get, slice_index, slice_set}
 use Rattle.std.specs.List.{sum_by}
 use Rattle.std.specs.Option.{option_and_then, option_map_or}
 use Rattle.rma_types.specs.declared.accesses.Access.{Access}
 use Rattle.rma_types.specs.declared.calls.Call.{Call}
 use Rattle.rma_types.specs.declared.scripts.Layout.{Layout}
+use Rattle.call_rules.proofs.NumbersFrom.{numbers_length}
 use Rattle.access_steps.specs.Plans.{PlannedTouch, change_by, element_count, is_update, planned_touch, planned_touches}
 use Rattle.access_steps.specs.TouchesMade.{MadeTouch, plan_of, update_by, updates_of as updates_among}
-use Rattle.call_rules.specs.Actions.{Transfer, transfer_of}
+use Rattle.rma_types.specs.declared.actions.Transfer.{Transfer}
+use Rattle.rma_types.specs.Actions.{transfer_of}
 use Rattle.call_rules.specs.declared.cells.Cell.{Cell}
-use Rattle.call_rules.specs.declared.elements.Change.{Change}
 use Rattle.call_rules.specs.Pieces.{numbers_from}
 use Rattle.call_rules.specs.Transfers.{change_of, is_no_op}
 use Rattle.cell_face.specs.Faces.{Face}
+use Rattle.access_steps.proofs.KeptTouches.{updates_fewer}
 use Rattle.delivery_queue.specs.Queues.{Queue, Delivers, after_delivery}
 use Rattle.lawful_runs.specs.Stages.{calls_at}
 use Rattle.rank_rules.specs.declared.pending.PendingAccess.{PendingAccess}
+use Rattle.rank_engine.specs.DataAnswers.{opened_after}
 use Rattle.rank_engine.specs.RankStates.{RankState, queue_of}
 use Rattle.rank_engine.specs.Shares.{updates_ahead, updates_by, updates_left, updates_of}
 use Rattle.rank_engine.specs.Sound.{ArePending, IsSound}
 use Rattle.std.proofs.lemmas.List.{length-map}
-use Rattle.step_laws.proofs.Lists.{length_numbers}
 
 -- ---- how many updates touches make
-
-few_update : (cell : ℕ) (seen : Cell) (o : Option Change) → length (update_by cell seen o) ≤ 1
-few_update cell seen None = omega arith
-few_update cell seen (Some change) = omega arith
-
-pub few_updates : (touches : List MadeTouch) → length (updates_among touches) ≤ length touches
-few_updates [] = omega arith
-few_updates (touch ∷ touches) =
-    let one = few_update touch.plan.cell touch.seen touch.plan.change in
-    let rest = few_updates touches in
-    let both = length-append (update_by touch.plan.cell touch.seen touch.plan.change) (updates_among touches) in omega
-    arith
 
 reads_only : (call : Call) (element first : ℕ) → is_update call ≡ false → change_by call element first ≡ None
 reads_only call element first e = by_transfer (transfer_of call) e
@@ -102,6 +92,7 @@ pub delivered_ahead : (s after : RankState) (at : ℕ) (done : Bool) (face face_
     after ≡ record s {
       agent = record s.agent { log = after.agent.log; pending = after.agent.pending };
       touched = after.touched;
+      opened = opened_after done at;
       free = after.free;
     } →
     Delivers (queue_of s) (queue_of after) at done s.stage.layout (calls_at s.stage s.agent.rank) face face_after knows
@@ -133,14 +124,14 @@ delivered_ahead s after at done face face_after knows sound eq d =
         sym (length-map touches plan_of)
         ∙ (ap length d.touches.plans
         ∙ (length-map (numbers_from from (d.next - from)) (planned_touch s.stage.layout d.one.access d.call)
-        ∙ length_numbers from (d.next - from)))
+        ∙ numbers_length from (d.next - from)))
 
     own_is : own ≡ updates_of d.call
     own_is = ap (λ o. option_map_or updates_of o 0) d.named
 
     bound : (b : Bool) → is_update d.call ≡ b → length (updates_among touches) + (own - d.next) ≤ own - from
     bound true e =
-        let few = few_updates touches in
+        let few = updates_fewer touches in
         let all : own ≡ element_count d.call = own_is ∙ ap (λ b. cond b (element_count d.call) 0) e in
         enough (length (updates_among touches)) (length touches) own d.next from (element_count d.call) few count all
         d.begun
@@ -168,7 +159,7 @@ delivered_ahead s after at done face face_after knows sound eq d =
         face.share + (later + updates_left calls after.agent.pending after.touched) ≤
         face_after.share + (later + updates_left calls s.agent.pending s.touched)
     by_done true q =
-        let left = left_removed s.stage.layout calls s.agent.pending s.touched at d.one sound.pending d.here in
+        let left = left_removed s.stage.layout calls s.agent.pending s.touched at d.one sound.queue.each d.here in
         let now = ap (λ (x : Queue). updates_left calls x.pending x.touched) q in
         gone face.share face_after.share (length (updates_among touches)) own d.next from later
         (updates_left calls after.agent.pending after.touched)
@@ -179,7 +170,8 @@ delivered_ahead s after at done face face_after knows sound eq d =
             now ≡ rest → all ≡ (n - from) + rest → share + (later + now) ≤ share' + (later + all)
         gone share share' u n next from later now rest all h k e l = omega arith
     by_done false q =
-        let left = left_touched s.stage.layout calls s.agent.pending s.touched at d.next d.one sound.pending d.here in
+        let left = left_touched s.stage.layout calls s.agent.pending s.touched at d.next d.one sound.queue.each d.here
+        in
         let now = ap (λ (x : Queue). updates_left calls x.pending x.touched) q in
         some face.share face_after.share (length (updates_among touches)) own d.next from later
         (updates_left calls after.agent.pending after.touched)

@@ -1,16 +1,17 @@
 -- A step of a rank at the board, and another after it.
 use Rattle.std.proofs.Common.{◌≡◌, ℕ, zero, suc, ◌+◌, ◌<◌, ◌≤◌, inl, inr, false, List, [], ◌∷◌, ◌++◌, length, take}
-use Rattle.std.proofs.Common.{drop, Option, Some, None, sym, ◌∙◌, ap, subst, arith, length-append}
+use Rattle.std.proofs.Common.{drop, sym, ◌∙◌, ap, subst, arith, length-append}
 use Rattle.std.specs.Prelude.{map, slice_get, slice_index, IfSome}
 use Rattle.std.specs.List.{AllByRecursion}
 use Rattle.std.proofs.lemmas.Bool.Decides.{leb_tells}
 use Rattle.std.proofs.lemmas.List.{append_assoc, drop-append-le, map-append, take-append-le}
 use Rattle.std.proofs.Math.Seq.{drop-append_seam}
+use Rattle.list_laws.proofs.Each.{each_append}
+use Rattle.list_laws.proofs.Options.{if_some_weaker}
 use Rattle.board_rules.specs.Entries.{Row}
 use Rattle.cell_face.specs.Faces.{Face, cell_count, low_at}
 use Rattle.kept_rows.specs.Gifts.{Front, Given, gained_by, rows_given}
 use Rattle.kept_rows.specs.KeptCalls.{kept_row}
-use Rattle.step_laws.proofs.Lists.{each_append}
 use Rattle.step_runs.specs.BoardSteps.{AtBoard}
 use Rattle.sync_board.specs.Boards.{BoardState, rows_on}
 use Rattle.rank_engine.proofs.EntrySteps.{as_many}
@@ -31,20 +32,16 @@ got_before [] ys P place l h = absurd (omega arith)
 got_before (x ∷ xs) ys P zero l h = h
 got_before (x ∷ xs) ys P (suc n) l h = got_before xs ys P n (omega arith) h
 
-if_some_weaker : {X : Type 0} (P Q : X → Type 0) (o : Option X) → ((x : X) → P x → Q x) → IfSome o P → IfSome o Q
-if_some_weaker P Q None keeps h = tt
-if_some_weaker P Q (Some x) keeps h = keeps x h
-
 still_met : (face after : Face) (front : Front) → IsHandedOver face after → IsMet face front → IsMet after front
 still_met face after front handed met =
     if_some_weaker
     (λ (places : List ℕ). (cell : ℕ) → cell < cell_count face → slice_index places cell ≤ low_at face cell)
-    (λ (places : List ℕ). (cell : ℕ) → cell < cell_count after → slice_index places cell ≤ low_at after cell) front
+    (λ (places : List ℕ). (cell : ℕ) → cell < cell_count after → slice_index places cell ≤ low_at after cell)
     (λ places h cell below.
     let first : slice_index places cell ≤ low_at face cell =
     h cell (subst (λ n. cell < n) handed.unwritten.stays.cells below) in
     let second = handed.unwritten.stays.lows cell in
-    further (slice_index places cell) (low_at face cell) (low_at after cell) first second) met
+    further (slice_index places cell) (low_at face cell) (low_at after cell) first second) front met
   where
     further : (a b c : ℕ) → a ≤ b → b ≤ c → a ≤ c
     further a b c h k = omega arith
@@ -145,11 +142,11 @@ then_steps first second s between after board board_between board_after face fac
         (if_some_weaker
         (λ (r : Row). IfSome (gained_by board_between.ranks (take place board_between.entries) r) (IsMet face_between))
         (λ (r : Row). IfSome (gained_by board_after.ranks (take place board_after.entries) r) (IsMet face_after))
-        (slice_get first.rows place)
         (λ r h. subst (λ gains. IfSome gains (IsMet face_after)) (sym (same_gains r))
         (if_some_weaker (IsMet face_between) (IsMet face_after)
-        (gained_by board_between.ranks (take place board_between.entries) r)
-        (λ front met. still_met face_between face_after front two.handed met) h))
+        (λ front met. still_met face_between face_after front two.handed met)
+        (gained_by board_between.ranks (take place board_between.entries) r) h))
+        (slice_get first.rows place)
         (one.gains place low)))
       where
         same_gains : (r : Row) → gained_by board_after.ranks (take place board_after.entries) r

@@ -10,18 +10,23 @@ use Rattle.rma_types.specs.declared.accesses.Step.TheVariants.{Arrive, Leave, On
 use Rattle.rma_types.specs.declared.calls.Call.{Call}
 use Rattle.rma_record.specs.declared.items.Item.{Item}
 use Rattle.rma_record.specs.declared.items.Item.TheVariants.{Tested}
+use Rattle.rank_rules.proofs.KnowledgeLaws.{learns_nothing}
 use Rattle.board_rules.specs.Board.{Decision, Refuse, Allow, NotYet as NotYetDecided, decide}
-use Rattle.board_rules.specs.Entries.{Collective, Creation, Freeing, Fence, Barrier, Row, collective_in, collective_of}
+use Rattle.board_rules.specs.Entries.{Collective, Row, collective_in, collective_of}
 use Rattle.board_rules.specs.Entries.{is_same_collective}
-use Rattle.call_rules.specs.Actions.{Action, Creates, Frees, Attaches, Detaches, Synchronises, Meets, Moves}
-use Rattle.call_rules.specs.Actions.{EndsRequest, Fences, Posts, Starts, Completes, Waits, Locks, Unlocks, Flushes}
-use Rattle.call_rules.specs.Actions.{Syncs, action_of, synchronisation_in}
+use Rattle.rma_types.specs.declared.actions.Action.{Action}
+use Rattle.rma_types.specs.declared.actions.Action.TheVariants.{Creates, Frees, Attaches, Detaches, Synchronises, Meets}
+use Rattle.rma_types.specs.declared.actions.Action.TheVariants.{Moves, EndsRequest}
+use Rattle.rma_types.specs.declared.actions.Synchronisation.TheVariants.{Fences, Posts, Starts, Completes, Waits, Locks}
+use Rattle.rma_types.specs.declared.actions.Synchronisation.TheVariants.{Unlocks, Flushes, Syncs}
+use Rattle.rma_types.specs.Actions.{action_of, synchronisation_in}
+use Rattle.board_rules.proofs.CollectiveLaws.{collective_same}
 use Rattle.cell_face.specs.Faces.{Face}
 use Rattle.kept_rows.proofs.KeptActs.{collective_whole}
-use Rattle.kept_rows.specs.KeptCalls.{kept_call, kept_row}
+use Rattle.rma_types.specs.KeptCalls.{kept_call}
+use Rattle.kept_rows.specs.KeptCalls.{kept_row}
 use Rattle.lawful_runs.specs.Stages.{Stage, calls_at, shapes_in}
 use Rattle.rank_rules.specs.Knowledge.{Knowledge, own_class}
-use Rattle.step_laws.proofs.EntryMoves.{learns_nothing}
 use Rattle.rank_rules.specs.Courses.{ArriveAndLeave, course_of}
 use Rattle.step_runs.specs.Agents.{Agent, end_call, next_call, enter_call}
 use Rattle.step_runs.specs.BoardSteps.{AtBoard, next_row, stay_waiting, put_entry, turn_away, enter_by, enter, test_by}
@@ -65,12 +70,6 @@ collective_gives Meets e = refl
 collective_gives (Moves t) e = refl
 collective_gives (EndsRequest req) e = refl
 
-same_collective : (c : Collective) → is_same_collective c c ≡ true
-same_collective Creation = refl
-same_collective Freeing = refl
-same_collective Fence = refl
-same_collective Barrier = refl
-
 -- the board keeps a collective call whole
 kept_whole : (call : Call) → is_some (collective_of call) ≡ true → kept_call call ≡ call
 kept_whole call some = by_collective (collective_of call) refl some
@@ -78,10 +77,10 @@ kept_whole call some = by_collective (collective_of call) refl some
     by_collective : (o : Option Collective) → collective_of call ≡ o → is_some o ≡ true → kept_call call ≡ call
     by_collective None e h = absurd (cc h)
     by_collective (Some c) e h = collective_whole c call
-        (ap (λ o. option_map_or (is_same_collective c) o false) e ∙ same_collective c)
+        (ap (λ o. option_map_or (is_same_collective c) o false) e ∙ collective_same c)
 
 -- a Leave gives no token
-leave_grows : (d : Decision) (stage : Stage) (agent : Agent) (rows : List Row) (call : Call) →
+pub leave_grows : (d : Decision) (stage : Stage) (agent : Agent) (rows : List Row) (call : Call) →
     is_some (collective_of call) ≡ true →
     (more : List Row) × ((enter_by d stage agent rows call Leave end_call).rows ≡ rows ++ more)
     × AllByRecursion (λ (r : Row). gives r.step r.call ≡ false) (map kept_row more)
@@ -134,7 +133,7 @@ has_arrived turned s between call board board_between face face_between ready ne
         (rows_on board) call new (sym (ap (λ (x : RankState). x.agent.entered) one.steps.rank) ∙ begun))
 
 -- the rows are those of the board
-arrived_rows : (s between : RankState) (call : Call) (board board_between : BoardState) (face face_between : Face) →
+pub arrived_rows : (s between : RankState) (call : Call) (board board_between : BoardState) (face face_between : Face) →
     HasArrived s between call board board_between face face_between →
     rows_on board ++ next_row s.agent call Arrive ∷ [] ≡ rows_on board_between
 arrived_rows s between call board board_between face face_between h =
@@ -156,6 +155,7 @@ pub still_ready : (s between : RankState) (call : Call) (board board_between : B
 still_ready s between call board board_between face face_between ready free h = record {
   here = ap (λ (x : RankState). next_call x.stage x.agent) is ∙ ready.here;
   own = ap (λ (x : RankState). own_class x.agent.known call) is ∙ (ap (λ k. own_class k call) learnt ∙ ready.own);
+  closed = ap (λ (x : RankState). x.opened) is ∙ ready.closed;
   within = subst (λ n. n < 65536) (sym (ap (λ (x : RankState). x.agent.at) is)) ready.within;
   written = ready.written;
   board_is = record {
@@ -269,9 +269,9 @@ pub tested_turn : (s between after : RankState) (call : Call) (seen : ℕ) (boar
     IsTurn NotYet 1 (enter s.stage s.agent (rows_on board) call One end_call) s between board board_between face
     face_between → seen ≡ length board_between.entries →
     IsMove between after (without_delivery (with_item between.stage between.agent
-    (Tested between.agent.at seen))) None →
+    (Tested between.agent.at seen))) → between.opened ≡ None →
     IsTurn Did 2 (test s.stage s.agent (rows_on board) call) s after board board_between face face_between
-tested_turn s between after call seen board board_between face face_between one all move =
+tested_turn s between after call seen board board_between face face_between one all move closed =
     subst (λ t. IsTurn Did 2 t s after board board_between face face_between) (sym is_tested) (record {
       says = refl;
       steps = record {
@@ -329,7 +329,7 @@ tested_turn s between after call seen board board_between face face_between one 
       free = after.free;
     }
     is =
-        item_moved between after (Tested between.agent.at seen) move refl
+        item_moved between after (Tested between.agent.at seen) closed move refl
         ∙ (ap (λ (x : RankState). record x {
           agent = with_item x.stage x.agent (Tested x.agent.at seen);
           free = after.free;

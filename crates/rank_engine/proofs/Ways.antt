@@ -5,7 +5,8 @@ use Rattle.std.proofs.lemmas.List.Quantifiers.{position-Some}
 use Rattle.std.specs.Prelude.{slice_get}
 use Rattle.std.specs.List.{position}
 use Rattle.std.specs.Option.{option_map_or}
-use Rattle.delivery_queue.proofs.GivenWays.{gives_way_to_earlier, way_step}
+use Rattle.rank_rules.proofs.PendingLaws.{gives_way_to_earlier}
+use Rattle.delivery_queue.proofs.GivenWays.{way_step}
 use Rattle.rank_rules.specs.declared.pending.PendingAccess.{PendingAccess}
 use Rattle.rank_rules.specs.Pending.{first_in_way, gives_way, way}
 

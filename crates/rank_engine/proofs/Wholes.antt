@@ -4,10 +4,12 @@ use Rattle.std.proofs.Common.{subst}
 use Rattle.std.specs.Prelude.{◌%◌, IfSome, IsSomeAnd, drop, remove, slice_get, slice_index}
 use Rattle.std.specs.List.{AllByRecursion}
 use Rattle.std.specs.Option.{option_map_or}
+use Rattle.list_laws.proofs.Each.{each_get_or, each_removed}
 use Rattle.rma_types.specs.declared.calls.Call.{Call}
 use Rattle.rma_types.specs.Datatypes.{size_of}
 use Rattle.access_steps.specs.TouchesMade.{IsTouchEach}
-use Rattle.call_rules.specs.Actions.{Transfer, transfer_of}
+use Rattle.rma_types.specs.declared.actions.Transfer.{Transfer}
+use Rattle.rma_types.specs.Actions.{transfer_of}
 use Rattle.call_rules.specs.declared.cells.Cell.{Cell}
 use Rattle.call_rules.specs.declared.elements.Piece.{Piece}
 use Rattle.call_rules.specs.Pieces.{pieces}
@@ -18,13 +20,11 @@ use Rattle.delivery_queue.specs.Queues.{Queue, Delivers, DeliversWhole}
 use Rattle.lawful_runs.specs.Accesses.{transfer_at}
 use Rattle.lawful_runs.specs.Stages.{Stage, calls_at}
 use Rattle.rank_rules.specs.declared.pending.PendingAccess.{PendingAccess}
-use Rattle.step_laws.proofs.Lists.{each_get_or, each_removed}
 use Rattle.step_runs.specs.Agents.{Agent}
-use Rattle.step_runs.specs.DataSteps.{OnMemory, deliver, is_at_once, with_delivery, with_touches}
+use Rattle.step_runs.specs.DataSteps.{OnMemory, deliver, with_delivery, with_touches}
 use Rattle.rank_engine.proofs.Deliveries.{PendingAt, pending_at}
 use Rattle.rank_engine.specs.DataAnswers.{IsWhole}
 use Rattle.rank_engine.specs.RankStates.{RankState, queue_of}
-use Rattle.rank_engine.proofs.MoveKinds.{AreLater}
 use Rattle.rank_engine.specs.Sound.{IsSound}
 
 some_of_and : {X : Type 0} (P : X → Type 0) (o : Option X) → IsSomeAnd o P → (x : X) × (o ≡ Some x)
@@ -43,10 +43,11 @@ deliver_is stage agent cells at one t here moves =
 
 pub delivered_whole : (s after : RankState) (at : ℕ) (cells : List Cell) (told : Option (List Cell))
     (face face_after : Face) (knows : ℕ → Cell → Type 0) → IsSound s → at < length s.agent.pending →
-    AllByRecursion (λ count. count ≡ 0) s.touched → AreLater s.stage.delay (remove s.agent.pending at) →
+    AllByRecursion (λ count. count ≡ 0) s.touched →
     after ≡ record s {
       agent = record s.agent { log = after.agent.log; pending = after.agent.pending };
       touched = after.touched;
+      opened = None;
       free = after.free;
     } →
     Delivers (queue_of s) (queue_of after) at true s.stage.layout (calls_at s.stage s.agent.rank) face face_after knows
@@ -54,19 +55,16 @@ pub delivered_whole : (s after : RankState) (at : ℕ) (cells : List Cell) (told
     DeliversWhole (queue_of s) at s.stage.layout (calls_at s.stage s.agent.rank) cells told s.agent.log after.agent.log
     →
     IsWhole (deliver s.stage s.agent cells at) after told
-delivered_whole s after at cells told face face_after knows sound within untouched later eq d whole = record {
+delivered_whole s after at cells told face face_after knows sound within untouched eq d whole = record {
   rank = ap (λ (x : RankState). x.agent) eq
       ∙ (ap (λ l. record s.agent { log = l; pending = after.agent.pending }) each.items
       ∙ (ap (λ p. record s.agent { log = s.agent.log ++ (touch_each t one.index 0 all cells).items; pending = p }) waits
       ∙ sym (ap (λ (m : OnMemory). m.agent) is)));
   cells = each.cells_after ∙ ap Some (sym (ap (λ (m : OnMemory). m.cells) is));
   between = record {
+    closed = ap (λ (x : RankState). x.opened) eq;
     untouched = subst (AllByRecursion (λ count. count ≡ 0)) (sym (ap (λ (q : Queue). q.touched) d.queue_after))
         (each_removed (λ count. count ≡ 0) s.touched at untouched);
-    later = subst (λ (stage : Stage). AllByRecursion
-        (λ (p : PendingAccess). is_at_once stage.delay p.access ≡ false) after.agent.pending)
-        (sym (ap (λ (x : RankState). x.stage) eq))
-        (subst (AreLater s.stage.delay) (sym waits) later);
   };
 }
   where
@@ -74,7 +72,8 @@ delivered_whole s after at cells told face face_after knows sound within untouch
     calls = calls_at s.stage s.agent.rank
 
     here : PendingAt s.stage.layout (calls_at s.stage s.agent.rank) s.agent.pending s.touched at
-    here = pending_at s.stage.layout (calls_at s.stage s.agent.rank) s.agent.pending s.touched at sound.pending within
+    here = pending_at s.stage.layout (calls_at s.stage s.agent.rank) s.agent.pending s.touched at sound.queue.each
+        within
 
     one : PendingAccess
     one = here.one

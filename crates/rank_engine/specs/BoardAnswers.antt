@@ -1,14 +1,16 @@
 -- What a rank answers a step at the board, and what it gives and gains with it: MPI 3.1, sections 11.5 and 11.7, in
 -- this project's profile.
 use Rattle.std.specs.Prelude.{ℕ, ◌≡◌, ◌+◌, ◌<◌, ◌≤◌, Bool, true, false, ◌||◌, List, ◌++◌, length, map, drop, take}
-use Rattle.std.specs.Prelude.{slice_get, slice_index, Option, Some, None, IfSome}
+use Rattle.std.specs.Prelude.{slice_get, slice_index, if◌then◌else◌, Option, Some, None, IfSome, IsSome}
 use Rattle.std.specs.List.{AllByRecursion}
 use Rattle.std.specs.Option.{option_map_or}
 use Rattle.rma_types.specs.declared.accesses.Step.{Step}
 use Rattle.rma_types.specs.declared.calls.Call.{Call}
 use Rattle.board_rules.specs.Entries.{Row, is_arrive}
-use Rattle.call_rules.specs.Actions.{Synchronisation, Fences, Posts, Starts, Completes, Waits, Locks, Unlocks, Flushes}
-use Rattle.call_rules.specs.Actions.{Syncs, synchronisation_of}
+use Rattle.rma_types.specs.declared.actions.Synchronisation.{Synchronisation}
+use Rattle.rma_types.specs.declared.actions.Synchronisation.TheVariants.{Fences, Posts, Starts, Completes, Waits, Locks}
+use Rattle.rma_types.specs.declared.actions.Synchronisation.TheVariants.{Unlocks, Flushes, Syncs}
+use Rattle.rma_types.specs.Actions.{synchronisation_of}
 use Rattle.cell_face.specs.Faces.{Face, Unwritten, cell_count, low_at}
 use Rattle.kept_rows.specs.Gifts.{Front, Given, gained_by}
 use Rattle.kept_rows.specs.KeptCalls.{kept_row}
@@ -57,6 +59,18 @@ IsGift face true (Some front) = TellsLows face front
 -- the entry was put with a token exactly where one is given, as the memory was at the step's beginning
 abbrev pub IsGiven : Face → Given → Type 0
 IsGiven face one = IsGift face (gives one.row.step one.row.call) one.gift
+
+-- each token tells its front
+abbrev pub AlwaysTells : {N : Type 0} → (N → Front) → Type 0
+AlwaysTells {N = N} front_of = (token : N) → IsSome (front_of token)
+
+-- the token with which the entry was put, if one is given with it, tells the lowest places of the memory
+abbrev pub IsTold : Face → Given → Type 0
+IsTold face one = one.gift ≡ (if gives one.row.step one.row.call then Some (Some face.lows) else None)
+
+-- so it is with the entries that are put behind those of the board
+abbrev pub AreTold : Face → BoardState → BoardState → Type 0
+AreTold face before after = AllByRecursion (IsTold face) (drop (length before.entries) after.entries)
 
 -- ---- what is gained
 

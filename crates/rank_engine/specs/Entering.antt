@@ -8,7 +8,7 @@ use Rattle.rma_types.specs.declared.accesses.Step.TheVariants.{Arrive, Leave, On
 use Rattle.rma_types.specs.declared.calls.Call.{Call}
 use Rattle.board_rules.specs.Board.{Refuse, Allow, NotYet as NotYetDecided, decide}
 use Rattle.board_rules.specs.Entries.{Row}
-use Rattle.call_rules.specs.Actions.{transfer_of}
+use Rattle.rma_types.specs.Actions.{transfer_of}
 use Rattle.call_rules.specs.WellFormed.{IsWrittenCall}
 use Rattle.cell_face.specs.Faces.{Face, Unwritten}
 use Rattle.kept_rows.specs.Gifts.{Front, Given, gained_by}
@@ -82,6 +82,7 @@ IsClosing One entered course = (entered ≡ false) × IsOneEntry course
 pub record IsReady (state : RankState) (call : Call) (board : BoardState) (face : Face) : Type 0 where
   pub here : next_call state.stage state.agent ≡ Some call
   pub own : own_class state.agent.known call ≡ None
+  pub closed : state.opened ≡ None
   pub within : state.agent.at < 65536
   pub written : IsWrittenCall call
   pub board_is : IsBoardOf state board face

@@ -1,8 +1,10 @@
 -- What an entry that ends its call teaches a rank: MPI 3.1, sections 11.2 and 11.5.
 use Rattle.std.specs.Prelude.{ℕ, ◌≡◌, List, Option, Some, None, IfSome}
 use Rattle.rma_types.specs.declared.scripts.Part.{Part}
-use Rattle.call_rules.specs.Actions.{Action, Creates, Frees, Attaches, Detaches, Synchronises, Meets, Moves}
-use Rattle.call_rules.specs.Actions.{EndsRequest, Creation}
+use Rattle.rma_types.specs.declared.actions.Action.{Action}
+use Rattle.rma_types.specs.declared.actions.Action.TheVariants.{Creates, Frees, Attaches, Detaches, Synchronises, Meets}
+use Rattle.rma_types.specs.declared.actions.Action.TheVariants.{Moves, EndsRequest}
+use Rattle.rma_types.specs.declared.actions.Creation.{Creation}
 use Rattle.rank_rules.specs.Windows.{RankWindows, next_number}
 use Rattle.window_regions.specs.Shapes.{IsShape}
 use Rattle.window_regions.specs.declared.window.Shape.{Shape}

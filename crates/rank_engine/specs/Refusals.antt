@@ -15,6 +15,11 @@ pub record OnlyRefuses (before after : RankState) (number : ℕ) (class : Class)
   pub pending : after.agent.pending ≡ before.agent.pending
   pub touched : after.touched ≡ before.touched
 
+-- this holds where a refused call is among the items of a step
+abbrev pub WhereRefused : RankState → RankState → Type 0 → Type 0
+WhereRefused before after P = (number : ℕ) (class : Class) (seen : ℕ) →
+    Contains (drop (length before.agent.log) after.agent.log) (Refused number class seen) → P
+
 -- a step among whose items is a refused call does nothing else
 abbrev pub RefusesAlone : RankState → RankState → Type 0
 RefusesAlone before after = (number : ℕ) (class : Class) (seen : ℕ) →

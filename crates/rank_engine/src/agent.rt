@@ -1,25 +1,31 @@
 //! A rank of a run.
-ghost use Rattle.std.specs.Prelude.{◌≡◌, ◌<◌, ◌≤◌, [], length, slice_index_or, true, false, IfOk, OnErr, IfSome};
+ghost use Rattle.std.specs.Prelude.{◌≡◌, ◌<◌, ◌≤◌, [], length, slice_index_or, is_some, true, false};
+ghost use Rattle.std.specs.Prelude.{IfOk, OnErr, IfSome};
 ghost use Rattle.std.specs.List.{AllByRecursion};
 ghost use Rattle.std.specs.Option.{option_copied};
 ghost use Rattle.call_rules.specs.WellFormed.{IsWrittenCall};
 ghost use Rattle.lawful_runs.specs.Stages.{calls_at};
 ghost use Rattle.rank_rules.specs.Knowledge.{own_class as class_by_rank};
+ghost use Rattle.step_runs.specs.BoardSteps.{board_step};
+ghost use Rattle.sync_board.specs.Boards.{rows_on};
 ghost use Rattle.step_runs.specs.Agents.{next_call as next_call_of, begins_with_entry, is_seeded, must_draw};
 ghost use Rattle.call_rules.specs.Layout.{layout as memory_layout};
 ghost use Rattle.call_rules.specs.WellFormed.{IsWellFormed};
-ghost use Rattle.cell_face.specs.Faces.{Keeps, Unwritten};
-ghost use Rattle.rank_engine.specs.BoardAnswers.{IsBoardAnswer, IsBoardOf};
+ghost use Rattle.cell_face.specs.Faces.{Keeps};
+ghost use Rattle.rank_engine.specs.BoardAnswers.{AlwaysTells, AreTold, IsBoardAnswer, IsBoardOf};
 ghost use Rattle.rank_engine.specs.DataAnswers.{HasRoom, IsDataAnswer, IsWholeStep, IsDrainAnswer, IsWholeDrain};
 ghost use Rattle.rank_engine.specs.DataAnswers.{is_again, is_full};
-ghost use Rattle.rank_engine.specs.KeptItems.{KeepsEntries, KeepsItems};
-ghost use Rattle.rank_engine.specs.RankStates.{new_state, is_at_hand, needs_entry};
-ghost use Rattle.rank_engine.specs.Refusals.{RefusesAlone};
+ghost use Rattle.rank_engine.specs.Entering.{IsHandedOver};
+ghost use Rattle.rank_engine.specs.KeptItems.{KeepsItems, PutsFirst};
+ghost use Rattle.rank_engine.specs.Moves.{IsFirst};
+ghost use Rattle.rank_engine.specs.RankStates.{new_state, needs_entry};
+ghost use Rattle.rank_engine.specs.Refusals.{RefusesAlone, WhereRefused};
 ghost use Rattle.rank_engine.specs.Sound.{IsSound};
 
 use crate::answers::Turned;
-use crate::courses::{course_of, is_at_once, is_transfer};
+use crate::courses::{course_of, is_transfer};
 use crate::judging::own_class;
+use crate::updates::calls_of;
 use cell_face::Memory;
 use delivery_queue::Pending;
 use rank_epochs::EpochState;
@@ -49,6 +55,8 @@ pub struct Agent<'s, L: Keep + Drop> {
     pub(crate) drawn: bool,
     pub(crate) draws: u64,
     pub(crate) ended: bool,
+    /// The place of the pending access whose delivery is begun.
+    pub(crate) opened: Option<usize>,
     pub(crate) log: L,
     /// The number of items in the log.
     pub(crate) kept: u32,
@@ -62,10 +70,12 @@ impl<'s, L: Keep + Drop> Model for Agent<'s, L> {
     ghost Value = { RankState };
 
     ghost view = { λ it. state_of it.script.now it.layout.now it.delay it.rank (L.kept it.log)
-        it.windows it.epochs it.queue it.at it.entered it.drawn it.draws it.ended (L.free it.log) (L.home it.log) };
+        it.windows it.epochs it.queue it.at it.entered it.drawn it.draws it.ended it.opened (L.free it.log)
+        (L.home it.log) };
 
     ghost invariant = { λ it. IsSound (state_of it.script.now it.layout.now it.delay it.rank (L.kept it.log)
-        it.windows it.epochs it.queue it.at it.entered it.drawn it.draws it.ended (L.free it.log) (L.home it.log))
+        it.windows it.epochs it.queue it.at it.entered it.drawn it.draws it.ended it.opened (L.free it.log)
+        (L.home it.log))
         × (it.kept ≡ length (L.kept it.log)) };
 }
 
@@ -111,6 +121,7 @@ impl<'s, L: Keep + Drop> Agent<'s, L> {
             drawn: false,
             draws: u64::from(seed) * 64 + u64::from(rank),
             ended: false,
+            opened: None,
             log,
             kept: 0,
         })
@@ -136,10 +147,7 @@ impl<'s, L: Keep + Drop> Agent<'s, L> {
         ensures written { AllByRecursion IsWrittenCall result.now }
         ensures few { length result.now ≤ 65536 }
     {
-        match self.script.calls.get(usize::from(self.rank)) {
-            Some(list) => list.as_slice(),
-            None => &[],
-        }
+        calls_of(self.script, self.rank)
     }
 
     /// The first call that does not have all its items.
@@ -183,12 +191,19 @@ impl<'s, L: Keep + Drop> Agent<'s, L> {
         }
     }
 
-    /// Whether an access is still pending that is touched in the step of its Issue.
-    pub(crate) fn is_at_hand(&self) -> bool
-        ensures { result ≡ is_at_hand self.now }
+    /// Whether the delivery of a pending access is begun.
+    pub(crate) fn is_begun(&self) -> bool
+        ensures { result ≡ is_some self.now.opened }
     {
-        let count = self.queue.count();
-        count != 0 && is_at_once(self.delay, &self.queue.access_at(count - 1).access)
+        self.opened.is_some()
+    }
+
+    /// The place of the pending access whose delivery is begun; it gives way to none.
+    fn opened(&self) -> Option<usize>
+        ensures place { result ≡ self.now.opened }
+        ensures first { IfSome result (IsFirst self.now.agent.pending) }
+    {
+        self.opened
     }
 
     /// Whether the call begins with an entry of the board.
@@ -206,7 +221,7 @@ impl<'s, L: Keep + Drop> Agent<'s, L> {
     pub fn needs_board(&self) -> bool
         ensures { result ≡ needs_entry self.now }
     {
-        if self.is_at_hand() {
+        if self.is_begun() {
             return false;
         }
         match self.next_call() {
@@ -225,8 +240,11 @@ impl<'s, L: Keep + Drop> Agent<'s, L> {
     /// test (MPI 3.1, section 11.5). It makes no touch.
     ///
     /// A token of `notes` is given with each Arrive, post, complete, unlock and unlock_all; what an entry gains is met.
-    /// A step that refuses the call does nothing else. Where memory runs out, the log keeps all its items and the board
-    /// all its entries, behind which only entries of this rank may stand, and no cell is touched.
+    /// Where every token tells its front, each token that is given tells the lowest places as they are when the step
+    /// begins. A step that refuses the call does nothing else. Where memory runs out, the log keeps all its items and
+    /// the board all its entries, behind which only the first of those that the step puts may stand, and no cell is
+    /// touched.
+    #[tactic(auto, using(crate::proofs::ToldGifts::none_told))]
     pub fn next_board<M: Memory>(
         &mut self,
         notes: &mut M,
@@ -237,17 +255,28 @@ impl<'s, L: Keep + Drop> Agent<'s, L> {
         ensures answer { IfOk result (λ turned. IsBoardAnswer turned
             self.old self.new board.old board.new (M.face notes.old) (M.face notes.new)) }
         ensures refusal { IfOk result (λ _. RefusesAlone self.old self.new) }
-        ensures known { IfOk result (λ _. Keeps (M.knows notes.old) (M.knows notes.new)) }
+        ensures untouched { IfOk result (λ _. WhereRefused self.old self.new
+            (board.new ≡ board.old)) }
+        ensures gifts { IfOk result (λ _. AlwaysTells M.Note.front →
+            AreTold (M.face notes.old) board.old board.new) }
+        ensures known { Keeps (M.knows notes.old) (M.knows notes.new) }
         ensures kept { OnErr result (KeepsItems self.old.agent.log self.new.agent.log) }
-        ensures unwritten { OnErr result (Unwritten (M.face notes.old) (M.face notes.new)) }
-        ensures entries { OnErr result (KeepsEntries self.old.agent.rank board.old board.new) }
+        ensures home { OnErr result (self.new.home ≡ self.old.home) }
+        ensures handed { OnErr result (IsHandedOver (M.face notes.old) (M.face notes.new)) }
+        ensures entries { OnErr result (PutsFirst self.old.agent.rank
+            (board_step self.old.stage self.old.agent (rows_on board.old)).rows
+            board.old board.new) }
     {
         if self.log.free_known() < STEP_ROOM {
             return Ok(Turned::Full);
         }
         match self.next_call() {
             None => unreachable!(),
-            Some(call) => self.try_entry(notes, board, call),
+            Some(call) => {
+                let turned = self.try_entry(notes, board, call);
+                board.gifts_of_tokens();
+                turned
+            }
         }
     }
 
@@ -262,12 +291,15 @@ impl<'s, L: Keep + Drop> Agent<'s, L> {
         ensures answer { IfOk result (λ turned. IsDataAnswer turned
             self.old self.new (M.face mem.old) (M.face mem.new) (M.knows mem.new)) }
         ensures refusal { IfOk result (λ _. RefusesAlone self.old self.new) }
+        ensures untouched { IfOk result (λ _. WhereRefused self.old self.new
+            (M.face mem.new ≡ M.face mem.old)) }
         ensures told { IfOk result (λ turned. is_full turned ≡ false →
             IsWholeStep self.old self.new (M.face mem.old) (M.face mem.new)) }
         ensures told_once { IfOk result (λ turned.
             IfSome (M.face mem.old).told (λ _. is_again turned ≡ false)) }
-        ensures known { IfOk result (λ _. Keeps (M.knows mem.old) (M.knows mem.new)) }
+        ensures known { Keeps (M.knows mem.old) (M.knows mem.new) }
         ensures kept { OnErr result (KeepsItems self.old.agent.log self.new.agent.log) }
+        ensures home { OnErr result (self.new.home ≡ self.old.home) }
         ensures unwritten { OnErr result (mem.new ≡ mem.old) }
     {
         if self.log.free_known() < STEP_ROOM {
@@ -277,7 +309,8 @@ impl<'s, L: Keep + Drop> Agent<'s, L> {
             self.end()?;
             return Ok(Turned::Ended);
         }
-        match self.go_on()? {
+        self.go_on()?;
+        match self.opened() {
             None => Ok(Turned::Did),
             Some(at) => {
                 if self.deliver(at, mem)? {
@@ -299,14 +332,16 @@ impl<'s, L: Keep + Drop> Agent<'s, L> {
             IsWholeDrain self.old self.new (M.face mem.old) (M.face mem.new)) }
         ensures told_once { IfOk result (λ turned.
             IfSome (M.face mem.old).told (λ _. is_again turned ≡ false)) }
-        ensures known { IfOk result (λ _. Keeps (M.knows mem.old) (M.knows mem.new)) }
+        ensures known { Keeps (M.knows mem.old) (M.knows mem.new) }
         ensures kept { OnErr result (self.new.agent.log ≡ self.old.agent.log) }
+        ensures home { OnErr result (self.new.home ≡ self.old.home) }
         ensures unwritten { OnErr result (mem.new ≡ mem.old) }
     {
         if self.queue.count() == 0 {
             return Ok(Turned::Ended);
         }
-        if self.deliver(0, mem)? {
+        let at = self.opened.unwrap_or(0);
+        if self.deliver(at, mem)? {
             return Ok(Turned::Did);
         }
         Ok(Turned::Again)
@@ -340,6 +375,7 @@ impl<'s, L: Keep + Drop> Agent<'s, L> {
             drawn: _,
             draws: _,
             ended: _,
+            opened: _,
             kept: _,
             log,
         } = self;

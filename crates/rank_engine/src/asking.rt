@@ -1,6 +1,6 @@
 //! One entry of a rank at the board, with the tokens that go with it (MPI 3.1, sections 11.5 and 11.7).
 ghost use Rattle.std.specs.Prelude.{◌≡◌, ◌<◌, IfOk, OnErr};
-ghost use Rattle.cell_face.specs.Faces.{Keeps, Unwritten};
+ghost use Rattle.cell_face.specs.Faces.{Keeps};
 ghost use Rattle.sync_board.specs.Boards.{MayAsk};
 ghost use Rattle.rank_engine.specs.Entering.{IsAnswered, IsHandedOver};
 
@@ -39,9 +39,8 @@ pub fn ask<M: Memory>(
     ensures answer { IfOk result (λ answer. IsAnswered
         (record { rank = rank; number = number; call = call.now; step = step })
         answer board.old board.new (M.face notes.old) (M.face notes.new)) }
-    ensures handed { IfOk result (λ _. IsHandedOver (M.face notes.old) (M.face notes.new)) }
-    ensures known { IfOk result (λ _. Keeps (M.knows notes.old) (M.knows notes.new)) }
-    ensures unwritten { OnErr result (Unwritten (M.face notes.old) (M.face notes.new)) }
+    ensures handed { IsHandedOver (M.face notes.old) (M.face notes.new) }
+    ensures known { Keeps (M.knows notes.old) (M.knows notes.new) }
     ensures unchanged { OnErr result (board.new ≡ board.old) }
 {
     let gift = gift_of(notes, call, step);

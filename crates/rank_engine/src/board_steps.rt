@@ -1,7 +1,7 @@
 //! The steps of a rank at the board: an entry, or the two of a collective call; a refusal; or a false test (MPI 3.1,
 //! section 11.5, in this project's profile).
 ghost use Rattle.std.specs.Prelude.{◌≡◌, ◌<◌, ◌≤◌, false, true, None, IfOk, OnErr};
-ghost use Rattle.cell_face.specs.Faces.{Keeps, Unwritten};
+ghost use Rattle.cell_face.specs.Faces.{Keeps};
 ghost use Rattle.rank_rules.specs.Courses as rules;
 ghost use Rattle.rma_record.specs.declared.items.Item.TheVariants.{Tested};
 ghost use Rattle.rma_types.specs.declared.accesses.Step.TheVariants.{Arrive as ArriveStep, Leave as LeaveStep};
@@ -10,8 +10,8 @@ ghost use Rattle.step_runs.specs.Agents.{end_call, enter_call};
 ghost use Rattle.step_runs.specs.BoardSteps.{arrive as arrive_by, enter as enter_by, entry_of, test as test_by};
 ghost use Rattle.step_runs.specs.DataSteps.{without_delivery, with_item};
 ghost use Rattle.sync_board.specs.Boards.{rows_on};
-ghost use Rattle.rank_engine.specs.Entering.{IsClosing, IsOpening, IsReady, IsTurn};
-ghost use Rattle.rank_engine.specs.KeptItems.{KeepsEntries, KeepsItems};
+ghost use Rattle.rank_engine.specs.Entering.{IsClosing, IsHandedOver, IsOpening, IsReady, IsTurn};
+ghost use Rattle.rank_engine.specs.KeptItems.{KeepsItems, PutsFirst};
 ghost use Rattle.rank_engine.specs.Moves.{IsMove};
 
 use crate::agent::Agent;
@@ -27,12 +27,14 @@ use sync_board::Board;
 impl<'s, L: Keep + Drop> Agent<'s, L> {
     /// A testwin that is false, after so many entries.
     fn keep_tested(&mut self, seen: u32) -> Result<(), NoMemory>
+        requires closed { self.old.opened ≡ None }
         requires new { self.old.agent.entered ≡ false }
         requires within { self.old.agent.at < 65536 }
         requires free { 1 ≤ self.old.free }
         ensures moved { IfOk result (λ _. IsMove self.old self.new (without_delivery
-            (with_item self.old.stage self.old.agent (Tested self.old.agent.at seen))) None) }
+            (with_item self.old.stage self.old.agent (Tested self.old.agent.at seen)))) }
         ensures kept { OnErr result (self.new.agent.log ≡ self.old.agent.log) }
+        ensures home { OnErr result (self.new.home ≡ self.old.home) }
     {
         if self.kept == u32::MAX {
             return Err(NoMemory);
@@ -62,10 +64,11 @@ impl<'s, L: Keep + Drop> Agent<'s, L> {
         ensures turn { IfOk result (λ turned. IsTurn turned 1
             (enter_by self.old.stage self.old.agent (rows_on board.old) call.now step enter_call)
             self.old self.new board.old board.new (M.face notes.old) (M.face notes.new)) }
-        ensures known { IfOk result (λ _. Keeps (M.knows notes.old) (M.knows notes.new)) }
+        ensures known { Keeps (M.knows notes.old) (M.knows notes.new) }
         ensures kept { OnErr result (self.new.agent.log ≡ self.old.agent.log) }
-        ensures unwritten { OnErr result (Unwritten (M.face notes.old) (M.face notes.new)) }
-        ensures entries { OnErr result (KeepsEntries self.old.agent.rank board.old board.new) }
+        ensures home { OnErr result (self.new.home ≡ self.old.home) }
+        ensures handed { OnErr result (IsHandedOver (M.face notes.old) (M.face notes.new)) }
+        ensures unchanged { OnErr result (board.new ≡ board.old) }
     {
         if self.kept == u32::MAX {
             return Err(NoMemory);
@@ -91,6 +94,7 @@ impl<'s, L: Keep + Drop> Agent<'s, L> {
     }
 
     /// The entry that ends a call: the Leave of a collective call, or the one entry of any other.
+    #[tactic(auto, using(crate::proofs::KeptEntries::puts_none))]
     fn close<M: Memory>(
         &mut self,
         notes: &mut M,
@@ -104,10 +108,13 @@ impl<'s, L: Keep + Drop> Agent<'s, L> {
         ensures turn { IfOk result (λ turned. IsTurn turned 1
             (enter_by self.old.stage self.old.agent (rows_on board.old) call.now step end_call)
             self.old self.new board.old board.new (M.face notes.old) (M.face notes.new)) }
-        ensures known { IfOk result (λ _. Keeps (M.knows notes.old) (M.knows notes.new)) }
+        ensures known { Keeps (M.knows notes.old) (M.knows notes.new) }
         ensures kept { OnErr result (self.new.agent.log ≡ self.old.agent.log) }
-        ensures unwritten { OnErr result (Unwritten (M.face notes.old) (M.face notes.new)) }
-        ensures entries { OnErr result (KeepsEntries self.old.agent.rank board.old board.new) }
+        ensures home { OnErr result (self.new.home ≡ self.old.home) }
+        ensures handed { OnErr result (IsHandedOver (M.face notes.old) (M.face notes.new)) }
+        ensures entries { OnErr result (PutsFirst self.old.agent.rank
+            (enter_by self.old.stage self.old.agent (rows_on board.old) call.now step end_call).rows
+            board.old board.new) }
     {
         if self.kept == u32::MAX {
             return Err(NoMemory);
@@ -137,6 +144,7 @@ impl<'s, L: Keep + Drop> Agent<'s, L> {
     }
 
     /// A testwin: its entry, or that it is false.
+    #[tactic(auto, using(crate::proofs::KeptEntries::puts_none))]
     fn test<M: Memory>(
         &mut self,
         notes: &mut M,
@@ -151,10 +159,13 @@ impl<'s, L: Keep + Drop> Agent<'s, L> {
         ensures turn { IfOk result (λ turned. IsTurn turned 2
             (test_by self.old.stage self.old.agent (rows_on board.old) call.now)
             self.old self.new board.old board.new (M.face notes.old) (M.face notes.new)) }
-        ensures known { IfOk result (λ _. Keeps (M.knows notes.old) (M.knows notes.new)) }
+        ensures known { Keeps (M.knows notes.old) (M.knows notes.new) }
         ensures kept { OnErr result (self.new.agent.log ≡ self.old.agent.log) }
-        ensures unwritten { OnErr result (Unwritten (M.face notes.old) (M.face notes.new)) }
-        ensures entries { OnErr result (KeepsEntries self.old.agent.rank board.old board.new) }
+        ensures home { OnErr result (self.new.home ≡ self.old.home) }
+        ensures handed { OnErr result (IsHandedOver (M.face notes.old) (M.face notes.new)) }
+        ensures entries { OnErr result (PutsFirst self.old.agent.rank
+            (test_by self.old.stage self.old.agent (rows_on board.old) call.now).rows
+            board.old board.new) }
     {
         match self.close(notes, board, call, Step::One)? {
             Turned::NotYet => match u32::try_from(board.entries().len()) {
@@ -170,6 +181,7 @@ impl<'s, L: Keep + Drop> Agent<'s, L> {
     }
 
     /// A collective call: its Arrive, and where that is put its Leave.
+    #[tactic(auto, using(crate::proofs::KeptEntries::puts_none))]
     fn arrive<M: Memory>(
         &mut self,
         notes: &mut M,
@@ -184,10 +196,13 @@ impl<'s, L: Keep + Drop> Agent<'s, L> {
         ensures turn { IfOk result (λ turned. IsTurn turned 2
             (arrive_by self.old.stage self.old.agent (rows_on board.old) call.now)
             self.old self.new board.old board.new (M.face notes.old) (M.face notes.new)) }
-        ensures known { IfOk result (λ _. Keeps (M.knows notes.old) (M.knows notes.new)) }
+        ensures known { Keeps (M.knows notes.old) (M.knows notes.new) }
         ensures kept { OnErr result (KeepsItems self.old.agent.log self.new.agent.log) }
-        ensures unwritten { OnErr result (Unwritten (M.face notes.old) (M.face notes.new)) }
-        ensures entries { OnErr result (KeepsEntries self.old.agent.rank board.old board.new) }
+        ensures home { OnErr result (self.new.home ≡ self.old.home) }
+        ensures handed { OnErr result (IsHandedOver (M.face notes.old) (M.face notes.new)) }
+        ensures entries { OnErr result (PutsFirst self.old.agent.rank
+            (arrive_by self.old.stage self.old.agent (rows_on board.old) call.now).rows
+            board.old board.new) }
     {
         let arrived = self.open(notes, board, call, Step::Arrive)?;
         if !self.entered {
@@ -212,10 +227,13 @@ impl<'s, L: Keep + Drop> Agent<'s, L> {
         ensures turn { IfOk result (λ turned. IsTurn turned 2
             (entry_of self.old.stage self.old.agent (rows_on board.old) call.now)
             self.old self.new board.old board.new (M.face notes.old) (M.face notes.new)) }
-        ensures known { IfOk result (λ _. Keeps (M.knows notes.old) (M.knows notes.new)) }
+        ensures known { Keeps (M.knows notes.old) (M.knows notes.new) }
         ensures kept { OnErr result (KeepsItems self.old.agent.log self.new.agent.log) }
-        ensures unwritten { OnErr result (Unwritten (M.face notes.old) (M.face notes.new)) }
-        ensures entries { OnErr result (KeepsEntries self.old.agent.rank board.old board.new) }
+        ensures home { OnErr result (self.new.home ≡ self.old.home) }
+        ensures handed { OnErr result (IsHandedOver (M.face notes.old) (M.face notes.new)) }
+        ensures entries { OnErr result (PutsFirst self.old.agent.rank
+            (entry_of self.old.stage self.old.agent (rows_on board.old) call.now).rows
+            board.old board.new) }
     {
         if self.entered {
             return self.close(notes, board, call, Step::Leave);

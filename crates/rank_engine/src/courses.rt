@@ -1,15 +1,13 @@
 //! What a call is to its rank: the items that it has where it is accepted, and what it says of its access.
 ghost use Rattle.std.specs.Prelude.{◌≡◌, ◌&&◌, nat_lt, is_some, false};
 ghost use Rattle.std.specs.Option.{option_map_or, option_and_then};
-ghost use Rattle.call_rules.specs.Actions.{action_of, transfer_of};
+ghost use Rattle.rma_types.specs.Actions.{action_of, transfer_of};
 ghost use Rattle.rank_rules.specs.Courses as rules;
-ghost use Rattle.rank_rules.specs.Windows.{is_same_flavor, window_of_name};
-ghost use Rattle.rma_types.specs.declared.calls.Flavor.TheVariants.{Dynamic as DynamicFlavor};
 ghost use Rattle.step_runs.specs.DataSteps.{is_at_once as is_made_at_once};
 ghost use Rattle.rank_engine.specs.Moves.{request_ended as request_ended_by};
-ghost use Rattle.rank_engine.specs.Courses.{items_of, course_to};
+ghost use Rattle.rank_engine.specs.Courses.{items_of};
 
-use rma_types::{Access, Call, Delay, Kind};
+use rma_types::{Access, Action, Call, Delay, Kind, Synchronisation, Target, Transfer};
 use window_regions::WindowTable;
 
 /// The items of an accepted call.
@@ -33,14 +31,15 @@ pub enum Course {
     OneEntry,
 }
 
-/// The items of a call that moves data to a target, on the window of this name.
-fn course_towards(windows: &WindowTable, win: u8, target: Option<i32>) -> Course
-    ensures { items_of result ≡ course_to windows.now win target }
+/// The items of a call that moves data.
+fn course_of_transfer(windows: &WindowTable, transfer: &Transfer<'_>) -> Course
+    ensures { items_of result ≡ rules.course_of_transfer windows.now transfer.now }
 {
-    match target {
-        None => Course::Null,
-        Some(_) => {
-            if windows.is_dynamic(win) {
+    match transfer.target {
+        Target::Own => Course::Issue,
+        Target::Null => Course::Null,
+        Target::Named(_) => {
+            if windows.is_dynamic(transfer.win) {
                 Course::LookUpAndIssue
             } else {
                 Course::Issue
@@ -49,43 +48,33 @@ fn course_towards(windows: &WindowTable, win: u8, target: Option<i32>) -> Course
     }
 }
 
+/// The items of a call that synchronises.
+fn course_of_synchronisation(synchronisation: &Synchronisation<'_>) -> Course
+    ensures { items_of result ≡ rules.course_of_synchronisation synchronisation.now }
+{
+    match synchronisation {
+        Synchronisation::Fences(_) => Course::ArriveAndLeave,
+        Synchronisation::Waits { tests: true } => Course::EntryOrTested,
+        Synchronisation::Posts(..)
+        | Synchronisation::Starts(..)
+        | Synchronisation::Completes
+        | Synchronisation::Waits { tests: false }
+        | Synchronisation::Locks(..)
+        | Synchronisation::Unlocks(_) => Course::OneEntry,
+        Synchronisation::Flushes { .. } | Synchronisation::Syncs => Course::Flush,
+    }
+}
+
 /// The items that the call has where it is accepted.
 pub fn course_of(windows: &WindowTable, call: &Call) -> Course
     ensures { items_of result ≡ rules.course_of windows.now call.now }
 {
-    match call {
-        Call::Allocate { .. } => Course::ArriveAndLeave,
-        Call::Create { .. } => Course::ArriveAndLeave,
-        Call::Dynamic { .. } => Course::ArriveAndLeave,
-        Call::Free { .. } => Course::ArriveAndLeave,
-        Call::Attach { .. } => Course::OneEntry,
-        Call::Detach { .. } => Course::OneEntry,
-        Call::Fence { .. } => Course::ArriveAndLeave,
-        Call::Post { .. } => Course::OneEntry,
-        Call::Start { .. } => Course::OneEntry,
-        Call::Complete { .. } => Course::OneEntry,
-        Call::WaitWin { .. } => Course::OneEntry,
-        Call::TestWin { .. } => Course::EntryOrTested,
-        Call::LockOne { .. } => Course::OneEntry,
-        Call::Unlock { .. } => Course::OneEntry,
-        Call::LockAll { .. } => Course::OneEntry,
-        Call::UnlockAll { .. } => Course::OneEntry,
-        Call::Flush { .. } => Course::Flush,
-        Call::FlushAll { .. } => Course::Flush,
-        Call::FlushLocal { .. } => Course::Flush,
-        Call::FlushLocalAll { .. } => Course::Flush,
-        Call::Sync { .. } => Course::Flush,
-        Call::Barrier => Course::ArriveAndLeave,
-        Call::Put { win, target, .. } => course_towards(windows, *win, *target),
-        Call::Get { win, target, .. } => course_towards(windows, *win, *target),
-        Call::Acc { win, target, .. } => course_towards(windows, *win, *target),
-        Call::GetAcc { win, target, .. } => course_towards(windows, *win, *target),
-        Call::Fop { win, target, .. } => course_towards(windows, *win, *target),
-        Call::Cas { win, target, .. } => course_towards(windows, *win, *target),
-        Call::Load { .. } => Course::Issue,
-        Call::Store { .. } => Course::Issue,
-        Call::WaitReq { .. } => Course::Request,
-        Call::TestReq { .. } => Course::Request,
+    match call.action() {
+        Action::Creates(_) | Action::Frees { .. } | Action::Meets => Course::ArriveAndLeave,
+        Action::Attaches { .. } | Action::Detaches { .. } => Course::OneEntry,
+        Action::Synchronises(_, synchronisation) => course_of_synchronisation(&synchronisation),
+        Action::Moves(transfer) => course_of_transfer(windows, &transfer),
+        Action::EndsRequest { .. } => Course::Request,
     }
 }
 
@@ -111,15 +100,8 @@ impl Course {
 pub fn is_transfer(call: &Call) -> bool
     ensures { result ≡ is_some (transfer_of call.now) }
 {
-    match call {
-        Call::Put { .. }
-        | Call::Get { .. }
-        | Call::Acc { .. }
-        | Call::GetAcc { .. }
-        | Call::Fop { .. }
-        | Call::Cas { .. }
-        | Call::Load { .. }
-        | Call::Store { .. } => true,
+    match call.action() {
+        Action::Moves(_) => true,
         _ => false,
     }
 }
@@ -128,12 +110,8 @@ pub fn is_transfer(call: &Call) -> bool
 pub fn does_fetch(call: &Call) -> bool
     ensures { result ≡ option_map_or (λ t. t.fetches) (transfer_of call.now) false }
 {
-    match call {
-        Call::Get { .. }
-        | Call::GetAcc { .. }
-        | Call::Fop { .. }
-        | Call::Cas { .. }
-        | Call::Load { .. } => true,
+    match call.action() {
+        Action::Moves(transfer) => transfer.fetches,
         _ => false,
     }
 }
@@ -142,11 +120,8 @@ pub fn does_fetch(call: &Call) -> bool
 pub fn request_of(call: &Call) -> Option<u8>
     ensures { result ≡ option_and_then (λ t. t.request) (transfer_of call.now) }
 {
-    match call {
-        Call::Put { req, .. }
-        | Call::Get { req, .. }
-        | Call::Acc { req, .. }
-        | Call::GetAcc { req, .. } => *req,
+    match call.action() {
+        Action::Moves(transfer) => transfer.request,
         _ => None,
     }
 }
@@ -155,8 +130,8 @@ pub fn request_of(call: &Call) -> Option<u8>
 pub fn request_ended(call: &Call) -> Option<u8>
     ensures { result ≡ request_ended_by (action_of call.now) }
 {
-    match call {
-        Call::WaitReq { req } | Call::TestReq { req } => Some(*req),
+    match call.action() {
+        Action::EndsRequest { req } => Some(req),
         _ => None,
     }
 }

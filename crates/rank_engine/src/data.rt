@@ -1,7 +1,8 @@
 //! A rank's steps on memory, and what is delivered where it waits (MPI 3.1, section 11.7).
-ghost use Rattle.std.specs.Prelude.{◌≡◌, ◌+◌, ◌≤◌, false, true, Some, None, IfOk, OnErr, IfSome, length};
+ghost use Rattle.std.specs.Prelude.{◌≡◌, ◌+◌, ◌≤◌, false, true, Some, None, IfOk, OnErr, IfSome, length, MatchBool};
 ghost use Rattle.cell_face.specs.Faces.{Keeps, Rose};
 ghost use Rattle.rank_engine.specs.DataAnswers.{HasRoom, IsDelivered, is_over as is_it_over};
+ghost use Rattle.rank_engine.specs.DataAnswers.{opened_after as opened_after_of};
 ghost use Rattle.rank_engine.specs.Moves.{IsFirst, IsMove};
 ghost use Rattle.rank_engine.specs.RankStates.{own_move, queue_of};
 ghost use Rattle.delivery_queue.specs.Queues.{DeliversWhole};
@@ -12,6 +13,13 @@ use crate::agent::Agent;
 use cell_face::Memory;
 use rma_record::{Item, Keep};
 use rma_types::NoMemory;
+
+/// The place of an access whose delivery goes on, if it is not done.
+fn opened_after(done: bool, at: usize) -> Option<usize>
+    ensures { result ≡ opened_after_of done at }
+{
+    if done { None } else { Some(at) }
+}
 
 impl<'s, L: Keep + Drop> Agent<'s, L> {
     /// Whether all calls have their items and nothing is pending.
@@ -24,9 +32,11 @@ impl<'s, L: Keep + Drop> Agent<'s, L> {
     /// The rank ends, where it has not.
     pub(crate) fn end(&mut self) -> Result<(), NoMemory>
         requires over { is_it_over self.old ≡ true }
+        requires closed { self.old.opened ≡ None }
         requires free { 1 ≤ self.old.free }
-        ensures moved { IfOk result (λ _. IsMove self.old self.new (own_move self.old) None) }
+        ensures moved { IfOk result (λ _. IsMove self.old self.new (own_move self.old)) }
         ensures kept { OnErr result (self.new.agent.log ≡ self.old.agent.log) }
+        ensures home { OnErr result (self.new.home ≡ self.old.home) }
     {
         if self.ended {
             return Ok(());
@@ -41,16 +51,18 @@ impl<'s, L: Keep + Drop> Agent<'s, L> {
         Ok(())
     }
 
-    /// Delivers the pending access at a place, which gives way to none. The answer is false where an attempt came too
-    /// late.
+    /// Delivers the pending access at a place, which gives way to none; no other delivery is begun. The answer is false
+    /// where an attempt came too late.
     pub(crate) fn deliver<M: Memory>(&mut self, at: usize, mem: &mut M) -> Result<bool, NoMemory>
         requires first { IsFirst self.old.agent.pending at }
+        requires alone { IfSome self.old.opened (λ place. place ≡ at) }
         requires free { 256 ≤ self.old.free }
         requires room { HasRoom self.old (M.face mem.old) }
         ensures delivered { IfOk result (λ done. IsDelivered (Some at)
             self.old self.new done (M.face mem.old) (M.face mem.new) (M.knows mem.new)) }
-        ensures moved { IfOk result (λ done. done ≡ false →
-            Rose (M.face mem.old).moves (M.face mem.new).moves) }
+        ensures moved { IfOk result (λ done. MatchBool done
+            ((M.face mem.new).moves ≡ (M.face mem.old).moves)
+            (Rose (M.face mem.old).moves (M.face mem.new).moves)) }
         ensures told { IfOk result (λ done. IfSome (M.face mem.old).told (λ _. done ≡ true)) }
         ensures whole { IfOk result (λ _. IfSome (M.face mem.old).told (λ cells.
             DeliversWhole (queue_of self.old) at self.old.stage.layout
@@ -61,6 +73,7 @@ impl<'s, L: Keep + Drop> Agent<'s, L> {
         ensures few { length self.new.agent.log ≤ length self.old.agent.log + 256 }
         ensures free { self.new.free ≤ self.old.free }
         ensures kept { OnErr result (self.new.agent.log ≡ self.old.agent.log) }
+        ensures home { OnErr result (self.new.home ≡ self.old.home) }
         ensures unwritten { OnErr result (mem.new ≡ mem.old) }
     {
         if self.kept > u32::MAX - 256 {
@@ -71,6 +84,7 @@ impl<'s, L: Keep + Drop> Agent<'s, L> {
             .queue
             .deliver(at, mem, self.layout, calls, &mut self.log)?;
         self.kept += delivery.touches;
+        self.opened = opened_after(delivery.done, at);
         Ok(delivery.done)
     }
 }

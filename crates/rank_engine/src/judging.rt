@@ -2,7 +2,7 @@
 ghost use Rattle.std.specs.Prelude.{◌≡◌, ◌<◌, [], ◌∷◌, IfSome};
 ghost use Rattle.rma_types.specs.declared.classes.Class.TheVariants.{Request as RequestClass};
 ghost use Rattle.std.specs.Option.{option_map_or};
-ghost use Rattle.call_rules.specs.Actions.{action_of};
+ghost use Rattle.rma_types.specs.Actions.{action_of};
 ghost use Rattle.call_rules.specs.WellFormed.{IsWrittenCall};
 ghost use Rattle.rank_rules.specs.Classes.{least_class, first_class as class_of_first};
 ghost use Rattle.rank_rules.specs.Knowledge.{own_class as class_by_rank};

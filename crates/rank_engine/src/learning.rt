@@ -1,6 +1,7 @@
 //! What an entry that ends its call teaches a rank: its windows and ranges after it (MPI 3.1, section 11.2).
 ghost use Rattle.std.specs.Prelude.{◌≡◌, ◌<◌, ◌≤◌, ℕ, List, None, IfSome, OnOk, OnErr};
-ghost use Rattle.call_rules.specs.Actions.{Creates, action_of};
+ghost use Rattle.rma_types.specs.declared.actions.Action.TheVariants.{Creates};
+ghost use Rattle.rma_types.specs.Actions.{action_of};
 ghost use Rattle.call_rules.specs.Ranks.{natural as natural_of};
 ghost use Rattle.call_rules.specs.WellFormed.{IsWrittenCall};
 ghost use Rattle.rank_rules.specs.WindowTests.{window_class};
@@ -9,7 +10,7 @@ ghost use Rattle.rma_types.specs.declared.scripts.Part.{Part};
 ghost use Rattle.window_regions.specs.Shapes.{IsShape};
 ghost use Rattle.rank_engine.specs.Learning.{HasParts, HasShape};
 
-use rma_types::{Call, NoMemory};
+use rma_types::{Action, Call, NoMemory};
 use window_regions::{Shape, WindowTable};
 
 /// A number that is not below 0; else 0.
@@ -51,44 +52,18 @@ pub fn learn_windows(
         windows.new ≡ rules.windows_after shapes windows.old (action_of call.now)) }
     ensures err { OnErr result (windows.new ≡ windows.old) }
 {
-    match call {
-        Call::Allocate { win, .. } => make(windows, *win, made),
-        Call::Create { win, .. } => make(windows, *win, made),
-        Call::Dynamic { win } => make(windows, *win, made),
-        Call::Free { win } => {
-            windows.freed(*win);
+    match call.action() {
+        Action::Creates(creation) => make(windows, creation.win, made),
+        Action::Frees { win } => {
+            windows.freed(win);
             Ok(())
         }
-        Call::Attach { win, base, bytes } => windows.attach(*win, natural(*base), natural(*bytes)),
-        Call::Detach { win, base } => {
-            windows.detach(*win, natural(*base));
+        Action::Attaches { win, base, bytes } => windows.attach(win, natural(base), natural(bytes)),
+        Action::Detaches { win, base } => {
+            windows.detach(win, natural(base));
             Ok(())
         }
-        Call::Fence { .. } => Ok(()),
-        Call::Post { .. } => Ok(()),
-        Call::Start { .. } => Ok(()),
-        Call::Complete { .. } => Ok(()),
-        Call::WaitWin { .. } => Ok(()),
-        Call::TestWin { .. } => Ok(()),
-        Call::LockOne { .. } => Ok(()),
-        Call::Unlock { .. } => Ok(()),
-        Call::LockAll { .. } => Ok(()),
-        Call::UnlockAll { .. } => Ok(()),
-        Call::Flush { .. } => Ok(()),
-        Call::FlushAll { .. } => Ok(()),
-        Call::FlushLocal { .. } => Ok(()),
-        Call::FlushLocalAll { .. } => Ok(()),
-        Call::Sync { .. } => Ok(()),
-        Call::Barrier => Ok(()),
-        Call::Put { .. } => Ok(()),
-        Call::Get { .. } => Ok(()),
-        Call::Acc { .. } => Ok(()),
-        Call::GetAcc { .. } => Ok(()),
-        Call::Fop { .. } => Ok(()),
-        Call::Cas { .. } => Ok(()),
-        Call::Load { .. } => Ok(()),
-        Call::Store { .. } => Ok(()),
-        Call::WaitReq { .. } => Ok(()),
-        Call::TestReq { .. } => Ok(()),
+        Action::Synchronises(..) | Action::Meets | Action::Moves(_) | Action::EndsRequest { .. } =>
+            Ok(()),
     }
 }

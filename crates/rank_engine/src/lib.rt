@@ -16,6 +16,8 @@ mod judging;
 mod learning;
 mod moves;
 mod tokens;
+mod updates;
 
 pub use agent::Agent;
 pub use answers::Turned;
+pub use updates::share_for;

@@ -1,50 +1,29 @@
 //! What a rank gives with its entries, and what it gains by them (MPI 3.1, section 11.7).
 ghost use Rattle.std.specs.Prelude.{◌≡◌, false, IfSome};
 ghost use Rattle.std.specs.Option.{option_map, option_map_or};
-ghost use Rattle.call_rules.specs.Actions.{synchronisation_of};
+ghost use Rattle.rma_types.specs.Actions.{synchronisation_of};
 ghost use Rattle.cell_face.specs.Faces.{Keeps, Unwritten};
 ghost use Rattle.rank_engine.specs.BoardAnswers.{gives as gives_by, hands_on as hands_on_by, IsGift, IsMetBy};
 
 use cell_face::Memory;
-use rma_types::{Call, Step};
+use rma_types::{Action, Call, Step, Synchronisation};
 
 /// Whether the call hands on what its rank has seen: a post, a complete or an unlock.
 fn hands_on(call: &Call) -> bool
     ensures { result ≡ option_map_or hands_on_by (synchronisation_of call.now) false }
 {
-    match call {
-        Call::Post { .. } => true,
-        Call::Complete { .. } => true,
-        Call::Unlock { .. } => true,
-        Call::UnlockAll { .. } => true,
-        Call::Allocate { .. } => false,
-        Call::Create { .. } => false,
-        Call::Dynamic { .. } => false,
-        Call::Free { .. } => false,
-        Call::Attach { .. } => false,
-        Call::Detach { .. } => false,
-        Call::Fence { .. } => false,
-        Call::Start { .. } => false,
-        Call::WaitWin { .. } => false,
-        Call::TestWin { .. } => false,
-        Call::LockOne { .. } => false,
-        Call::LockAll { .. } => false,
-        Call::Flush { .. } => false,
-        Call::FlushAll { .. } => false,
-        Call::FlushLocal { .. } => false,
-        Call::FlushLocalAll { .. } => false,
-        Call::Sync { .. } => false,
-        Call::Barrier => false,
-        Call::Put { .. } => false,
-        Call::Get { .. } => false,
-        Call::Acc { .. } => false,
-        Call::GetAcc { .. } => false,
-        Call::Fop { .. } => false,
-        Call::Cas { .. } => false,
-        Call::Load { .. } => false,
-        Call::Store { .. } => false,
-        Call::WaitReq { .. } => false,
-        Call::TestReq { .. } => false,
+    match call.action() {
+        Action::Synchronises(_, synchronisation) => match synchronisation {
+            Synchronisation::Posts(..) | Synchronisation::Completes | Synchronisation::Unlocks(_) =>
+                true,
+            Synchronisation::Fences(_)
+            | Synchronisation::Starts(..)
+            | Synchronisation::Waits { .. }
+            | Synchronisation::Locks(..)
+            | Synchronisation::Flushes { .. }
+            | Synchronisation::Syncs => false,
+        },
+        _ => false,
     }
 }
 

@@ -1,18 +1,15 @@
 -- All pending accesses are delivered as the definition delivers them.
 use Rattle.std.proofs.Common.{◌≡◌, ℕ, suc, ◌+◌, ◌-◌, ◌<◌, ◌≤◌, Bool, true, false, cond, List, [], ◌∷◌, length, get_or}
-use Rattle.std.proofs.Common.{set, Option, Some, None, refl, sym, ap, ◌∙◌, subst, arith}
-use Rattle.std.specs.Prelude.{slice_get, not, ◌==◌, sum_by}
-use Rattle.std.specs.List.{fold, remove}
-use Rattle.std.specs.Option.{option_map_or}
+use Rattle.std.proofs.Common.{set, refl, sym, ap, ◌∙◌, subst, arith}
+use Rattle.std.specs.Prelude.{not, ◌==◌, sum_by}
+use Rattle.std.specs.List.{fold}
 use Rattle.std.proofs.lemmas.Bool.{ne_eqb}
 use Rattle.std.proofs.lemmas.List.Sums.{sum_by-set}
 use Rattle.std.proofs.lemmas.List.{length-set, length-map, set-set, set-get_or, get_or-set_same}
-use Rattle.call_rules.specs.declared.cells.Cell.{Cell}
-use Rattle.call_rules.specs.Actions.{Transfer}
 use Rattle.call_rules.specs.Pieces.{numbers_from}
+use Rattle.step_runs.proofs.DataStepLaws.{first_delivered}
 use Rattle.cell_face.specs.PlainCells.{PlainCells, plain_face}
-use Rattle.lawful_runs.specs.Accesses.{transfer_at}
-use Rattle.lawful_runs.specs.Stages.{Stage, calls_at}
+use Rattle.lawful_runs.specs.Stages.{Stage}
 use Rattle.rank_engine.specs.DataAnswers.{HasRoom}
 use Rattle.rank_engine.specs.RankStates.{RankState, IsBetween}
 use Rattle.rank_rules.specs.declared.pending.PendingAccess.{PendingAccess}
@@ -23,26 +20,8 @@ use Rattle.rank_runners.proofs.Onward.{PutsNone, delivery_puts_none, delivery_ke
 use Rattle.rank_runners.proofs.Turned.{same_agent, data_turned}
 use Rattle.rank_runners.proofs.TurnSteps.{here_is, room_in, rank_in}
 use Rattle.step_runs.specs.Agents.{Agent, new_agent, has_pending}
-use Rattle.step_runs.specs.DataSteps.{OnMemory, deliver, with_delivery, with_touches}
+use Rattle.step_runs.specs.DataSteps.{OnMemory, deliver}
 use Rattle.step_runs.specs.StepRun.{World, agent_at, deliver_each, drain_rank, drain, turn_on_memory}
-
--- the first of the pending accesses is delivered, and the others are left
-pub first_delivered : (stage : Stage) (agent : Agent) (cells : List Cell) (one : PendingAccess)
-    (rest : List PendingAccess)
-    → agent.pending ≡ one ∷ rest → (deliver stage agent cells 0).agent.pending ≡ rest
-first_delivered stage agent cells one rest e =
-    ap (λ (o : Option PendingAccess).
-    (option_map_or (with_delivery stage agent cells 0) o (record { agent = agent; cells = cells })).agent.pending)
-    (ap (λ (pending : List PendingAccess). slice_get pending 0) e)
-    ∙ by (transfer_at (calls_at stage agent.rank) one.number)
-    ∙ ap (λ (pending : List PendingAccess). remove pending 0) e
-  where
-    by : (o : Option Transfer) → (option_map_or
-        (with_touches stage (record agent { pending = remove agent.pending 0 }) cells one) o
-        (record { agent = record agent { pending = remove agent.pending 0 }; cells = cells })).agent.pending
-        ≡ remove agent.pending 0
-    by None = refl
-    by (Some t) = refl
 
 -- what is left of a rank's deliveries
 pub record Delivers (stage : Stage) (world : World) (rank : ℕ) (more : Bool) (runner : Runner) : Type 0 where

@@ -15,9 +15,13 @@ use Rattle.rma_types.specs.declared.scripts.Script.{Script}
 use Rattle.call_rules.specs.Layout.{layout, cells_of, memory_bytes, parts_from, ranks_of}
 use Rattle.call_rules.specs.Pieces.{numbers_from}
 use Rattle.call_rules.specs.Touches.{empty_cell}
+use Rattle.call_rules.proofs.NumbersFrom.{numbers_length, numbers_last}
 use Rattle.access_steps.specs.Plans.{element_count, is_update}
-use Rattle.call_rules.specs.Actions.{Action, Creates, Frees, Attaches, Detaches, Synchronises, Meets, Moves}
-use Rattle.call_rules.specs.Actions.{EndsRequest, Transfer, action_of, transfer_in}
+use Rattle.rma_types.specs.declared.actions.Action.{Action}
+use Rattle.rma_types.specs.declared.actions.Action.TheVariants.{Creates, Frees, Attaches, Detaches, Synchronises, Meets}
+use Rattle.rma_types.specs.declared.actions.Action.TheVariants.{Moves, EndsRequest}
+use Rattle.rma_types.specs.declared.actions.Transfer.{Transfer}
+use Rattle.rma_types.specs.Actions.{action_of, transfer_in}
 use Rattle.call_rules.specs.Ranks.{natural}
 use Rattle.call_rules.specs.WellFormed.{IsUpTo, IsWellFormed, IsWrittenAction, IsWrittenCall}
 use Rattle.lawful_runs.specs.Stages.{Stage, stage_of}
@@ -27,7 +31,6 @@ use Rattle.rank_runners.specs.Marks.{IsKept}
 use Rattle.rank_runners.specs.RankSets.{has}
 use Rattle.rank_runners.specs.Runs.{no_state, state_at, IsRank, IsRun}
 use Rattle.rank_runners.specs.declared.runners.Runner.{Runner}
-use Rattle.rank_runners.proofs.Numbers.{last_number}
 use Rattle.step_runs.specs.Agents.{Agent, new_agent}
 use Rattle.step_runs.specs.Schedules.{first_schedule, last_before}
 use Rattle.step_runs.specs.StepRun.{first_world}
@@ -46,7 +49,7 @@ one_agent_more f rank states more state e m s =
     let k : 0 + rank ≡ rank = omega arith in
     m ∙ ap (λ (xs : List RankState). xs ++ state ∷ []) e
     ∙ ap (λ one. map f (numbers_from 0 rank) ++ one ∷ []) (s ∙ ap f (sym k))
-    ∙ sym (ap (λ j. map f (numbers_from 0 j)) n ∙ ap (λ (xs : List ℕ). map f xs) (last_number 0 rank)
+    ∙ sym (ap (λ j. map f (numbers_from 0 j)) n ∙ ap (λ (xs : List ℕ). map f xs) (numbers_last 0 rank)
     ∙ map-append f (numbers_from 0 rank) ((0 + rank) ∷ []))
 
 -- ---- the layout
@@ -111,10 +114,6 @@ state_of f stage first count rank h = at (no_state stage rank) first count rank 
     at d first (suc count) zero h = let e : first ≡ first + 0 = omega arith in ap f e
     at d first (suc count) (suc rank) h =
         let e : first + 1 + rank ≡ first + suc rank = omega arith in at d (first + 1) count rank (omega arith) ∙ ap f e
-
-numbers_count : (first count : ℕ) → length (numbers_from first count) ≡ count
-numbers_count first zero = refl
-numbers_count first (suc count) = ap suc (numbers_count (first + 1) count)
 
 map_of_map : (f : ℕ → RankState) (g : ℕ → Agent) (xs : List ℕ) → ((rank : ℕ) → (f rank).agent ≡ g rank)
     → map (λ (state : RankState). state.agent) (map f xs) ≡ map g xs
@@ -187,12 +186,12 @@ pub starts_in : (script : Script) (order : Order) (delay : Delay) (seed : ℕ) (
 starts_in script order delay seed runner h agents board cells share kept ended = record {
   few = h.few_ranks;
   in_world = record {
-    count = ap length agents ∙ length-map (numbers_from 0 script.ranks) one ∙ numbers_count 0 script.ranks;
+    count = ap length agents ∙ length-map (numbers_from 0 script.ranks) one ∙ numbers_length 0 script.ranks;
     agents = ap (λ (list : List RankState). map (λ (state : RankState). state.agent) list) agents
         ∙ map_of_map one (new_agent stage seed) (numbers_from 0 script.ranks) (λ rank. refl);
     ranks = λ rank l. subst (λ rows. IsRank stage rows rank (state_at stage runner.agents.items rank)) (sym no_rows)
         (subst (λ state. IsRank stage [] rank state) (sym (is rank l))
-        (record { same_stage = refl; number = refl; between = record { untouched = tt; later = tt }; own = refl }));
+        (record { same_stage = refl; number = refl; between = record { closed = refl; untouched = tt }; own = refl }));
     of_run = record {
       ranks = ap (λ (b : BoardState). b.ranks) board;
       layout = ap (λ (b : BoardState). b.layout) board;

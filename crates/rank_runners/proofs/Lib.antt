@@ -2,7 +2,6 @@
 pub mod Numbers
 pub mod Sets
 pub mod Picks
-pub mod KeptSteps
 pub mod Onward
 pub mod OneStep
 pub mod Turned

@@ -1,10 +1,11 @@
 -- Searches among the numbers of the ranks.
-use Rattle.std.proofs.Common.{◌≡◌, ◌∙◌, ◌+◌, ◌-◌, ◌<◌, ◌≤◌, ℕ, zero, suc, Bool, true, false, cond, List, [], ◌∷◌, ◌++◌}
+use Rattle.std.proofs.Common.{◌≡◌, ◌∙◌, ◌+◌, ◌-◌, ◌<◌, ◌≤◌, ℕ, zero, suc, Bool, true, false, cond, List, [], ◌∷◌}
 use Rattle.std.proofs.Common.{take, drop, refl, sym, ap, arith}
 use Rattle.std.specs.Prelude.{Some, reverse, slice_get}
 use Rattle.std.specs.List.{find, filter}
 use Rattle.std.proofs.lemmas.List.{reverse-append}
 use Rattle.call_rules.specs.Pieces.{numbers_from}
+use Rattle.call_rules.proofs.NumbersFrom.{numbers_last}
 
 -- a number that fails the test is passed
 pub find_more : (test : ℕ → Bool) (from to : ℕ) → from < to → test from ≡ false
@@ -34,16 +35,9 @@ take_numbers first (suc count) (suc k) within = ap (λ (rest : List ℕ). first 
 
 -- ---- from above
 
-pub last_number : (first count : ℕ) → numbers_from first (suc count) ≡ numbers_from first count ++ (first + count) ∷ []
-last_number first zero = let e : first + 0 ≡ first = omega arith in rw e refl
-last_number first (suc count) =
-    let e : (first + 1) + count ≡ first + suc count = omega arith in
-    ap (λ (rest : List ℕ). first ∷ rest) (last_number (first + 1) count
-    ∙ ap (λ n. numbers_from (first + 1) count ++ n ∷ []) e)
-
 pub reversed_more : (first count : ℕ)
     → reverse (numbers_from first (suc count)) ≡ (first + count) ∷ reverse (numbers_from first count)
-reversed_more first count = ap (λ (xs : List ℕ). reverse xs) (last_number first count)
+reversed_more first count = ap (λ (xs : List ℕ). reverse xs) (numbers_last first count)
     ∙ reverse-append (numbers_from first count) ((first + count) ∷ [])
 
 reversed : (from to : ℕ) → from < to
@@ -51,7 +45,7 @@ reversed : (from to : ℕ) → from < to
 reversed from to h =
     let left : to - from ≡ suc (to - 1 - from) = omega arith in
     let top : from + (to - 1 - from) ≡ to - 1 = omega arith in
-    rw left (ap (λ (xs : List ℕ). reverse xs) (last_number from (to - 1 - from))
+    rw left (ap (λ (xs : List ℕ). reverse xs) (numbers_last from (to - 1 - from))
     ∙ reverse-append (numbers_from from (to - 1 - from)) ((from + (to - 1 - from)) ∷ [])
     ∙ ap (λ n. n ∷ reverse (numbers_from from (to - 1 - from))) top)
 

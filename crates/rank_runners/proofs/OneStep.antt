@@ -1,5 +1,6 @@
 -- A step of one rank over a memory that tells its cells is the definition's.
 use Rattle.std.proofs.Common.{◌≡◌, ℕ, Bool, true, false, Option, Some, None, refl, ap, subst, arith}
+use Rattle.std.specs.Option.{unwrap_or}
 use Rattle.call_rules.specs.declared.cells.Cell.{Cell}
 use Rattle.cell_face.specs.Faces.{Face}
 use Rattle.cell_face.specs.PlainCells.{PlainCells, plain_face}
@@ -57,7 +58,7 @@ delivered_of before after done memory memory_after knows between some steps whol
     let w = whole between in (
       some,
       record {
-        stage = delivery_stays (Some 0) before after done (plain_face memory)
+        stage = delivery_stays (Some (unwrap_or before.opened 0)) before after done (plain_face memory)
             (plain_face memory_after) knows steps.delivered;
         agent = w.rank;
         cells = let told = w.cells in cc;

@@ -19,7 +19,8 @@ use Rattle.board_rules.specs.Entries.{Row}
 use Rattle.call_rules.specs.declared.cells.Cell.{Cell}
 use Rattle.call_rules.specs.declared.elements.Change.{Change}
 use Rattle.call_rules.specs.declared.elements.Piece.{Piece}
-use Rattle.call_rules.specs.Actions.{Transfer, transfer_of}
+use Rattle.rma_types.specs.declared.actions.Transfer.{Transfer}
+use Rattle.rma_types.specs.Actions.{transfer_of}
 use Rattle.call_rules.specs.Pieces.{pieces}
 use Rattle.call_rules.specs.Touches.{cell_at, cells_after, touch_each, update_cell}
 use Rattle.call_rules.specs.Transfers.{change_of}

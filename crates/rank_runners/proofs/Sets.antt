@@ -1,26 +1,10 @@
 -- One rank more in a set.
-use Rattle.std.proofs.Common.{◌≡◌, ◌⊎◌, ◌∙◌, ◌*◌, ◌<◌, ◌^◌, ◌%◌, ℕ, zero, suc, ◌-◌, max, inl, inr, refl, sym, ap, w32}
+use Rattle.std.proofs.Common.{◌≡◌, ◌∙◌, ◌<◌, ℕ, zero, suc, ◌-◌, max, refl, ap, w32}
 use Rattle.std.proofs.Common.{arith}
-use Rattle.std.specs.Prelude.{◌==◌, ◌||◌, ◌&&◌, not, bit_or}
+use Rattle.std.specs.Prelude.{◌==◌, ◌&&◌, not, bit_or}
 use Rattle.std.specs.Int.{bit_at, bit_not}
-use Rattle.std.proofs.lemmas.Bool.{cases_eq, eq-eqb, ne_eqb}
 use Rattle.std.proofs.lemmas.Nat.{or_lt}
-use Rattle.std.proofs.lemmas.Nat.Bits.{bit_at_set_same, bit_at_set_other, bit_at_not, bit_at_or, bit_at-lt}
-
-pub one_more : (bits rank other : ℕ) → rank < 32
-    → (bit_at (bit_or bits (1 * 2 ^ rank % 4294967296)) other == 1) ≡ (rank == other || (bit_at bits other == 1))
-one_more bits rank other h = by (cases_eq rank other)
-  where
-    all : ℕ
-    all = bit_or bits (1 * 2 ^ rank % 4294967296)
-
-    by : (rank ≡ other) ⊎ (rank ≡ other → ⊥) → (bit_at all other == 1) ≡ (rank == other || (bit_at bits other == 1))
-    by (inl same) =
-        ap (λ k. bit_at all k == 1) (sym same) ∙ ap (λ b. b == 1) (bit_at_set_same w32 bits rank h)
-        ∙ ap (λ b. b || (bit_at bits other == 1)) (sym (eq-eqb rank other same))
-    by (inr apart) =
-        ap (λ b. b == 1) (bit_at_set_other w32 bits rank h other (λ e. apart (sym e)))
-        ∙ ap (λ b. b || (bit_at bits other == 1)) (sym (ne_eqb rank other apart))
+use Rattle.std.proofs.lemmas.Nat.Bits.{bit_at_not, bit_at_or, bit_at-lt}
 
 -- a rank is outside two sets exactly where it is in neither
 pub in_neither : (a b rank : ℕ) → a < 4294967296 → b < 4294967296 → rank < 32

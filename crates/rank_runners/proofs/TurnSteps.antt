@@ -19,7 +19,7 @@ use Rattle.rank_runners.specs.Runs.{no_state, state_at, IsRank, IsWorld, IsRun, 
 use Rattle.rank_runners.specs.Steps.{IsStep, IsMade}
 use Rattle.rank_runners.specs.declared.runners.Runner.{Runner}
 use Rattle.rank_runners.specs.declared.schedules.Turns.{Turns}
-use Rattle.rank_runners.proofs.KeptSteps.{Laws}
+use Rattle.rank_histories.proofs.KeptSteps.{Laws}
 use Rattle.rank_runners.proofs.Onward.{PutsNone, data_puts_none, data_keeps_cells}
 use Rattle.rank_runners.proofs.Turned.{same_agent, board_turned, data_turned, turn_is}
 use Rattle.step_runs.specs.BoardSteps.{board_step}

@@ -9,40 +9,25 @@ use Rattle.std.proofs.lemmas.List.{get_or-set_other}
 use Rattle.std.proofs.lemmas.List.Elements.{filter-append}
 use Rattle.std.proofs.lemmas.List.Sums.{sum_by-set, sum_by-take-drop}
 use Rattle.rma_types.specs.declared.calls.Call.{Call}
-use Rattle.rma_types.specs.declared.calls.Call.TheVariants.{Put, Acc, GetAcc, Store}
 use Rattle.board_rules.specs.Entries.{Row}
 use Rattle.cell_face.specs.PlainCells.{PlainCells, plain_face}
 use Rattle.kept_rows.specs.Gifts.{Given, rows_given}
-use Rattle.kept_rows.specs.KeptCalls.{kept_call, kept_row}
+use Rattle.kept_rows.specs.KeptCalls.{kept_row}
 use Rattle.kept_rows.specs.KeptRowLaws.{kept_rows}
 use Rattle.lawful_runs.specs.Stages.{Stage, calls_at}
+use Rattle.kept_rows.proofs.KeptRowLawLaws.{rows_twice}
 use Rattle.rank_engine.specs.BoardAnswers.{StepsAtBoard}
 use Rattle.rank_engine.specs.RankStates.{RankState, AreOwnRows, IsBetween, own_rows}
 use Rattle.rank_engine.specs.Shares.{updates_ahead, updates_left, updates_of}
 use Rattle.rank_runners.specs.Runs.{no_state, state_at, IsRank, IsWorld}
 use Rattle.rank_runners.specs.Steps.{IsMade}
-use Rattle.rank_runners.proofs.KeptSteps.{Laws, Alike, alike_step}
+use Rattle.rank_histories.proofs.KeptSteps.{Laws, Alike, alike_step}
 use Rattle.rank_runners.proofs.Onward.{IsOn, board_goes_on, PutsNone, entries_in}
 use Rattle.step_runs.specs.Agents.{Agent, new_agent}
 use Rattle.step_runs.specs.BoardSteps.{AtBoard, board_step}
-use Rattle.step_runs.specs.DataSteps.{OnMemory, is_at_once}
+use Rattle.step_runs.specs.DataSteps.{OnMemory}
 use Rattle.step_runs.specs.StepRun.{World, agent_at, turn_at_board, turn_on_memory}
 use Rattle.sync_board.specs.Boards.{BoardState, rows_on}
-
--- ---- kept rows
-
-call_kept_again : (call : Call) → kept_call (kept_call call) ≡ kept_call call
-call_kept_again (Put req win target disp dtype values) = refl
-call_kept_again (Acc req win target disp dtype op values) = refl
-call_kept_again (GetAcc req win target disp dtype op values) = refl
-call_kept_again (Store win disp dtype values) = refl
-call_kept_again call = refl
-
-pub kept_again : (rows : List Row) → kept_rows (kept_rows rows) ≡ kept_rows rows
-kept_again [] = refl
-kept_again (row ∷ rows) =
-    ap (λ call. record row { call = call } ∷ kept_rows (kept_rows rows)) (call_kept_again row.call)
-    ∙ ap (λ (rest : List Row). kept_row row ∷ rest) (kept_again rows)
 
 -- ---- ranks
 
@@ -145,16 +130,12 @@ ahead_falls before after s on t =
     let less = sum_falls updates_of before.agent.at after.agent.at calls on.at in
     omega arith
 
--- the rank between two steps, whose access are as they were
-between_still : (before after : RankState) → after.stage ≡ before.stage → after.agent.pending ≡ before.agent.pending
-    → after.touched ≡ before.touched
+-- the rank between two steps, whose accesses are as they were
+between_still : (before after : RankState) → after.opened ≡ before.opened → after.touched ≡ before.touched
     → IsBetween before → IsBetween after
-between_still before after s p t b = record {
+between_still before after o t b = record {
+  closed = o ∙ b.closed;
   untouched = subst (λ touched. AllByRecursion (λ count. count ≡ 0) touched) (sym t) b.untouched;
-  later = subst (λ (stage : Stage). AllByRecursion (λ one. is_at_once stage.delay one.access
-      ≡ false) after.agent.pending) (sym s)
-      (subst (λ pending. AllByRecursion (λ one. is_at_once before.stage.delay one.access ≡ false) pending)
-      (sym p) b.later);
 }
 
 -- ---- a turn
@@ -183,7 +164,7 @@ stepped l stage world rank before after waits board board_after memory memory_af
     subst (λ one. Alike (rows_on board) one (board_step stage (agent_at stage world rank) world.rows)) (sym e)
     (subst (λ agent. Alike (rows_on board) (board_step stage before.agent (rows_on board))
     (board_step stage agent world.rows)) a
-    (alike_step l stage before.agent (rows_on board) world.rows (ap kept_rows r ∙ kept_again world.rows)))
+    (alike_step l stage before.agent (rows_on board) world.rows (ap kept_rows r ∙ rows_twice world.rows)))
 
 own_after : (before after : RankState) (stage : Stage) (rows : List Row) → after.stage ≡ stage
     → AreOwnRows after.stage after.agent rows → AreOwnRows stage after.agent rows
@@ -197,6 +178,7 @@ pub record IsTurn (stage : Stage) (rank : ℕ) (before after : RankState) (waits
   pub same_agent : after.agent ≡ step.agent
   pub on : IsOn before.agent after.agent
   pub touched : after.touched ≡ before.touched
+  pub opened : after.opened ≡ before.opened
   pub same_waits : step.waits ≡ waits
   pub same_rows : rows_on board_after ≡ kept_rows step.rows
 
@@ -220,10 +202,11 @@ turn_is l stage world rank before after waits board board_after memory memory_af
       on = subst (λ agent. IsOn before.agent agent) (sym after_agent)
           (board_goes_on before.stage before.agent (rows_on board));
       touched = ap (λ (one : RankState). one.touched) h.rank;
+      opened = ap (λ (one : RankState). one.opened) h.rank;
       same_waits = sym alike.waits ∙ h.waits;
       same_rows = rows_after (rows_on board) (rows_on board_after) own
           (board_step stage (agent_at stage world rank) world.rows)
-          (ap kept_rows r ∙ kept_again world.rows ∙ sym r) alike
+          (ap kept_rows r ∙ rows_twice world.rows ∙ sym r) alike
           (h.rows ∙ ap (λ n. rows_on board ++ map kept_row (drop n own.rows)) (sym entries));
     }
 
@@ -257,7 +240,7 @@ board_turned l stage states board board_after memory memory_after world rank aft
           (record {
             same_stage = turn.same_stage;
             number = number;
-            between = between_still before after same turn.on.pending turn.touched here.between;
+            between = between_still before after turn.opened turn.touched here.between;
             own = own;
           })
           (λ one l apart.

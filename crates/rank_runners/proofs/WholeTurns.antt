@@ -1,14 +1,11 @@
 -- A turn is the definition's, and which ranks have ended is known after it.
 use Rattle.std.proofs.Common.{◌≡◌, ℕ, ◌<◌, inl, inr, Bool, true, false, cond, List, [], ◌∷◌, length, get_or, set, refl}
 use Rattle.std.proofs.Common.{sym, ap, ◌∙◌, subst, arith}
-use Rattle.std.specs.Prelude.{◌==◌, ◌||◌, if◌then◌else◌}
-use Rattle.std.specs.List.{AllByRecursion}
+use Rattle.std.specs.Prelude.{◌==◌, ◌||◌, ◌&&◌, is_none, if◌then◌else◌}
 use Rattle.std.proofs.lemmas.Bool.{cases_eq, eq-eqb, ne_eqb}
 use Rattle.std.proofs.lemmas.List.{get_or-set_same, get_or-set_other, length-set, get_or_default}
-use Rattle.rma_types.specs.declared.schedules.Delay.{Delay}
 use Rattle.lawful_runs.specs.Stages.{Stage}
-use Rattle.rank_engine.specs.RankStates.{RankState, is_at_hand, is_last_at_once, needs_entry}
-use Rattle.rank_rules.specs.declared.pending.PendingAccess.{PendingAccess}
+use Rattle.rank_engine.specs.RankStates.{RankState, needs_entry}
 use Rattle.rank_runners.specs.Marks.{IsKept}
 use Rattle.rank_runners.specs.RankSets.{has}
 use Rattle.rank_runners.specs.Runs.{no_state, state_at, IsWorld, IsRun, HasTurn, IsReady, IsOneTurn, GoesOn, at_board}
@@ -17,15 +14,7 @@ use Rattle.rank_runners.specs.declared.rank_sets.RankSet.{RankSet}
 use Rattle.rank_runners.specs.declared.runners.Runner.{Runner}
 use Rattle.rank_runners.proofs.Turned.{same_agent}
 use Rattle.step_runs.specs.Agents.{tries_entry}
-use Rattle.step_runs.specs.DataSteps.{is_at_once}
 use Rattle.step_runs.specs.StepRun.{World, agent_at, turn}
-
-none_at_hand : (delay : Delay) (pending : List PendingAccess)
-    → AllByRecursion (λ (one : PendingAccess). is_at_once delay one.access ≡ false) pending
-    → is_last_at_once delay pending ≡ false
-none_at_hand delay [] h = refl
-none_at_hand delay (one ∷ []) h = h.0
-none_at_hand delay (one ∷ next ∷ pending) h = none_at_hand delay (next ∷ pending) h.1
 
 -- the code asks what the definition asks
 asks_the_same : (stage : Stage) (before : Runner) (world : World) (rank : ℕ) (flag : Bool)
@@ -37,9 +26,8 @@ asks_the_same stage before world rank flag run h e =
     let count = w.count in
     let here = w.ranks rank (omega arith) in
     let state = state_at stage before.agents.items rank in
-    let free : is_at_hand state ≡ false = none_at_hand state.stage.delay state.agent.pending here.between.later in
     let plain : needs_entry state ≡ tries_entry state.stage state.agent = ap
-    (λ b. if b then false else tries_entry state.stage state.agent) free in
+    (λ o. is_none o && tries_entry state.stage state.agent) here.between.closed in
     sym (plain ∙ ap (λ one. tries_entry one state.agent) here.same_stage
     ∙ ap (tries_entry stage) (same_agent stage before.agents.items world rank h w.agents)) ∙ e
 

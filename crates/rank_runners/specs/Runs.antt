@@ -20,7 +20,14 @@ use Rattle.sync_board.specs.Boards.{BoardState, rows_on}
 
 -- what stands for a rank that is not there
 abbrev pub no_state : Stage → ℕ → RankState
-no_state stage rank = record { stage = stage; agent = new_agent stage 0 rank; touched = []; free = 0; home = [] }
+no_state stage rank = record {
+  stage = stage;
+  agent = new_agent stage 0 rank;
+  touched = [];
+  opened = None;
+  free = 0;
+  home = [];
+}
 
 abbrev pub state_at : Stage → List RankState → ℕ → RankState
 state_at stage states rank = slice_index_or states rank (no_state stage rank)

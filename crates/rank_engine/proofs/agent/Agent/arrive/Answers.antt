@@ -5,10 +5,11 @@ use Rattle.step_runs.specs.Agents.{end_call}
 use Rattle.step_runs.specs.BoardSteps.{arrive, enter}
 use Rattle.rma_types.specs.declared.accesses.Step.TheVariants.{Leave}
 use Rattle.sync_board.specs.Boards.{rows_on}
-use Rattle.rank_engine.proofs.KeptEntries.{keeps_both}
+use Rattle.rank_engine.proofs.KeptEntries.{left_puts, puts_on_err}
 use Rattle.rank_engine.proofs.TwoEntries.{HasArrived, has_arrived, if_ok_then, left_turn, still_closes, still_ready}
 use Rattle.rank_engine.proofs.agent.Agent.arrive.Goals as goal
 use Rattle.rank_engine.specs.Entering.{IsTurn}
+use Rattle.rank_engine.specs.KeptItems.{PutsFirst}
 use Rattle.rank_engine.specs.RankStates.{RankState}
 use Rattle.rank_engine.specs.declared.answers.Turned.{Turned}
 
@@ -64,6 +65,11 @@ returns-clause-entries g c =
     has_arrived c.in_ok-arrived.arrived c.args.self.now c.open.new.self c.args.call.now c.args.board.now
     c.open.new.board
     face between c.requires.ready c.requires.new c.requires.course c.in_ok-arrived.ensures.turn begun in
-    keeps_both c.close.result c.args.self.now.agent.rank c.open.new.self.agent.rank c.args.board.now c.open.new.board
-    c.close.new.board (ap (λ (x : RankState). x.agent.rank) arrived.steps.rank)
-    (arrived.steps.given, arrived.steps.of_rank, arrived.steps.entries) c.close.ensures.entries
+    puts_on_err c.close.result
+    (PutsFirst c.open.new.self.agent.rank (enter c.open.new.self.stage c.open.new.self.agent (rows_on c.open.new.board)
+    c.args.call.now Leave end_call).rows c.open.new.board c.close.new.board)
+    (PutsFirst c.args.self.now.agent.rank (arrive c.args.self.now.stage c.args.self.now.agent
+    (rows_on c.args.board.now) c.args.call.now).rows c.args.board.now c.close.new.board)
+    (left_puts c.args.self.now c.open.new.self c.args.call.now c.args.board.now c.open.new.board c.close.new.board face
+    between arrived)
+    c.close.ensures.entries

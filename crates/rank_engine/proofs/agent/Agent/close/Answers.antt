@@ -1,22 +1,26 @@
 -- The entry that ends a call.
 use Rattle.std.proofs.Common.{◌≡◌, [], ◌∷◌, ◌++◌, false, refl, ap, sym, ◌∙◌, subst}
 use Rattle.std.specs.Prelude.{◌≤◌, ◌+◌}
+use Rattle.list_laws.proofs.Numbers.{OnErr_always}
 use Rattle.rma_record.specs.declared.items.Item.{Item}
 use Rattle.rma_record.specs.declared.items.Item.TheVariants.{Entry}
 use Rattle.cell_face.specs.Faces.{Face}
 use Rattle.rank_rules.specs.Courses.{course_of}
 use Rattle.step_laws.proofs.OwnTests.{windows_allow}
 use Rattle.step_runs.specs.Agents.{end_call}
-use Rattle.step_runs.specs.BoardSteps.{next_row}
+use Rattle.step_runs.specs.BoardSteps.{enter, next_row}
+use Rattle.sync_board.specs.Boards.{rows_on}
 use Rattle.rank_engine.proofs.Asked.{closing_step, may_ask}
 use Rattle.rank_engine.proofs.Ended.{one_longer}
 use Rattle.rank_engine.proofs.EntrySound.{answered_put, closed_sound}
 use Rattle.rank_engine.proofs.EntryParts.{Makes, closing_makes, closing_shape}
 use Rattle.rank_engine.proofs.EntrySound.{closing_windows}
 use Rattle.rank_engine.proofs.EntryTurns.{closed_turn, not_yet_turn, seen_turn, turned_away, with_room}
+use Rattle.rank_engine.proofs.KeptEntries.{puts_one}
 use Rattle.rank_engine.proofs.Passed.{accepted}
 use Rattle.rank_engine.proofs.agent.Agent.close.Goals as goal
 use Rattle.rank_engine.specs.Entering.{IsClosing, IsReady}
+use Rattle.rank_engine.specs.KeptItems.{PutsFirst}
 use Rattle.rank_engine.specs.RankStates.{RankState, state_of}
 use Rattle.rank_engine.specs.declared.answers.Turned.TheVariants.{Did, NotYet}
 
@@ -25,7 +29,7 @@ ask-requires-clause-asked g c =
     let s : RankState = state_of c.self.inside.script.now c.self.inside.layout.now c.self.inside.delay
     c.self.inside.rank (g.L.Keep.kept c.self.inside.log) c.self.inside.windows c.self.inside.epochs
     c.self.inside.queue c.self.inside.at c.self.inside.entered c.self.inside.drawn c.self.inside.draws
-    c.self.inside.ended (g.L.Keep.free c.self.inside.log) (g.L.Keep.home c.self.inside.log) in
+    c.self.inside.ended c.self.inside.opened (g.L.Keep.free c.self.inside.log) (g.L.Keep.home c.self.inside.log) in
     let same : s ≡ c.args.self.now = c.self.view_is in
     let face : Face = g.M.Memory.face c.args.notes.now in
     let ready : IsReady s c.args.call.now c.args.board.now face =
@@ -41,7 +45,7 @@ learn_windows-requires-clause-passed g c =
     let s : RankState = state_of c.self.inside.script.now c.self.inside.layout.now c.self.inside.delay
     c.self.inside.rank (g.L.Keep.kept c.self.inside.log) c.self.inside.windows c.self.inside.epochs
     c.self.inside.queue c.self.inside.at c.self.inside.entered c.self.inside.drawn c.self.inside.draws
-    c.self.inside.ended (g.L.Keep.free c.self.inside.log) (g.L.Keep.home c.self.inside.log) in
+    c.self.inside.ended c.self.inside.opened (g.L.Keep.free c.self.inside.log) (g.L.Keep.home c.self.inside.log) in
     let same : s ≡ c.args.self.now = c.self.view_is in
     let face : Face = g.M.Memory.face c.args.notes.now in
     let ready : IsReady s c.args.call.now c.args.board.now face =
@@ -56,7 +60,7 @@ learn_windows-requires-clause-shape g c =
     let s : RankState = state_of c.self.inside.script.now c.self.inside.layout.now c.self.inside.delay
     c.self.inside.rank (g.L.Keep.kept c.self.inside.log) c.self.inside.windows c.self.inside.epochs
     c.self.inside.queue c.self.inside.at c.self.inside.entered c.self.inside.drawn c.self.inside.draws
-    c.self.inside.ended (g.L.Keep.free c.self.inside.log) (g.L.Keep.home c.self.inside.log) in
+    c.self.inside.ended c.self.inside.opened (g.L.Keep.free c.self.inside.log) (g.L.Keep.home c.self.inside.log) in
     let same : s ≡ c.args.self.now = c.self.view_is in
     let face : Face = g.M.Memory.face c.args.notes.now in
     let ready : IsReady s c.args.call.now c.args.board.now face =
@@ -76,7 +80,7 @@ after-requires-clause-accepted g c =
     let s : RankState = state_of c.self.inside.script.now c.self.inside.layout.now c.self.inside.delay
     c.self.inside.rank (g.L.Keep.kept c.self.inside.log) c.self.inside.windows c.self.inside.epochs
     c.self.inside.queue c.self.inside.at c.self.inside.entered c.self.inside.drawn c.self.inside.draws
-    c.self.inside.ended (g.L.Keep.free c.self.inside.log) (g.L.Keep.home c.self.inside.log) in
+    c.self.inside.ended c.self.inside.opened (g.L.Keep.free c.self.inside.log) (g.L.Keep.home c.self.inside.log) in
     let same : s ≡ c.args.self.now = c.self.view_is in
     let face : Face = g.M.Memory.face c.args.notes.now in
     let ready : IsReady s c.args.call.now c.args.board.now face =
@@ -92,7 +96,7 @@ invariant_of-self-in-Entered g c =
     let s : RankState = state_of c.self.inside.script.now c.self.inside.layout.now c.self.inside.delay
     c.self.inside.rank (g.L.Keep.kept c.self.inside.log) c.self.inside.windows c.self.inside.epochs
     c.self.inside.queue c.self.inside.at c.self.inside.entered c.self.inside.drawn c.self.inside.draws
-    c.self.inside.ended (g.L.Keep.free c.self.inside.log) (g.L.Keep.home c.self.inside.log) in
+    c.self.inside.ended c.self.inside.opened (g.L.Keep.free c.self.inside.log) (g.L.Keep.home c.self.inside.log) in
     let same : s ≡ c.args.self.now = c.self.view_is in
     let face : Face = g.M.Memory.face c.args.notes.now in
     let ready : IsReady s c.args.call.now c.args.board.now face =
@@ -118,13 +122,33 @@ invariant_of-self-in-Entered g c =
           c.self.invariant.1 log,
     )
 
+pub returns-in_err-learn_windows-in-Entered-clause-entries :
+    goal.returns-in_err-learn_windows-in-Entered-clause-entries
+returns-in_err-learn_windows-in-Entered-clause-entries g c =
+    let s : RankState = state_of c.self.inside.script.now c.self.inside.layout.now c.self.inside.delay
+    c.self.inside.rank (g.L.Keep.kept c.self.inside.log) c.self.inside.windows c.self.inside.epochs
+    c.self.inside.queue c.self.inside.at c.self.inside.entered c.self.inside.drawn c.self.inside.draws
+    c.self.inside.ended c.self.inside.opened (g.L.Keep.free c.self.inside.log) (g.L.Keep.home c.self.inside.log) in
+    let same : s ≡ c.args.self.now = c.self.view_is in
+    let face : Face = g.M.Memory.face c.args.notes.now in
+    let face_after : Face = g.M.Memory.face c.ask.new.notes in
+    let ready : IsReady s c.args.call.now c.args.board.now face =
+    subst (λ (x : RankState). IsReady x c.args.call.now c.args.board.now face) (sym same) c.requires.ready in
+    let put = answered_put (next_row s.agent c.args.call.now c.args.step) c.in_ok-place.field-0 c.in-Entered.place
+    c.in-Entered.made c.args.board.now c.ask.new.board face face_after c.in-Entered.is c.in_ok-place.ensures.answer in
+    OnErr_always c.from_residual-in_err-learn_windows-in-Entered.result _
+    (subst (λ (x : RankState). PutsFirst x.agent.rank (enter x.stage x.agent (rows_on c.args.board.now)
+    c.args.call.now c.args.step end_call).rows c.args.board.now c.ask.new.board) same
+    (puts_one s c.args.call.now c.args.step end_call c.in-Entered.place c.args.board.now c.ask.new.board face face_after
+    ready.board_is.ranks put.0))
+
 pub returns-in_ok-learn_windows-in-Entered-clause-turn :
     goal.returns-in_ok-learn_windows-in-Entered-clause-turn
 returns-in_ok-learn_windows-in-Entered-clause-turn g c =
     let s : RankState = state_of c.self.inside.script.now c.self.inside.layout.now c.self.inside.delay
     c.self.inside.rank (g.L.Keep.kept c.self.inside.log) c.self.inside.windows c.self.inside.epochs
     c.self.inside.queue c.self.inside.at c.self.inside.entered c.self.inside.drawn c.self.inside.draws
-    c.self.inside.ended (g.L.Keep.free c.self.inside.log) (g.L.Keep.home c.self.inside.log) in
+    c.self.inside.ended c.self.inside.opened (g.L.Keep.free c.self.inside.log) (g.L.Keep.home c.self.inside.log) in
     let same : s ≡ c.args.self.now = c.self.view_is in
     let face : Face = g.M.Memory.face c.args.notes.now in
     let ready : IsReady s c.args.call.now c.args.board.now face =
@@ -143,7 +167,7 @@ returns-in_ok-learn_windows-in-Entered-clause-turn g c =
     let after : RankState = state_of c.self.inside.script.now c.self.inside.layout.now c.self.inside.delay
     c.self.inside.rank (g.L.Keep.kept c.keep.new.self) c.learn_windows.new.windows c.after.new.self
     c.self.inside.queue (c.self.inside.at + 1) false false c.self.inside.draws
-    c.self.inside.ended (g.L.Keep.free c.keep.new.self) (g.L.Keep.home c.keep.new.self) in
+    c.self.inside.ended c.self.inside.opened (g.L.Keep.free c.keep.new.self) (g.L.Keep.home c.keep.new.self) in
     seen_turn s c.args.self.now after c.args.call.now c.args.step end_call Did 1 c.args.board.now c.ask.new.board face
     face_after same
     (closed_turn s after c.args.call.now c.args.step c.in-Entered.place c.in-Entered.made
@@ -160,7 +184,7 @@ returns-in-NotYetEntered-clause-turn g c =
     let s : RankState = state_of c.self.inside.script.now c.self.inside.layout.now c.self.inside.delay
     c.self.inside.rank (g.L.Keep.kept c.self.inside.log) c.self.inside.windows c.self.inside.epochs
     c.self.inside.queue c.self.inside.at c.self.inside.entered c.self.inside.drawn c.self.inside.draws
-    c.self.inside.ended (g.L.Keep.free c.self.inside.log) (g.L.Keep.home c.self.inside.log) in
+    c.self.inside.ended c.self.inside.opened (g.L.Keep.free c.self.inside.log) (g.L.Keep.home c.self.inside.log) in
     let same : s ≡ c.args.self.now = c.self.view_is in
     let face : Face = g.M.Memory.face c.args.notes.now in
     let ready : IsReady s c.args.call.now c.args.board.now face =
@@ -172,7 +196,7 @@ returns-in-NotYetEntered-clause-turn g c =
     let between : RankState = state_of c.self.inside.script.now c.self.inside.layout.now c.self.inside.delay
     c.self.inside.rank (g.L.Keep.kept c.reserve.new.self) c.self.inside.windows c.self.inside.epochs
     c.self.inside.queue c.self.inside.at c.self.inside.entered c.self.inside.drawn c.self.inside.draws
-    c.self.inside.ended (g.L.Keep.free c.reserve.new.self) (g.L.Keep.home c.reserve.new.self) in
+    c.self.inside.ended c.self.inside.opened (g.L.Keep.free c.reserve.new.self) (g.L.Keep.home c.reserve.new.self) in
     let room : between ≡ s = with_room s (g.L.Keep.kept c.reserve.new.self) (g.L.Keep.free c.reserve.new.self)
     (g.L.Keep.home c.reserve.new.self) c.reserve.ensures.kept c.reserve.ensures.free c.reserve.ensures.home in
     seen_turn s c.args.self.now between c.args.call.now c.args.step end_call NotYet 1 c.args.board.now c.ask.new.board
@@ -187,7 +211,7 @@ returns-in_ok-refuse-in-Refused-clause-turn g c =
     let s : RankState = state_of c.self.inside.script.now c.self.inside.layout.now c.self.inside.delay
     c.self.inside.rank (g.L.Keep.kept c.self.inside.log) c.self.inside.windows c.self.inside.epochs
     c.self.inside.queue c.self.inside.at c.self.inside.entered c.self.inside.drawn c.self.inside.draws
-    c.self.inside.ended (g.L.Keep.free c.self.inside.log) (g.L.Keep.home c.self.inside.log) in
+    c.self.inside.ended c.self.inside.opened (g.L.Keep.free c.self.inside.log) (g.L.Keep.home c.self.inside.log) in
     let same : s ≡ c.args.self.now = c.self.view_is in
     let face : Face = g.M.Memory.face c.args.notes.now in
     let ready : IsReady s c.args.call.now c.args.board.now face =
@@ -199,7 +223,7 @@ returns-in_ok-refuse-in-Refused-clause-turn g c =
     let between : RankState = state_of c.self.inside.script.now c.self.inside.layout.now c.self.inside.delay
     c.self.inside.rank (g.L.Keep.kept c.reserve.new.self) c.self.inside.windows c.self.inside.epochs
     c.self.inside.queue c.self.inside.at c.self.inside.entered c.self.inside.drawn c.self.inside.draws
-    c.self.inside.ended (g.L.Keep.free c.reserve.new.self) (g.L.Keep.home c.reserve.new.self) in
+    c.self.inside.ended c.self.inside.opened (g.L.Keep.free c.reserve.new.self) (g.L.Keep.home c.reserve.new.self) in
     let room : between ≡ s = with_room s (g.L.Keep.kept c.reserve.new.self) (g.L.Keep.free c.reserve.new.self)
     (g.L.Keep.home c.reserve.new.self) c.reserve.ensures.kept c.reserve.ensures.free c.reserve.ensures.home in
     seen_turn s c.args.self.now c.refuse.new.self c.args.call.now c.args.step end_call Did 1 c.args.board.now

@@ -9,13 +9,14 @@ use Rattle.rank_engine.proofs.agent.Agent.deliver.Goals as goal
 use Rattle.rank_engine.specs.DataAnswers.{HasRoom}
 use Rattle.rank_engine.specs.Moves.{IsFirst}
 use Rattle.rank_engine.specs.RankStates.{RankState, state_of, queue_of}
+use Rattle.rank_engine.specs.Sound.{IsSound}
 
 pub deliver-requires-clause-deliverable : goal.deliver-requires-clause-deliverable
 deliver-requires-clause-deliverable g c =
     let at : RankState = state_of c.self.inside.script.now c.self.inside.layout.now c.self.inside.delay
     c.self.inside.rank (g.L.Keep.kept c.self.inside.log) c.self.inside.windows c.self.inside.epochs
     c.self.inside.queue c.self.inside.at c.self.inside.entered c.self.inside.drawn c.self.inside.draws
-    c.self.inside.ended (g.L.Keep.free c.self.inside.log) (g.L.Keep.home c.self.inside.log) in
+    c.self.inside.ended c.self.inside.opened (g.L.Keep.free c.self.inside.log) (g.L.Keep.home c.self.inside.log) in
     let same : at ≡ c.args.self.now = c.self.view_is in
     let calls : calls_at at.stage at.agent.rank ≡ c.calls-calls.result.now =
     ap (λ (s : RankState). calls_at s.stage s.agent.rank) same ∙ sym c.calls-calls.ensures.calls in
@@ -37,11 +38,16 @@ invariant_of-self-2 g c =
     let at : RankState = state_of c.self.inside.script.now c.self.inside.layout.now c.self.inside.delay
     c.self.inside.rank (g.L.Keep.kept c.self.inside.log) c.self.inside.windows c.self.inside.epochs
     c.self.inside.queue c.self.inside.at c.self.inside.entered c.self.inside.drawn c.self.inside.draws
-    c.self.inside.ended (g.L.Keep.free c.self.inside.log) (g.L.Keep.home c.self.inside.log) in
+    c.self.inside.ended c.self.inside.opened (g.L.Keep.free c.self.inside.log) (g.L.Keep.home c.self.inside.log) in
     let same : at ≡ c.args.self.now = c.self.view_is in
     let calls : c.calls-calls.result.now ≡ calls_at at.stage at.agent.rank =
     c.calls-calls.ensures.calls ∙ sym (ap (λ (s : RankState). calls_at s.stage s.agent.rank) same) in (
-      delivered_sound at c.deliver.new.self c.args.at c.in_ok-delivery.delivery.done (g.L.Keep.kept c.deliver.new.log)
+      subst (λ o. IsSound (state_of c.self.inside.script.now c.self.inside.layout.now c.self.inside.delay
+          c.self.inside.rank (g.L.Keep.kept c.deliver.new.log) c.self.inside.windows c.self.inside.epochs
+          c.deliver.new.self c.self.inside.at c.self.inside.entered c.self.inside.drawn c.self.inside.draws
+          c.self.inside.ended o (g.L.Keep.free c.deliver.new.log) (g.L.Keep.home c.deliver.new.log)))
+          (sym c.opened_after-self-inside.ensures)
+          (delivered_sound at c.deliver.new.self c.args.at c.in_ok-delivery.delivery.done (g.L.Keep.kept c.deliver.new.log)
           (g.M.Memory.face c.args.mem.now) (g.M.Memory.face c.deliver.new.mem) (g.M.Memory.knows c.deliver.new.mem) _ _
           c.self.invariant.0
           (subst (λ (l : List Call). Delivers c.self.inside.queue c.deliver.new.self c.args.at
@@ -50,7 +56,8 @@ invariant_of-self-2 g c =
           (g.M.Memory.knows c.deliver.new.mem) (g.L.Keep.kept c.self.inside.log) (g.L.Keep.kept c.deliver.new.log))
           calls
           c.in_ok-delivery.ensures.delivered)
-          (subst (λ (s : RankState). IsFirst s.agent.pending c.args.at) (sym same) c.requires.first).0,
+          (subst (λ (s : RankState). IsFirst s.agent.pending c.args.at) (sym same) c.requires.first)
+          (subst (λ (s : RankState). IfSome s.opened (λ place. place ≡ c.args.at)) (sym same) c.requires.alone)),
       ap (λ n. n + c.in_ok-delivery.delivery.touches) c.self.invariant.1 ∙ sym c.in_ok-delivery.ensures.count,
     )
 
@@ -63,7 +70,7 @@ returns-clause-whole g c =
     let at : RankState = state_of c.self.inside.script.now c.self.inside.layout.now c.self.inside.delay
     c.self.inside.rank (g.L.Keep.kept c.self.inside.log) c.self.inside.windows c.self.inside.epochs
     c.self.inside.queue c.self.inside.at c.self.inside.entered c.self.inside.drawn c.self.inside.draws
-    c.self.inside.ended (g.L.Keep.free c.self.inside.log) (g.L.Keep.home c.self.inside.log) in
+    c.self.inside.ended c.self.inside.opened (g.L.Keep.free c.self.inside.log) (g.L.Keep.home c.self.inside.log) in
     let same : at ≡ c.args.self.now = c.self.view_is in
     let calls : c.calls-calls.result.now ≡ calls_at at.stage at.agent.rank =
     c.calls-calls.ensures.calls ∙ sym (ap (λ (s : RankState). calls_at s.stage s.agent.rank) same) in

@@ -29,7 +29,7 @@ ask-requires-clause-asked g c =
     let s : RankState = state_of c.self.inside.script.now c.self.inside.layout.now c.self.inside.delay
     c.self.inside.rank (g.L.Keep.kept c.self.inside.log) c.self.inside.windows c.self.inside.epochs
     c.self.inside.queue c.self.inside.at c.self.inside.entered c.self.inside.drawn c.self.inside.draws
-    c.self.inside.ended (g.L.Keep.free c.self.inside.log) (g.L.Keep.home c.self.inside.log) in
+    c.self.inside.ended c.self.inside.opened (g.L.Keep.free c.self.inside.log) (g.L.Keep.home c.self.inside.log) in
     let same : s ≡ c.args.self.now = c.self.view_is in
     may_ask s c.args.call.now c.args.step c.args.board.now (g.M.Memory.face c.args.notes.now) c.self.invariant.0
     (subst (λ (x : RankState). IsReady x c.args.call.now c.args.board.now (g.M.Memory.face c.args.notes.now)) (sym same)
@@ -43,7 +43,7 @@ invariant_of-self-in-Entered g c =
     let s : RankState = state_of c.self.inside.script.now c.self.inside.layout.now c.self.inside.delay
     c.self.inside.rank (g.L.Keep.kept c.self.inside.log) c.self.inside.windows c.self.inside.epochs
     c.self.inside.queue c.self.inside.at c.self.inside.entered c.self.inside.drawn c.self.inside.draws
-    c.self.inside.ended (g.L.Keep.free c.self.inside.log) (g.L.Keep.home c.self.inside.log) in
+    c.self.inside.ended c.self.inside.opened (g.L.Keep.free c.self.inside.log) (g.L.Keep.home c.self.inside.log) in
     let same : s ≡ c.args.self.now = c.self.view_is in
     let item : Item = Entry c.self.inside.at c.in-Entered.place c.args.step in
     let log : g.L.Keep.kept c.keep.new.self ≡ g.L.Keep.kept c.self.inside.log ++ item ∷ [] =
@@ -70,7 +70,7 @@ returns-clause-turn g c =
     let s : RankState = state_of c.self.inside.script.now c.self.inside.layout.now c.self.inside.delay
     c.self.inside.rank (g.L.Keep.kept c.self.inside.log) c.self.inside.windows c.self.inside.epochs
     c.self.inside.queue c.self.inside.at c.self.inside.entered c.self.inside.drawn c.self.inside.draws
-    c.self.inside.ended (g.L.Keep.free c.self.inside.log) (g.L.Keep.home c.self.inside.log) in
+    c.self.inside.ended c.self.inside.opened (g.L.Keep.free c.self.inside.log) (g.L.Keep.home c.self.inside.log) in
     let same : s ≡ c.args.self.now = c.self.view_is in
     let face : Face = g.M.Memory.face c.args.notes.now in
     let face_after : Face = g.M.Memory.face c.ask.new.notes in
@@ -82,7 +82,7 @@ returns-clause-turn g c =
     let between : RankState = state_of c.self.inside.script.now c.self.inside.layout.now c.self.inside.delay
     c.self.inside.rank (g.L.Keep.kept c.reserve.new.self) c.self.inside.windows c.self.inside.epochs
     c.self.inside.queue c.self.inside.at c.self.inside.entered c.self.inside.drawn c.self.inside.draws
-    c.self.inside.ended (g.L.Keep.free c.reserve.new.self) (g.L.Keep.home c.reserve.new.self) in
+    c.self.inside.ended c.self.inside.opened (g.L.Keep.free c.reserve.new.self) (g.L.Keep.home c.reserve.new.self) in
     let room : between ≡ s = with_room s (g.L.Keep.kept c.reserve.new.self) (g.L.Keep.free c.reserve.new.self)
     (g.L.Keep.home c.reserve.new.self) c.reserve.ensures.kept c.reserve.ensures.free c.reserve.ensures.home in
     let to : AtBoard = enter c.args.self.now.stage c.args.self.now.agent (rows_on c.args.board.now) c.args.call.now
@@ -127,6 +127,6 @@ returns-clause-turn g c =
           w.in-Refused.class w.in-Refused.seen c.args.board.now c.ask.new.board face face_after ready
           c.in_ok-place.ensures.handed w.in-Refused.is c.in_ok-place.ensures.answer room
           (subst (λ (x : RankState). IsMove between x (without_delivery (with_item between.stage between.agent
-          (Refused between.agent.at w.in-Refused.class w.in-Refused.seen))) None) (sym w.self-is)
+          (Refused between.agent.at w.in-Refused.class w.in-Refused.seen)))) (sym w.self-is)
           w.in_ok-refuse-in-Refused.ensures.moved)))
     ]

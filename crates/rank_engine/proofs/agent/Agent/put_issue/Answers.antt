@@ -6,13 +6,14 @@ use Rattle.rank_rules.specs.Requests.{is_live_request}
 use Rattle.rank_engine.proofs.Issued.{issue_sound}
 use Rattle.rank_engine.proofs.Passed.{accepted, request_free, request_small}
 use Rattle.rank_engine.proofs.agent.Agent.put_issue.Goals as goal
-use Rattle.rank_engine.specs.RankStates.{RankState, is_at_hand, state_of}
+use Rattle.rank_engine.specs.Moves.{place_now}
+use Rattle.rank_engine.specs.RankStates.{RankState, state_of}
 use Rattle.rank_engine.specs.Sound.{IsLookedUp}
 use Rattle.rank_engine.proofs.Ended.{one_longer}
 use Rattle.rma_types.specs.declared.calls.Call.{Call}
 use Rattle.rma_record.specs.declared.items.Item.{Item}
 use Rattle.rma_record.specs.declared.items.Item.TheVariants.{Issue}
-use Rattle.call_rules.specs.Actions.{transfer_of}
+use Rattle.rma_types.specs.Actions.{transfer_of}
 use Rattle.delivery_queue.specs.Queues.{Queue, issued}
 use Rattle.rank_rules.specs.Courses.{access_of}
 use Rattle.rank_rules.specs.declared.pending.PendingAccess.{PendingAccess}
@@ -52,20 +53,21 @@ invariant_of-self-2 g c =
     let at : RankState = state_of c.self.inside.script.now c.self.inside.layout.now c.self.inside.delay
     c.self.inside.rank (g.L.Keep.kept c.self.inside.log) c.self.inside.windows c.self.inside.epochs
     c.self.inside.queue c.self.inside.at c.self.inside.entered c.self.inside.drawn c.self.inside.draws
-    c.self.inside.ended (g.L.Keep.free c.self.inside.log) (g.L.Keep.home c.self.inside.log) in
+    c.self.inside.ended c.self.inside.opened (g.L.Keep.free c.self.inside.log) (g.L.Keep.home c.self.inside.log) in
     let same : at ≡ c.args.self.now = c.self.view_is in
     let call : Call = c.args.call.now in
     let item : Item = Issue c.self.inside.at c.args.access in
     let log = c.keep.ensures.kept ∙ ap (λ l. l ++ item ∷ []) c.reserve.ensures.kept in
     let added = c.in_ok-issue.ensures.added in
     let one : PendingAccess = issued c.self.inside.at c.self.inside.kept c.args.access c.does_fetch.result in (
-      issue_sound at call c.args.access one _ _ _ _ _ _ _ _ _ _ _ c.self.invariant.0 c.requires.written
+      issue_sound at call c.args.access one _ _ _ _ _ _ _ _ _ _ _ _ c.self.invariant.0 c.requires.written
           (ap (λ (s : RankState). next_call s.stage s.agent) same ∙ c.requires.call)
           (ap (λ (s : RankState). access_of s.agent.known.windows call) same ∙ c.requires.access)
           (subst (λ (s : RankState). IfSome (transfer_of call) (IsLookedUp s.stage.layout s.agent.known.windows))
           (sym same)
           c.requires.lies)
-          (ap is_at_hand same ∙ c.requires.none_at_hand) refl refl log (ap (λ (q : Queue). q.pending) added)
-          (ap (λ (q : Queue). q.touched) added),
+          (ap (λ (s : RankState). s.opened) same ∙ c.requires.closed) refl refl log (ap (λ (q : Queue). q.pending) added)
+          (ap (λ (q : Queue). q.touched) added)
+          (c.place_now-opened.ensures ∙ ap (λ (s : RankState). place_now s c.args.access) (sym same)),
       one_longer _ _ item _ c.self.invariant.1 log,
     )

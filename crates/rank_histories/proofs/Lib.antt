@@ -1,0 +1,14 @@
+-- The proofs.
+pub mod Touched
+pub mod Parts
+pub mod Going
+pub mod KeptEvents
+pub mod Gained
+pub mod Looking
+pub mod KeptSteps
+pub mod Restored
+pub mod Recording
+pub mod Closing
+pub mod Assembly
+pub mod Stopping
+pub mod ClosedCells
