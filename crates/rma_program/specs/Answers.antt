@@ -8,7 +8,7 @@ use Rattle.lawful_runs.specs.LawfulRun.{IsLawful}
 use Rattle.step_runs.specs.StepRun.{step_run}
 use Rattle.order_rules.specs.Findings.{AreFindings}
 use Rattle.order_rules.specs.OrderedReads.{TouchesAgree}
-use Rattle.run_judge.specs.Judgements.{AreReadsOrderedIfNone}
+use Rattle.conflict_check.specs.Judgements.{AreReadsOrderedIfNone}
 use Rattle.run_texts.specs.declared.modes.Mode.TheVariants.{Step}
 use Rattle.run_texts.specs.Report.{report}
 use Rattle.run_texts.specs.Status.{status}

@@ -21,7 +21,7 @@ use Rattle.order_rules.specs.Findings.{AreFindings}
 use Rattle.order_rules.specs.OrderedReads.{updates_of}
 use Rattle.refusal_laws.specs.RefusalLaws.{RefusalsChangeNothing}
 use Rattle.rma_streams.specs.Moves.{Wrote, WrotePrefix}
-use Rattle.run_judge.specs.Judgements.{AreReadsOrderedIfNone}
+use Rattle.conflict_check.specs.Judgements.{AreReadsOrderedIfNone}
 use Rattle.command_words.specs.declared.options.Options.{Options}
 use Rattle.rma_program.specs.Answers.{IsRunOf, ReadsAs, report_on}
 

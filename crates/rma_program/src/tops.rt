@@ -25,13 +25,13 @@ use crate::outcomes::{
 };
 use crate::outputs::{NoText, write_fault, write_report, write_usage};
 use command_words::{Options, WordsFault, read_words};
+use conflict_check::judge;
 use order_laws::order_of_a_run;
 use rank_runners::run_steps;
 use refusal_laws::refused_calls_change_nothing;
 use rma_record::Run;
 use rma_streams::{Sink, Source};
 use rma_types::{Finding, Gate, NoMemory, Script};
-use run_judge::judge;
 use run_report::status_of;
 use script_reader::Fault;
 use std::alloc::Global;

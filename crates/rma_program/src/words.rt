@@ -1,11 +1,12 @@
 //! The words of the command line, as the system gives them.
-ghost use Rattle.std.specs.Prelude.{◌≡◌, Ok, Err, None, drop, IfOk, IfErr, MatchResult};
+ghost use Rattle.std.specs.Prelude.{◌≡◌, ◌≢◌, Ok, Err, None, drop, IfOk, IfErr, MatchResult};
 ghost use Rattle.std.specs.IoError.{error_kind};
 ghost use Rattle.std.specs.Vec.Iter.{into_iter_items};
+ghost use Rattle.rma_streams.specs.Faults.{Rose};
 ghost use Rattle.rma_program.specs.Words.{why_no_words};
 ghost use Rattle.rma_program.specs.Tops.{EndsUsage};
 
-use crate::outcomes::{OUT_OF_MEMORY, Outcome};
+use crate::outcomes::{OUT_OF_MEMORY, Outcome, WRITE_FAILED};
 use crate::tops::refuse_words;
 use rma_streams::Sink;
 use std::alloc::{AllocError, Global};
@@ -54,6 +55,10 @@ pub fn end_without_words<K: Sink>(why: NoWords, sink: &mut K) -> Outcome
         (K.written sink.new) result }
     ensures no_memory { why ≡ NoWords.NoMemory
         → (result ≡ record { status = OUT_OF_MEMORY; run = None }) × (sink.new ≡ sink.old) }
+
+    // The count of faults rises exactly where the status says so.
+    ensures failed { result.status ≡ WRITE_FAILED → Rose (K.faults sink.old) (K.faults sink.new) }
+    ensures no_fault { result.status ≢ WRITE_FAILED → K.faults sink.new ≡ K.faults sink.old }
 {
     match why {
         NoWords::NoText => refuse_words(sink),

@@ -1,5 +1,5 @@
 -- Bytes that move in several steps.
-use Rattle.std.proofs.Common.{◌≡◌, ℕ, ◌+◌, ◌-◌, ◌≤◌, Option, Some, None, Result, Ok, Err, OnErr, List, ◌++◌, length}
+use Rattle.std.proofs.Common.{◌≡◌, ℕ, ◌+◌, ◌-◌, ◌≤◌, Option, Some, None, List, ◌++◌, length}
 use Rattle.std.proofs.Common.{take, drop, sym, ap, ◌∙◌, subst, arith, append_assoc}
 use Rattle.std.specs.Option.{option_map}
 use Rattle.std.proofs.Math.Seq.{take-append_seam, take-add}
@@ -46,8 +46,3 @@ Wrote-more old mid new bytes done n wrote then =
     ap (λ (xs : List ℕ). take done bytes ++ take n xs) (take_rest bytes done) ∙ sym (take-add done n bytes) in
     subst (λ (xs : List ℕ). Wrote old xs new) whole
     (Wrote-append old (take done bytes) mid (take n (take (length bytes - done) (drop done bytes))) new wrote then)
-
--- a fact that holds holds after an error
-pub OnErr_always : {T E : Type 0} (r : Result T E) (P : Type 0) → P → OnErr r P
-OnErr_always (Ok x) P p = tt
-OnErr_always (Err e) P p = p

@@ -37,6 +37,7 @@ mod plans;
 mod safe_streams;
 mod std_streams;
 mod streams;
+mod system_calls;
 mod wholes;
 
 pub use memory_sinks::MemorySink;

@@ -3,56 +3,22 @@ ghost use Rattle.std.specs.Prelude.{◌≡◌, ◌≤◌, ◌<◌, length, IfOk,
 ghost use Rattle.std.specs.Io.KnownBytes.{ReadConsumes, WriteAppends};
 ghost use Rattle.rma_streams.specs.Ends.{unread, after_read};
 ghost use Rattle.rma_streams.specs.Faults.{Rose, counted};
+ghost use Rattle.rma_streams.specs.System.{HasGivenUp};
 
 use crate::ends::EndMark;
 use crate::streams::{Failed, Sink, Source};
-use std::io::{ErrorKind, Read, Write};
+use crate::system_calls::Calls;
+use std::io::{Read, Write};
 use std::marker::Model;
-
-/// The most calls of the system for one read or one write: it is tried again after a signal interrupted it
-/// (EINTR), at most 64 times.
-const MOST_CALLS: u32 = 65;
-
-/// Reads, and again where the call was interrupted.
-fn read_again<R: Read>(reader: &mut R, buf: &mut [u8]) -> Result<usize, Failed>
-    ensures within { IfOk result (λ n. n ≤ length buf.new) }
-    ensures moved { ReadConsumes (R.remaining reader.old) (R.remaining reader.new) result buf.new }
-{
-    'calls: for _ in 0..MOST_CALLS {
-        match reader.read(buf) {
-            Ok(count) => return Ok(count),
-            Err(error) if error.kind() == ErrorKind::Interrupted => {}
-            Err(_) => return Err(Failed),
-        }
-    }
-    Err(Failed)
-}
-
-/// Writes, and again where the call was interrupted. A write of no byte of a piece that is not empty failed.
-fn write_again<W: Write>(writer: &mut W, bytes: &[u8]) -> Result<usize, Failed>
-    ensures within { IfOk result (λ n. n ≤ length bytes.now) }
-    ensures some { IfOk result (λ n. 0 < length bytes.now → 0 < n) }
-    ensures appended { WriteAppends (W.contents writer.old)
-        (W.contents writer.new) result bytes.now }
-{
-    'calls: for _ in 0..MOST_CALLS {
-        match writer.write(bytes) {
-            Ok(count) if count > 0 || bytes.is_empty() => return Ok(count),
-            Err(error) if error.kind() == ErrorKind::Interrupted => {}
-            _ => return Err(Failed),
-        }
-    }
-    Err(Failed)
-}
 
 /// A source over a reader of the system, as standard input. It tells no bytes.
 ///
 /// Contracts see the reader, the count of faults, which rises at each read that fails and stands still at
-/// 2^64 - 1, and the end as it was told. What the reader knows of its bytes is said of it, and stays out of the
-/// meaning as a `Source`.
+/// 2^64 - 1, the end as it was told, and what the system said to the calls for the last read. What the reader knows of
+/// its bytes is said of it, and stays out of the meaning as a `Source`.
 #[derive(Debug, Drop)]
 pub struct StdSource<R> {
-    reader: R,
+    calls: Calls<R>,
     faults: u64,
     end: EndMark,
 }
@@ -62,7 +28,12 @@ impl<R> Model for StdSource<R> {
 
     ghost Value = { SystemInput R };
 
-    ghost view = { λ source. record { stream = source.reader; faults = source.faults; end = source.end } };
+    ghost view = { λ source. record {
+      stream = source.calls.stream;
+      faults = source.faults;
+      end = source.end;
+      tried = source.calls.tried;
+    } };
 }
 
 impl<R: Read> StdSource<R> {
@@ -73,7 +44,7 @@ impl<R: Read> StdSource<R> {
         ensures end { result.end ≡ unread }
     {
         StdSource {
-            reader,
+            calls: Calls::new(reader),
             faults: 0,
             end: EndMark::new(),
         }
@@ -97,14 +68,15 @@ impl<R: Read> Source for StdSource<R> {
             (R.remaining self.new.stream) result buf.new }
         ensures told { self.new.end ≡ after_read self.old.end (length buf.new) result }
 
-        // Each failure is one fault.
+        // It fails where the system said so, or interrupted 65 calls. Each failure is one fault.
+        ensures given_up { OnErr result (HasGivenUp self.new.tried) }
         ensures no_fault { OnOk result (self.new.faults ≡ self.old.faults) }
         ensures fault { OnErr result (self.new.faults ≡ counted self.old.faults) }
         ensures rose { OnErr result (Rose self.old.faults self.new.faults) }
         ensures never_falls { self.old.faults ≤ self.new.faults }
     {
         let room = buf.len();
-        let answer = read_again(&mut self.reader, buf);
+        let answer = self.calls.read(buf);
         self.end.note(room, answer);
         if answer.is_err() {
             self.faults = self.faults.saturating_add(1);
@@ -115,20 +87,24 @@ impl<R: Read> Source for StdSource<R> {
 
 /// A sink over a writer of the system, as standard output. It tells no bytes.
 ///
-/// Contracts see the writer and the count of faults, which rises at each write that fails, or that takes no
-/// byte of a piece that is not empty, and stands still at 2^64 - 1.
+/// Contracts see the writer, the count of faults, which rises at each write that fails, or that takes no byte of a piece
+/// that is not empty, and stands still at 2^64 - 1, and what the system said to the calls for the last write.
 #[derive(Debug, Drop)]
 pub struct StdSink<W> {
-    writer: W,
+    calls: Calls<W>,
     faults: u64,
 }
 
 impl<W> Model for StdSink<W> {
-    ghost use Rattle.rma_streams.specs.System.{SystemStream};
+    ghost use Rattle.rma_streams.specs.System.{SystemOutput};
 
-    ghost Value = { SystemStream W };
+    ghost Value = { SystemOutput W };
 
-    ghost view = { λ sink. record { stream = sink.writer; faults = sink.faults } };
+    ghost view = { λ sink. record {
+      stream = sink.calls.stream;
+      faults = sink.faults;
+      tried = sink.calls.tried;
+    } };
 }
 
 impl<W: Write> StdSink<W> {
@@ -137,7 +113,10 @@ impl<W: Write> StdSink<W> {
         ensures stream { result.stream ≡ writer }
         ensures faults { result.faults ≡ 0 }
     {
-        StdSink { writer, faults: 0 }
+        StdSink {
+            calls: Calls::new(writer),
+            faults: 0,
+        }
     }
 }
 
@@ -156,13 +135,14 @@ impl<W: Write> Sink for StdSink<W> {
         ensures appended { WriteAppends (W.contents self.old.stream)
             (W.contents self.new.stream) result bytes.now }
 
-        // Each failure is one fault.
+        // It fails where the system said so, or interrupted 65 calls. Each failure is one fault.
+        ensures given_up { OnErr result (HasGivenUp self.new.tried) }
         ensures no_fault { OnOk result (self.new.faults ≡ self.old.faults) }
         ensures fault { OnErr result (self.new.faults ≡ counted self.old.faults) }
         ensures rose { OnErr result (Rose self.old.faults self.new.faults) }
         ensures never_falls { self.old.faults ≤ self.new.faults }
     {
-        let answer = write_again(&mut self.writer, bytes);
+        let answer = self.calls.write(bytes);
         if answer.is_err() {
             self.faults = self.faults.saturating_add(1);
         }

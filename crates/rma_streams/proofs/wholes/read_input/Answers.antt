@@ -1,6 +1,7 @@
 use Rattle.std.proofs.Common.{◌++◌, take}
+use Rattle.list_laws.proofs.Numbers.{OnErr_always}
 use Rattle.rma_streams.specs.Moves.{TookSome}
-use Rattle.rma_streams.proofs.MoveLemmas.{Took-append, OnErr_always}
+use Rattle.rma_streams.proofs.MoveLemmas.{Took-append}
 use Rattle.rma_streams.proofs.wholes.read_input.Goals as goal
 
 pub returns-in_err-extend_from_slice-clause-lost :

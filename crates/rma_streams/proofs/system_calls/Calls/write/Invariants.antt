@@ -1,0 +1,10 @@
+use Rattle.std.specs.Prelude.{◌≡◌, false}
+use Rattle.std.specs.Io.KnownBytes.{Keeps}
+use Rattle.rma_streams.proofs.system_calls.Calls.write.Given as goal
+
+-- all calls so far were interrupted, and wrote nothing
+abbrev pub invariant-calls : goal.invariant-calls
+invariant-calls g l = record {
+  kept : Keeps (g.W.Write.contents l.initial.self.stream) (g.W.Write.contents l.self.stream);
+  tried : l.self.tried ≡ record { interrupted = l.counter; failed = false };
+}
