@@ -28,3 +28,4 @@ pub mod BegunSteps
 pub mod LookUps
 pub mod MadeShapes
 pub mod BoardSteps
+pub mod KindCases

@@ -8,7 +8,6 @@ use Rattle.std.proofs.lemmas.List.{length-append, map-append}
 use Rattle.std.proofs.lemmas.List.Elements.{filter-append}
 use Rattle.list_laws.proofs.Tests.{all_alike}
 use Rattle.rma_types.specs.declared.calls.Call.{Call}
-use Rattle.rma_types.specs.declared.calls.Call.TheVariants.{Barrier as BarrierCall}
 use Rattle.rma_types.specs.declared.actions.Action.{Action}
 use Rattle.rma_types.specs.declared.actions.Action.TheVariants.{Synchronises, Meets}
 use Rattle.rma_types.specs.declared.actions.Synchronisation.TheVariants.{Fences}
@@ -33,12 +32,12 @@ pub window_zero : (rows : List Row) (row : Row) → is_collective Barrier row.ca
 window_zero rows row e = ap (λ o. option_map_or (λ win. window_number (round_of rows row win) win) o 0)
     (no_window (action_of row.call) e)
 
-met_at : (q : Question) (rows : List Row) (k : ℕ) → q.call ≡ BarrierCall → q.window ≡ 0 → q.entries ≡ acts rows →
+met_at : (q : Question) (rows : List Row) (k : ℕ) → action_of q.call ≡ Meets → q.window ≡ 0 → q.entries ≡ acts rows →
     arrivals_of q k ≡ arrivals (acts rows) Barrier k 0
 met_at q rows k call window entries = rw (call, window, entries) refl
 
 pub all_met : (q : Question) (rows : List Row) (rank ranks : ℕ) → q.rank ≡ rank → q.ranks ≡ ranks →
-    q.call ≡ BarrierCall → q.window ≡ 0 → q.entries ≡ acts rows →
+    action_of q.call ≡ Meets → q.window ≡ 0 → q.entries ≡ acts rows →
     all_arrived q ≡ list_all (λ k. leb (length (arrivals (acts rows) Barrier rank 0))
     (length (arrivals (acts rows) Barrier k 0))) (numbers_from 0 ranks)
 all_met q rows rank ranks asker all call window entries =

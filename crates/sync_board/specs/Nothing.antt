@@ -1,5 +1,5 @@
 -- The entries that leave what is kept of a window as it is.
-use Rattle.std.specs.Prelude.{Bool, true, false}
+use Rattle.std.specs.Prelude.{Bool, true, false, is_some}
 use Rattle.rma_types.specs.declared.accesses.Step.{Step}
 use Rattle.rma_types.specs.declared.accesses.Step.TheVariants.{Arrive, Leave, One}
 use Rattle.rma_types.specs.declared.actions.Action.{Action}
@@ -8,17 +8,7 @@ use Rattle.rma_types.specs.declared.actions.Action.TheVariants.{Moves, EndsReque
 use Rattle.rma_types.specs.declared.actions.Synchronisation.{Synchronisation}
 use Rattle.rma_types.specs.declared.actions.Synchronisation.TheVariants.{Fences, Posts, Starts, Completes, Waits, Locks}
 use Rattle.rma_types.specs.declared.actions.Synchronisation.TheVariants.{Unlocks, Flushes, Syncs}
-
-abbrev pub is_fence : Synchronisation → Bool
-is_fence (Fences asserts) = true
-is_fence (Posts group asserts) = false
-is_fence (Starts group asserts) = false
-is_fence Completes = false
-is_fence (Waits tests) = false
-is_fence (Locks kind target asserts) = false
-is_fence (Unlocks target) = false
-is_fence (Flushes target local) = false
-is_fence Syncs = false
+use Rattle.board_rules.specs.Entries.{fence_or_none}
 
 -- a flush or a sync
 abbrev pub is_flush : Synchronisation → Bool
@@ -47,7 +37,7 @@ brings_nothing Leave (Creates creation) = true
 brings_nothing Leave (Frees win) = false
 brings_nothing Leave (Attaches win base bytes) = false
 brings_nothing Leave (Detaches win base) = false
-brings_nothing Leave (Synchronises win s) = is_fence s
+brings_nothing Leave (Synchronises win s) = is_some (fence_or_none s)
 brings_nothing Leave Meets = true
 brings_nothing Leave (Moves transfer) = false
 brings_nothing Leave (EndsRequest req) = false

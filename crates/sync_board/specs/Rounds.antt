@@ -9,7 +9,7 @@ use Rattle.rma_types.specs.Actions.{creation_of, synchronisation_of}
 use Rattle.board_rules.specs.Rounds.{asserts_of_fence}
 use Rattle.sync_board.specs.Sides.{Done}
 use Rattle.board_rules.specs.Entries.{Collective, Creation as CreationCollective, Freeing as FreeingCollective}
-use Rattle.board_rules.specs.Entries.{Fence as FenceCollective}
+use Rattle.board_rules.specs.Entries.{Fence as FenceCollective, Barrier as BarrierCollective}
 use Rattle.sync_board.specs.declared.rounds.Kind.{Kind}
 use Rattle.sync_board.specs.declared.rounds.Kind.TheVariants.{Creation as CreationKind, Freeing as FreeingKind}
 use Rattle.sync_board.specs.declared.rounds.Kind.TheVariants.{Fence as FenceKind}
@@ -50,6 +50,13 @@ abbrev pub collective_by : Kind → Collective
 collective_by CreationKind = CreationCollective
 collective_by FreeingKind = FreeingCollective
 collective_by FenceKind = FenceCollective
+
+-- the kind of a collective call on a window; a barrier is on none
+abbrev pub kind_by : Collective → Option Kind
+kind_by CreationCollective = Some CreationKind
+kind_by FreeingCollective = Some FreeingKind
+kind_by FenceCollective = Some FenceKind
+kind_by BarrierCollective = None
 
 -- the arrivals at the collective calls of a kind
 abbrev pub arrivals_by : Kind → Done → List Call

@@ -1,11 +1,10 @@
 //! A next entry, as it is asked.
 ghost use Rattle.std.specs.Prelude.{◌≡◌, ◌<◌, ◌≤◌, true};
-ghost use Rattle.rma_types.specs.Actions.{target_of};
 ghost use Rattle.call_rules.specs.Ranks.{is_rank, natural as natural_of};
 ghost use Rattle.call_rules.specs.Transfers.{rank_reached};
 
 use crate::truths::natural;
-use rma_types::{Call, Class, Step};
+use rma_types::{Call, Class, Step, Target};
 
 /// A next entry: its rank among so many, the number of its call in the rank's list, its call and step, and the name,
 /// the round and the number of the window that it is on. An entry on no window counts as on that of number 0.
@@ -41,11 +40,11 @@ pub(crate) fn rank_of(target: i32, ranks: u8) -> u8
 }
 
 /// The rank whose memory a transfer to the target reaches.
-pub(crate) fn reached(rank: u8, target: Option<i32>) -> usize
-    ensures { result ≡ rank_reached rank (target_of target) }
+pub(crate) fn reached(rank: u8, target: Target) -> usize
+    ensures { result ≡ rank_reached rank target }
 {
     match target {
-        Some(target) => natural(target) as usize,
-        None => rank as usize,
+        Target::Own | Target::Null => rank as usize,
+        Target::Named(target) => natural(target) as usize,
     }
 }

@@ -1,29 +1,61 @@
 //! An entry that is allowed, put to what is kept of its window (MPI 3.1, section 11.5).
-ghost use Rattle.std.specs.Prelude.{◌≡◌, true, OnOk, OnErr};
+ghost use Rattle.std.specs.Prelude.{◌≡◌, ℕ, true, false, is_some, OnOk, OnErr};
 ghost use Rattle.rma_types.specs.declared.accesses.Step.TheVariants.{Arrive, Leave, One};
+ghost use Rattle.rma_types.specs.declared.actions.Action.TheVariants.{Synchronises};
 ghost use Rattle.rma_types.specs.Actions.{action_of};
 ghost use Rattle.rma_types.specs.declared.scripts.Layout.{Layout};
-ghost use Rattle.board_rules.specs.Board.{is_allowed_now};
+ghost use Rattle.rank_rules.specs.EpochTests.{names_wrong_rank};
+ghost use Rattle.board_rules.specs.Board.{is_allowed_now, may_synchronise_now};
+ghost use Rattle.board_rules.specs.Entries.{fence_or_none};
 ghost use Rattle.board_rules.specs.Questions.{Question};
-ghost use Rattle.sync_board.specs.Asked.{IsQuestion, MayBeAsked};
+ghost use Rattle.sync_board.specs.Asked.{IsQuestion, MayBeAsked, MayBeJudged};
 ghost use Rattle.sync_board.specs.Nothing.{brings_nothing};
 ghost use Rattle.sync_board.specs.Windows.{KeepsAfter, KeepsBefore};
 
 use crate::asked::Asked;
 use crate::layouts::KeptLayout;
-use crate::reach::{reach_all, reach_one};
+use crate::reach::reach_of;
 use crate::truths::natural;
 use crate::window_record::WindowRecord;
-use rma_types::{Call, Flavor, Lock, NoMemory, Step};
+use rma_types::{Action, NoMemory, Step, Synchronisation};
 use std::alloc::Global;
 
 impl WindowRecord {
     /// An entry that changes nothing of what is kept.
-    fn pass(&self, asked: &Asked)
-        requires { brings_nothing asked.now.step (action_of asked.now.call.now) ≡ true }
-        ensures { (layout : Layout) (q : Question) → IsQuestion q asked.now →
-            KeepsBefore layout q self.now → KeepsAfter layout q asked.now.number asked.now.step self.now }
+    fn pass(&self)
+        ensures { (layout : Layout) (q : Question) (number : ℕ) (step : Step) →
+            brings_nothing step (action_of q.call) ≡ true →
+            KeepsBefore layout q self.now → KeepsAfter layout q number step self.now }
     {}
+
+    /// The arrival at a synchronisation has come.
+    fn enter_meeting(
+        &mut self,
+        alloc: Global,
+        asked: &Asked,
+        synchronisation: &Synchronisation<'_>,
+    ) -> Result<(), NoMemory>
+        requires { is_some (fence_or_none synchronisation.now) ≡ true }
+        ensures ok { OnOk result ((layout : Layout) (q : Question) (win : ℕ) →
+            IsQuestion q asked.now →
+            action_of q.call ≡ Synchronises win synchronisation.now →
+            KeepsBefore layout q self.old →
+            KeepsAfter layout q asked.now.number Arrive self.new) }
+        ensures err { OnErr result ((layout : Layout) (q : Question) →
+            KeepsBefore layout q self.old → KeepsBefore layout q self.new) }
+    {
+        match synchronisation {
+            Synchronisation::Fences(asserts) => self.fence(alloc, asked.rank, *asserts),
+            Synchronisation::Posts(..)
+            | Synchronisation::Starts(..)
+            | Synchronisation::Completes
+            | Synchronisation::Waits { .. }
+            | Synchronisation::Locks(..)
+            | Synchronisation::Unlocks(_)
+            | Synchronisation::Flushes { .. }
+            | Synchronisation::Syncs => unreachable!(),
+        }
+    }
 
     /// An arrival has come.
     fn enter_arrival(
@@ -40,42 +72,20 @@ impl WindowRecord {
             KeepsBefore layout.now q self.old → KeepsBefore layout.now q self.new) }
     {
         let part = layout.part(asked.rank, asked.number, asked.call);
-        match asked.call {
-            Call::Allocate { .. } => self.create(alloc, asked.rank, Flavor::Allocate, part),
-            Call::Create { .. } => self.create(alloc, asked.rank, Flavor::Create, part),
-            Call::Dynamic { .. } => self.create(alloc, asked.rank, Flavor::Dynamic, part),
-            Call::Free { .. } => self.free(alloc, asked.rank),
-            Call::Fence { asserts, .. } => self.fence(alloc, asked.rank, *asserts),
-            Call::Barrier => {
-                self.pass(asked);
+        match asked.call.action() {
+            Action::Creates(creation) => self.create(alloc, asked.rank, creation.flavor, part),
+            Action::Frees { .. } => self.free(alloc, asked.rank),
+            Action::Synchronises(_, synchronisation) => {
+                self.enter_meeting(alloc, asked, &synchronisation)
+            }
+            Action::Meets => {
+                self.pass();
                 Ok(())
             }
-            Call::Attach { .. }
-            | Call::Detach { .. }
-            | Call::Post { .. }
-            | Call::Start { .. }
-            | Call::Complete { .. }
-            | Call::WaitWin { .. }
-            | Call::TestWin { .. }
-            | Call::LockOne { .. }
-            | Call::Unlock { .. }
-            | Call::LockAll { .. }
-            | Call::UnlockAll { .. }
-            | Call::Flush { .. }
-            | Call::FlushAll { .. }
-            | Call::FlushLocal { .. }
-            | Call::FlushLocalAll { .. }
-            | Call::Sync { .. }
-            | Call::Put { .. }
-            | Call::Get { .. }
-            | Call::Acc { .. }
-            | Call::GetAcc { .. }
-            | Call::Fop { .. }
-            | Call::Cas { .. }
-            | Call::Load { .. }
-            | Call::Store { .. }
-            | Call::WaitReq { .. }
-            | Call::TestReq { .. } => unreachable!(),
+            Action::Attaches { .. }
+            | Action::Detaches { .. }
+            | Action::Moves(_)
+            | Action::EndsRequest { .. } => unreachable!(),
         }
     }
 
@@ -86,39 +96,61 @@ impl WindowRecord {
         ensures { (q : Question) → IsQuestion q asked.now →
             KeepsBefore layout.now q self.old → KeepsAfter layout.now q asked.now.number Leave self.new }
     {
-        match asked.call {
-            Call::Free { .. } => self.freed(alloc, asked.rank),
-            Call::Allocate { .. } => self.pass(asked),
-            Call::Create { .. } => self.pass(asked),
-            Call::Dynamic { .. } => self.pass(asked),
-            Call::Fence { .. } => self.pass(asked),
-            Call::Barrier => self.pass(asked),
-            Call::Attach { .. }
-            | Call::Detach { .. }
-            | Call::Post { .. }
-            | Call::Start { .. }
-            | Call::Complete { .. }
-            | Call::WaitWin { .. }
-            | Call::TestWin { .. }
-            | Call::LockOne { .. }
-            | Call::Unlock { .. }
-            | Call::LockAll { .. }
-            | Call::UnlockAll { .. }
-            | Call::Flush { .. }
-            | Call::FlushAll { .. }
-            | Call::FlushLocal { .. }
-            | Call::FlushLocalAll { .. }
-            | Call::Sync { .. }
-            | Call::Put { .. }
-            | Call::Get { .. }
-            | Call::Acc { .. }
-            | Call::GetAcc { .. }
-            | Call::Fop { .. }
-            | Call::Cas { .. }
-            | Call::Load { .. }
-            | Call::Store { .. }
-            | Call::WaitReq { .. }
-            | Call::TestReq { .. } => unreachable!(),
+        match asked.call.action() {
+            Action::Frees { .. } => self.freed(alloc, asked.rank),
+            Action::Creates(_) => self.pass(),
+            Action::Synchronises(..) => self.pass(),
+            Action::Meets => self.pass(),
+            Action::Attaches { .. }
+            | Action::Detaches { .. }
+            | Action::Moves(_)
+            | Action::EndsRequest { .. } => unreachable!(),
+        }
+    }
+
+    /// A synchronisation of one entry has come, which was allowed.
+    fn enter_synchronisation(
+        &mut self,
+        alloc: Global,
+        asked: &Asked,
+        synchronisation: &Synchronisation<'_>,
+    ) -> Result<(), NoMemory>
+        requires asked { MayBeJudged asked.now }
+        requires names { names_wrong_rank asked.now.ranks synchronisation.now ≡ false }
+        requires one { is_some (fence_or_none synchronisation.now) ≡ false }
+        ensures ok { OnOk result ((layout : Layout) (q : Question) (win : ℕ) →
+            IsQuestion q asked.now →
+            action_of q.call ≡ Synchronises win synchronisation.now →
+            may_synchronise_now q synchronisation.now ≡ true →
+            KeepsBefore layout q self.old → KeepsAfter layout q asked.now.number One self.new) }
+        ensures err { OnErr result ((layout : Layout) (q : Question) →
+            KeepsBefore layout q self.old → KeepsBefore layout q self.new) }
+    {
+        let rank = asked.rank;
+        match synchronisation {
+            Synchronisation::Posts(group, _) => self.post(alloc, rank, group),
+            Synchronisation::Starts(group, _) => self.start(alloc, rank, group),
+            Synchronisation::Completes => self.complete(alloc, rank),
+            Synchronisation::Waits { .. } => self.wait(alloc, rank),
+            Synchronisation::Locks(kind, target, _) => {
+                let reach = reach_of(target, asked.ranks);
+                self.lock_state.lock(asked.window, rank, *kind, reach);
+                Ok(())
+            }
+            Synchronisation::Unlocks(target) => {
+                let reach = reach_of(target, asked.ranks);
+                self.lock_state.unlock(asked.window, rank, reach);
+                Ok(())
+            }
+            Synchronisation::Flushes { .. } => {
+                self.pass();
+                Ok(())
+            }
+            Synchronisation::Syncs => {
+                self.pass();
+                Ok(())
+            }
+            Synchronisation::Fences(_) => unreachable!(),
         }
     }
 
@@ -138,64 +170,26 @@ impl WindowRecord {
             KeepsBefore layout.now q self.old → KeepsBefore layout.now q self.new) }
     {
         let rank = asked.rank;
-        let window = asked.window;
-        match asked.call {
-            Call::Post { group, .. } => self.post(alloc, rank, group),
-            Call::Start { group, .. } => self.start(alloc, rank, group),
-            Call::Complete { .. } => self.complete(alloc, rank),
-            Call::WaitWin { .. } => self.wait(alloc, rank),
-            Call::TestWin { .. } => self.wait(alloc, rank),
-            Call::Attach { base, bytes, .. } => {
-                self.attach(alloc, rank, natural(*base), natural(*bytes))
+        match asked.call.action() {
+            Action::Synchronises(_, synchronisation) => {
+                self.enter_synchronisation(alloc, asked, &synchronisation)
             }
-            Call::Detach { base, .. } => {
-                self.detach(rank, natural(*base));
+            Action::Attaches { base, bytes, .. } => {
+                self.attach(alloc, rank, natural(base), natural(bytes))
+            }
+            Action::Detaches { base, .. } => {
+                self.detach(rank, natural(base));
                 Ok(())
             }
-            Call::LockOne { kind, target, .. } => {
-                let reach = reach_one(*target, asked.ranks);
-                self.lock_state.lock(window, rank, *kind, reach);
+            Action::Moves(_) => {
+                self.pass();
                 Ok(())
             }
-            Call::Unlock { target, .. } => {
-                let reach = reach_one(*target, asked.ranks);
-                self.lock_state.unlock(window, rank, reach);
+            Action::EndsRequest { .. } => {
+                self.pass();
                 Ok(())
             }
-            Call::LockAll { .. } => {
-                let reach = reach_all(asked.ranks);
-                self.lock_state.lock(window, rank, Lock::Shared, reach);
-                Ok(())
-            }
-            Call::UnlockAll { .. } => {
-                let reach = reach_all(asked.ranks);
-                self.lock_state.unlock(window, rank, reach);
-                Ok(())
-            }
-            Call::Flush { .. }
-            | Call::FlushAll { .. }
-            | Call::FlushLocal { .. }
-            | Call::FlushLocalAll { .. }
-            | Call::Sync { .. }
-            | Call::Put { .. }
-            | Call::Get { .. }
-            | Call::Acc { .. }
-            | Call::GetAcc { .. }
-            | Call::Fop { .. }
-            | Call::Cas { .. }
-            | Call::Load { .. }
-            | Call::Store { .. }
-            | Call::WaitReq { .. }
-            | Call::TestReq { .. } => {
-                self.pass(asked);
-                Ok(())
-            }
-            Call::Allocate { .. }
-            | Call::Create { .. }
-            | Call::Dynamic { .. }
-            | Call::Free { .. }
-            | Call::Fence { .. }
-            | Call::Barrier => unreachable!(),
+            Action::Creates(_) | Action::Frees { .. } | Action::Meets => unreachable!(),
         }
     }
 

@@ -18,7 +18,7 @@ use crate::matches::{has_completes, has_posts};
 use crate::truths::truths_of;
 use crate::window_record::WindowRecord;
 use entry_gains::Reach;
-use rma_types::{Asserts, Class, Group, Lock};
+use rma_types::{Asserts, Class, Lock, Ranks};
 
 impl WindowRecord {
     /// A rank of the reach is posted.
@@ -49,7 +49,7 @@ impl WindowRecord {
     }
 
     /// The answer to a start: its group's posts must have come.
-    pub(crate) fn judge_start(&self, asked: &Asked, group: &Group) -> Judged
+    pub(crate) fn judge_start(&self, asked: &Asked, group: &Ranks<'_>) -> Judged
         requires { asked.now.rank < 16 }
         ensures { (layout : Layout) (q : Question) (win : ℕ) (asserts : Asserts) →
             IsQuestion q asked.now →

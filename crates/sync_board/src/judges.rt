@@ -1,14 +1,13 @@
 //! What a next entry is answered, by what is kept of its window (MPI 3.1, section 11.5).
-ghost use Rattle.std.specs.Prelude.{◌≡◌, ℕ, ◌^◌, ◌<◌, ◌≤◌, Some};
+ghost use Rattle.std.specs.Prelude.{◌≡◌, ℕ, false, Some};
 ghost use Rattle.rma_types.specs.declared.accesses.Step.TheVariants.{Arrive, Leave, One};
 ghost use Rattle.rma_types.specs.declared.scripts.Layout.{Layout};
 ghost use Rattle.rma_types.specs.declared.actions.Creation.{Creation};
-ghost use Rattle.rma_types.specs.declared.actions.Transfer.{Transfer};
 ghost use Rattle.rma_types.specs.declared.actions.Action.TheVariants.{Creates, Moves, Synchronises};
 ghost use Rattle.rma_types.specs.declared.actions.Synchronisation.TheVariants.{Fences};
 ghost use Rattle.rma_types.specs.Actions.{action_of};
-ghost use Rattle.call_rules.specs.Ranks.{natural as natural_of};
-ghost use Rattle.call_rules.specs.Transfers.{rank_reached};
+ghost use Rattle.call_rules.specs.WellFormed.{IsWrittenTransfer};
+ghost use Rattle.rank_rules.specs.EpochTests.{names_wrong_rank};
 ghost use Rattle.board_rules.specs.Board.{decision};
 ghost use Rattle.board_rules.specs.Entries.{Barrier as BarrierCollective, collective_of};
 ghost use Rattle.board_rules.specs.Questions.{Question};
@@ -17,11 +16,11 @@ ghost use Rattle.sync_board.specs.Rounds.{collective_by};
 ghost use Rattle.sync_board.specs.Windows.{KeepsBefore};
 
 use crate::asked::{Asked, Judged, reached};
-use crate::reach::{reach_all, reach_one};
-use crate::rounds::Kind;
-use crate::truths::natural;
+use crate::reach::reach_of;
+use crate::rounds::{Kind, kind_of};
+use crate::truths::{few_elements, natural};
 use crate::window_record::WindowRecord;
-use rma_types::{Asserts, Call, Class, Dtype, Flavor, Lock, Step};
+use rma_types::{Action, Asserts, Class, Flavor, Step, Synchronisation, Transfer};
 
 impl WindowRecord {
     /// The answer to the arrival at a creation.
@@ -56,45 +55,42 @@ impl WindowRecord {
         }
     }
 
+    /// The answer to the arrival at a synchronisation.
+    fn judge_meeting(&self, asked: &Asked, synchronisation: &Synchronisation<'_>) -> Judged
+        ensures { (layout : Layout) (q : Question) (win : ℕ) → IsQuestion q asked.now →
+            action_of q.call ≡ Synchronises win synchronisation.now →
+            KeepsBefore layout q self.now → decision_of result ≡ decision q Arrive }
+    {
+        match synchronisation {
+            Synchronisation::Fences(asserts) => self.judge_fence(asked, *asserts),
+            Synchronisation::Posts(..)
+            | Synchronisation::Starts(..)
+            | Synchronisation::Completes
+            | Synchronisation::Waits { .. }
+            | Synchronisation::Locks(..)
+            | Synchronisation::Unlocks(_)
+            | Synchronisation::Flushes { .. }
+            | Synchronisation::Syncs => Judged::Allowed,
+        }
+    }
+
     /// The answer to an arrival.
     fn judge_arrival(&self, asked: &Asked) -> Judged
         ensures { (layout : Layout) (q : Question) → IsQuestion q asked.now →
             KeepsBefore layout q self.now →
             decision_of result ≡ decision q Arrive }
     {
-        match asked.call {
-            Call::Allocate { .. } => self.judge_creation(asked, Flavor::Allocate),
-            Call::Create { .. } => self.judge_creation(asked, Flavor::Create),
-            Call::Dynamic { .. } => self.judge_creation(asked, Flavor::Dynamic),
-            Call::Fence { asserts, .. } => self.judge_fence(asked, *asserts),
-            Call::Free { .. }
-            | Call::Attach { .. }
-            | Call::Detach { .. }
-            | Call::Post { .. }
-            | Call::Start { .. }
-            | Call::Complete { .. }
-            | Call::WaitWin { .. }
-            | Call::TestWin { .. }
-            | Call::LockOne { .. }
-            | Call::Unlock { .. }
-            | Call::LockAll { .. }
-            | Call::UnlockAll { .. }
-            | Call::Flush { .. }
-            | Call::FlushAll { .. }
-            | Call::FlushLocal { .. }
-            | Call::FlushLocalAll { .. }
-            | Call::Sync { .. }
-            | Call::Barrier
-            | Call::Put { .. }
-            | Call::Get { .. }
-            | Call::Acc { .. }
-            | Call::GetAcc { .. }
-            | Call::Fop { .. }
-            | Call::Cas { .. }
-            | Call::Load { .. }
-            | Call::Store { .. }
-            | Call::WaitReq { .. }
-            | Call::TestReq { .. } => Judged::Allowed,
+        match asked.call.action() {
+            Action::Creates(creation) => self.judge_creation(asked, creation.flavor),
+            Action::Synchronises(_, synchronisation) => {
+                self.judge_meeting(asked, &synchronisation)
+            }
+            Action::Frees { .. }
+            | Action::Attaches { .. }
+            | Action::Detaches { .. }
+            | Action::Meets
+            | Action::Moves(_)
+            | Action::EndsRequest { .. } => Judged::Allowed,
         }
     }
 
@@ -114,21 +110,46 @@ impl WindowRecord {
         }
     }
 
-    /// The answer to a look-up of so many elements, at most 256, from an address on: a byte that its target has not
-    /// attached refuses it.
-    fn judge_look_up(&self, target: usize, lo: u32, elements: u32, dtype: Dtype) -> Judged
-        requires lo { lo < 2 ^ 31 }
-        requires elements { elements ≤ 256 }
-        ensures { (layout : Layout) (q : Question) (t : Transfer) → action_of q.call ≡ Moves t →
-            rank_reached q.rank t.target ≡ target → natural_of t.disp ≡ lo → natural_of t.count ≡ elements →
-            t.dtype ≡ dtype → KeepsBefore layout q self.now → decision_of result ≡ decision q One }
+    /// The answer to the look-up of a transfer of the rank: a byte that its target has not attached
+    /// refuses it.
+    fn judge_look_up(&self, rank: u8, transfer: &Transfer<'_>) -> Judged
+        requires { IsWrittenTransfer transfer.now }
+        ensures { (layout : Layout) (q : Question) → q.rank ≡ rank →
+            action_of q.call ≡ Moves transfer.now →
+            KeepsBefore layout q self.now → decision_of result ≡ decision q One }
     {
-        let size = dtype.size();
+        let target = reached(rank, transfer.target);
+        let lo = natural(transfer.disp);
+        let elements = few_elements(transfer.count);
+        let size = transfer.dtype.size();
         let bytes = elements * size;
         if self.region_table.covers(target, lo, bytes) {
             Judged::Allowed
         } else {
             Judged::Refused(Class::Range)
+        }
+    }
+
+    /// The answer to a synchronisation that has one entry.
+    fn judge_synchronisation(&self, asked: &Asked, synchronisation: &Synchronisation<'_>) -> Judged
+        requires asked { MayBeJudged asked.now }
+        requires names { names_wrong_rank asked.now.ranks synchronisation.now ≡ false }
+        ensures { (layout : Layout) (q : Question) (win : ℕ) → IsQuestion q asked.now →
+            action_of q.call ≡ Synchronises win synchronisation.now →
+            KeepsBefore layout q self.now → decision_of result ≡ decision q One }
+    {
+        match synchronisation {
+            Synchronisation::Posts(..) => self.judge_post(asked),
+            Synchronisation::Starts(group, _) => self.judge_start(asked, group),
+            Synchronisation::Waits { .. } => self.judge_wait(asked),
+            Synchronisation::Locks(kind, target, _) => {
+                self.judge_lock(*kind, reach_of(target, asked.ranks))
+            }
+            Synchronisation::Fences(_)
+            | Synchronisation::Completes
+            | Synchronisation::Unlocks(_)
+            | Synchronisation::Flushes { .. }
+            | Synchronisation::Syncs => Judged::Allowed,
         }
     }
 
@@ -139,115 +160,17 @@ impl WindowRecord {
             KeepsBefore layout q self.now →
             decision_of result ≡ decision q One }
     {
-        let rank = asked.rank;
-        match asked.call {
-            Call::Post { .. } => self.judge_post(asked),
-            Call::Start { group, .. } => self.judge_start(asked, group),
-            Call::WaitWin { .. } => self.judge_wait(asked),
-            Call::TestWin { .. } => self.judge_wait(asked),
-            Call::LockOne { kind, target, .. } => self.judge_lock(
-                *kind,
-                reach_one(*target, asked.ranks),
-            ),
-            Call::LockAll { .. } => self.judge_lock(Lock::Shared, reach_all(asked.ranks)),
-            Call::Put {
-                target,
-                disp,
-                dtype,
-                values,
-                ..
-            } => {
-                self.judge_look_up(
-                    reached(rank, *target),
-                    natural(*disp),
-                    values.len() as u32,
-                    *dtype,
-                )
+        match asked.call.action() {
+            Action::Synchronises(_, synchronisation) => {
+                self.judge_synchronisation(asked, &synchronisation)
             }
-            Call::Get {
-                target,
-                disp,
-                dtype,
-                count,
-                ..
-            } => {
-                self.judge_look_up(
-                    reached(rank, *target),
-                    natural(*disp),
-                    natural(*count),
-                    *dtype,
-                )
-            }
-            Call::Acc {
-                target,
-                disp,
-                dtype,
-                values,
-                ..
-            } => {
-                self.judge_look_up(
-                    reached(rank, *target),
-                    natural(*disp),
-                    values.len() as u32,
-                    *dtype,
-                )
-            }
-            Call::GetAcc {
-                target,
-                disp,
-                dtype,
-                values,
-                ..
-            } => {
-                self.judge_look_up(
-                    reached(rank, *target),
-                    natural(*disp),
-                    values.len() as u32,
-                    *dtype,
-                )
-            }
-            Call::Fop {
-                target,
-                disp,
-                dtype,
-                ..
-            } => { self.judge_look_up(reached(rank, *target), natural(*disp), 1, *dtype) }
-            Call::Cas {
-                target,
-                disp,
-                dtype,
-                ..
-            } => { self.judge_look_up(reached(rank, *target), natural(*disp), 1, *dtype) }
-            Call::Load {
-                disp,
-                dtype,
-                count,
-                ..
-            } => { self.judge_look_up(rank as usize, natural(*disp), natural(*count), *dtype) }
-            Call::Store {
-                disp,
-                dtype,
-                values,
-                ..
-            } => { self.judge_look_up(rank as usize, natural(*disp), values.len() as u32, *dtype) }
-            Call::Allocate { .. }
-            | Call::Create { .. }
-            | Call::Dynamic { .. }
-            | Call::Free { .. }
-            | Call::Attach { .. }
-            | Call::Detach { .. }
-            | Call::Fence { .. }
-            | Call::Complete { .. }
-            | Call::Unlock { .. }
-            | Call::UnlockAll { .. }
-            | Call::Flush { .. }
-            | Call::FlushAll { .. }
-            | Call::FlushLocal { .. }
-            | Call::FlushLocalAll { .. }
-            | Call::Sync { .. }
-            | Call::Barrier
-            | Call::WaitReq { .. }
-            | Call::TestReq { .. } => Judged::Allowed,
+            Action::Moves(transfer) => self.judge_look_up(asked.rank, &transfer),
+            Action::Creates(_)
+            | Action::Frees { .. }
+            | Action::Attaches { .. }
+            | Action::Detaches { .. }
+            | Action::Meets
+            | Action::EndsRequest { .. } => Judged::Allowed,
         }
     }
 
@@ -262,39 +185,9 @@ impl WindowRecord {
         match asked.step {
             Step::Arrive => self.judge_arrival(asked),
             Step::One => self.judge_one(asked),
-            Step::Leave => match asked.call {
-                Call::Allocate { .. } => self.judge_leave(asked, Kind::Creation),
-                Call::Create { .. } => self.judge_leave(asked, Kind::Creation),
-                Call::Dynamic { .. } => self.judge_leave(asked, Kind::Creation),
-                Call::Free { .. } => self.judge_leave(asked, Kind::Freeing),
-                Call::Fence { .. } => self.judge_leave(asked, Kind::Fence),
-                Call::Attach { .. }
-                | Call::Detach { .. }
-                | Call::Post { .. }
-                | Call::Start { .. }
-                | Call::Complete { .. }
-                | Call::WaitWin { .. }
-                | Call::TestWin { .. }
-                | Call::LockOne { .. }
-                | Call::Unlock { .. }
-                | Call::LockAll { .. }
-                | Call::UnlockAll { .. }
-                | Call::Flush { .. }
-                | Call::FlushAll { .. }
-                | Call::FlushLocal { .. }
-                | Call::FlushLocalAll { .. }
-                | Call::Sync { .. }
-                | Call::Barrier
-                | Call::Put { .. }
-                | Call::Get { .. }
-                | Call::Acc { .. }
-                | Call::GetAcc { .. }
-                | Call::Fop { .. }
-                | Call::Cas { .. }
-                | Call::Load { .. }
-                | Call::Store { .. }
-                | Call::WaitReq { .. }
-                | Call::TestReq { .. } => Judged::Allowed,
+            Step::Leave => match kind_of(asked.call) {
+                Some(kind) => self.judge_leave(asked, kind),
+                None => Judged::Allowed,
             },
         }
     }

@@ -9,7 +9,7 @@ ghost use Rattle.sync_board.specs.Rounds.{flavor_in};
 
 use crate::asked::Asked;
 use crate::named::Windows;
-use rma_types::{Call, Flavor, NoMemory, Step};
+use rma_types::{Action, Call, Flavor, NoMemory, Step};
 use std::alloc::Global;
 use window_regions::Shape;
 
@@ -17,39 +17,15 @@ use window_regions::Shape;
 fn flavor_of(call: &Call) -> Option<Flavor>
     ensures { result ≡ flavor_in call.now }
 {
-    match call {
-        Call::Allocate { .. } => Some(Flavor::Allocate),
-        Call::Create { .. } => Some(Flavor::Create),
-        Call::Dynamic { .. } => Some(Flavor::Dynamic),
-        Call::Free { .. }
-        | Call::Attach { .. }
-        | Call::Detach { .. }
-        | Call::Fence { .. }
-        | Call::Post { .. }
-        | Call::Start { .. }
-        | Call::Complete { .. }
-        | Call::WaitWin { .. }
-        | Call::TestWin { .. }
-        | Call::LockOne { .. }
-        | Call::Unlock { .. }
-        | Call::LockAll { .. }
-        | Call::UnlockAll { .. }
-        | Call::Flush { .. }
-        | Call::FlushAll { .. }
-        | Call::FlushLocal { .. }
-        | Call::FlushLocalAll { .. }
-        | Call::Sync { .. }
-        | Call::Barrier
-        | Call::Put { .. }
-        | Call::Get { .. }
-        | Call::Acc { .. }
-        | Call::GetAcc { .. }
-        | Call::Fop { .. }
-        | Call::Cas { .. }
-        | Call::Load { .. }
-        | Call::Store { .. }
-        | Call::WaitReq { .. }
-        | Call::TestReq { .. } => None,
+    match call.action() {
+        Action::Creates(creation) => Some(creation.flavor),
+        Action::Frees { .. }
+        | Action::Attaches { .. }
+        | Action::Detaches { .. }
+        | Action::Synchronises(..)
+        | Action::Meets
+        | Action::Moves(_)
+        | Action::EndsRequest { .. } => None,
     }
 }
 

@@ -4,7 +4,7 @@ ghost use Rattle.rma_types.specs.Actions.{window_of_call as window_named_in};
 ghost use Rattle.call_rules.specs.WellFormed.{IsWrittenCall};
 ghost use Rattle.board_rules.specs.Entries.{begins_window as does_begin_window, is_creation as is_creation_call};
 
-use rma_types::{Call, Step};
+use rma_types::{Action, Call, Step};
 
 /// The name of the window that a call names.
 pub(crate) fn window_named(call: &Call) -> Option<u8>
@@ -12,37 +12,14 @@ pub(crate) fn window_named(call: &Call) -> Option<u8>
     ensures name { result ≡ window_named_in call.now }
     ensures below { IfSome result (λ name. name < 32) }
 {
-    match call {
-        Call::Allocate { win, .. }
-        | Call::Create { win, .. }
-        | Call::Dynamic { win }
-        | Call::Free { win }
-        | Call::Attach { win, .. }
-        | Call::Detach { win, .. }
-        | Call::Fence { win, .. }
-        | Call::Post { win, .. }
-        | Call::Start { win, .. }
-        | Call::Complete { win }
-        | Call::WaitWin { win }
-        | Call::TestWin { win }
-        | Call::LockOne { win, .. }
-        | Call::Unlock { win, .. }
-        | Call::LockAll { win, .. }
-        | Call::UnlockAll { win }
-        | Call::Flush { win, .. }
-        | Call::FlushAll { win }
-        | Call::FlushLocal { win, .. }
-        | Call::FlushLocalAll { win }
-        | Call::Sync { win }
-        | Call::Put { win, .. }
-        | Call::Get { win, .. }
-        | Call::Acc { win, .. }
-        | Call::GetAcc { win, .. }
-        | Call::Fop { win, .. }
-        | Call::Cas { win, .. }
-        | Call::Load { win, .. }
-        | Call::Store { win, .. } => Some(*win),
-        Call::Barrier | Call::WaitReq { .. } | Call::TestReq { .. } => None,
+    match call.action() {
+        Action::Creates(creation) => Some(creation.win),
+        Action::Frees { win }
+        | Action::Attaches { win, .. }
+        | Action::Detaches { win, .. }
+        | Action::Synchronises(win, _) => Some(win),
+        Action::Moves(transfer) => Some(transfer.win),
+        Action::Meets | Action::EndsRequest { .. } => None,
     }
 }
 
@@ -62,38 +39,14 @@ pub(crate) fn begins_window(call: &Call, step: Step) -> bool
 fn is_creation(call: &Call) -> bool
     ensures { result ≡ is_creation_call call.now }
 {
-    match call {
-        Call::Allocate { .. } => true,
-        Call::Create { .. } => true,
-        Call::Dynamic { .. } => true,
-        Call::Free { .. }
-        | Call::Attach { .. }
-        | Call::Detach { .. }
-        | Call::Fence { .. }
-        | Call::Post { .. }
-        | Call::Start { .. }
-        | Call::Complete { .. }
-        | Call::WaitWin { .. }
-        | Call::TestWin { .. }
-        | Call::LockOne { .. }
-        | Call::Unlock { .. }
-        | Call::LockAll { .. }
-        | Call::UnlockAll { .. }
-        | Call::Flush { .. }
-        | Call::FlushAll { .. }
-        | Call::FlushLocal { .. }
-        | Call::FlushLocalAll { .. }
-        | Call::Sync { .. }
-        | Call::Barrier
-        | Call::Put { .. }
-        | Call::Get { .. }
-        | Call::Acc { .. }
-        | Call::GetAcc { .. }
-        | Call::Fop { .. }
-        | Call::Cas { .. }
-        | Call::Load { .. }
-        | Call::Store { .. }
-        | Call::WaitReq { .. }
-        | Call::TestReq { .. } => false,
+    match call.action() {
+        Action::Creates(_) => true,
+        Action::Frees { .. }
+        | Action::Attaches { .. }
+        | Action::Detaches { .. }
+        | Action::Synchronises(..)
+        | Action::Meets
+        | Action::Moves(_)
+        | Action::EndsRequest { .. } => false,
     }
 }

@@ -1,19 +1,19 @@
 //! The rounds of collective calls on one window (MPI 3.1, sections 11.2.1 and 11.5.1).
 ghost use Rattle.std.specs.Prelude.{◌≡◌, ℕ, ◌<◌, not, List, length, Some, OnOk, OnErr};
 ghost use Rattle.std.specs.List.{list_any};
-ghost use Rattle.rma_types.specs.declared.calls.Call.{Call};
+ghost use Rattle.std.specs.Option.{option_and_then};
 ghost use Rattle.rank_rules.specs.Windows.{is_same_flavor};
-ghost use Rattle.board_rules.specs.Entries.{collective_of};
+ghost use Rattle.board_rules.specs.Entries.{collective_of, fence_or_none};
 ghost use Rattle.board_rules.specs.Questions.{Question};
 ghost use Rattle.board_rules.specs.Rounds.{all_arrived, do_asserts_differ, has_other_asserts, has_other_flavor};
 ghost use Rattle.board_rules.specs.Rounds.{is_differing_creation, is_differing_fence};
 ghost use Rattle.sync_board.specs.Sides.{Done, done_at};
 ghost use Rattle.sync_board.specs.Rounds.{HasRounds, arrival_in, arrivals_by, asserts_in, flavor_in, with_creation};
-ghost use Rattle.sync_board.specs.Rounds.{with_fence, with_free};
+ghost use Rattle.sync_board.specs.Rounds.{kind_by, with_fence, with_free};
 ghost use Rattle.sync_board.specs.Tables.{HasNoRounds};
 
 use crate::grown::Idle;
-use rma_types::{Asserts, Flavor, NoMemory};
+use rma_types::{Action, Asserts, Call, Flavor, NoMemory, Synchronisation};
 use std::alloc::Global;
 
 /// Which collective calls on a window are meant: its creations, frees or fences.
@@ -22,6 +22,39 @@ pub(crate) enum Kind {
     Creation,
     Freeing,
     Fence,
+}
+
+/// The kind of a synchronisation that is collective.
+fn fence_kind(synchronisation: &Synchronisation<'_>) -> Option<Kind>
+    ensures { result ≡ option_and_then kind_by (fence_or_none synchronisation.now) }
+{
+    match synchronisation {
+        Synchronisation::Fences(_) => Some(Kind::Fence),
+        Synchronisation::Posts(..)
+        | Synchronisation::Starts(..)
+        | Synchronisation::Completes
+        | Synchronisation::Waits { .. }
+        | Synchronisation::Locks(..)
+        | Synchronisation::Unlocks(_)
+        | Synchronisation::Flushes { .. }
+        | Synchronisation::Syncs => None,
+    }
+}
+
+/// The kind of a call that is collective on a window.
+pub(crate) fn kind_of(call: &Call) -> Option<Kind>
+    ensures { result ≡ option_and_then kind_by (collective_of call.now) }
+{
+    match call.action() {
+        Action::Creates(_) => Some(Kind::Creation),
+        Action::Frees { .. } => Some(Kind::Freeing),
+        Action::Synchronises(_, synchronisation) => fence_kind(&synchronisation),
+        Action::Attaches { .. }
+        | Action::Detaches { .. }
+        | Action::Meets
+        | Action::Moves(_)
+        | Action::EndsRequest { .. } => None,
+    }
 }
 
 /// The rounds in which one rank has arrived on one window: the flavors of its creations, the number of its frees,

@@ -3,7 +3,8 @@ ghost use Rattle.std.specs.Prelude.{◌≡◌, ℕ, ◌-◌, ◌<◌, ◌^◌, �
 ghost use Rattle.std.specs.Prelude.{slice_index, OnOk, OnErr};
 ghost use Rattle.rma_types.specs.declared.scripts.Layout.{Layout};
 ghost use Rattle.rma_types.specs.declared.accesses.Step.TheVariants.{Arrive, Leave};
-ghost use Rattle.rma_types.specs.declared.calls.Call.TheVariants.{Barrier as BarrierCall};
+ghost use Rattle.rma_types.specs.declared.actions.Action.TheVariants.{Meets as MeetsAction};
+ghost use Rattle.rma_types.specs.Actions.{action_of};
 ghost use Rattle.call_rules.specs.WellFormed.{IsWrittenCall};
 ghost use Rattle.board_rules.specs.Board.{Allow, decide};
 ghost use Rattle.board_rules.specs.Entries.{Barrier as BarrierCollective, Row, acts, collective_of, creations};
@@ -20,7 +21,7 @@ use crate::counts::{add, count_at, make_room};
 use crate::layouts::KeptLayout;
 use crate::named::Windows;
 use crate::places::{begins_window, window_named};
-use rma_types::{Call, NoMemory, Step};
+use rma_types::{Action, Call, NoMemory, Step};
 use std::alloc::Global;
 
 /// How many windows of each name each rank has begun to create, how often each rank has arrived at a barrier, and what
@@ -35,7 +36,8 @@ pub(crate) struct State {
 /// The entry leaves a barrier.
 fn leaves_barrier(asked: &Asked) -> bool
     requires { is_step_of asked.now.step asked.now.call.now ≡ true }
-    ensures leaves { result ≡ true → (asked.now.step ≡ Leave) × (asked.now.call.now ≡ BarrierCall) }
+    ensures leaves { result ≡ true →
+        (asked.now.step ≡ Leave) × (action_of asked.now.call.now ≡ MeetsAction) }
     ensures other { result ≡ false → collective_of asked.now.call.now ≡ Some BarrierCollective →
         asked.now.step ≡ Arrive }
 {
@@ -48,42 +50,18 @@ fn leaves_barrier(asked: &Asked) -> bool
 
 /// The call is a barrier.
 fn is_barrier(call: &Call) -> bool
-    ensures barrier { result ≡ true → call.now ≡ BarrierCall }
+    ensures barrier { result ≡ true → action_of call.now ≡ MeetsAction }
     ensures collective { result ≡ is_collective BarrierCollective call.now }
 {
-    match call {
-        Call::Barrier => true,
-        Call::Allocate { .. }
-        | Call::Create { .. }
-        | Call::Dynamic { .. }
-        | Call::Free { .. }
-        | Call::Attach { .. }
-        | Call::Detach { .. }
-        | Call::Fence { .. }
-        | Call::Post { .. }
-        | Call::Start { .. }
-        | Call::Complete { .. }
-        | Call::WaitWin { .. }
-        | Call::TestWin { .. }
-        | Call::LockOne { .. }
-        | Call::Unlock { .. }
-        | Call::LockAll { .. }
-        | Call::UnlockAll { .. }
-        | Call::Flush { .. }
-        | Call::FlushAll { .. }
-        | Call::FlushLocal { .. }
-        | Call::FlushLocalAll { .. }
-        | Call::Sync { .. }
-        | Call::Put { .. }
-        | Call::Get { .. }
-        | Call::Acc { .. }
-        | Call::GetAcc { .. }
-        | Call::Fop { .. }
-        | Call::Cas { .. }
-        | Call::Load { .. }
-        | Call::Store { .. }
-        | Call::WaitReq { .. }
-        | Call::TestReq { .. } => false,
+    match call.action() {
+        Action::Meets => true,
+        Action::Creates(_)
+        | Action::Frees { .. }
+        | Action::Attaches { .. }
+        | Action::Detaches { .. }
+        | Action::Synchronises(..)
+        | Action::Moves(_)
+        | Action::EndsRequest { .. } => false,
     }
 }
 
@@ -179,7 +157,7 @@ impl State {
     /// Every rank has arrived at barriers as often as this one.
     fn have_all_met(&self, ranks: u8, rank: u8) -> bool
         ensures { (q : Question) (rows : List Row) → q.rank ≡ rank → q.ranks ≡ ranks →
-            q.call ≡ BarrierCall →
+            action_of q.call ≡ MeetsAction →
             q.window ≡ 0 → q.entries ≡ acts rows →
             KeepsBarriers rows self.now.barriers.items → result ≡ all_arrived q }
     {
@@ -195,7 +173,7 @@ impl State {
 
     /// The answer to the Leave of a barrier.
     fn judge_barrier(&self, asked: &Asked) -> Judged
-        ensures { (layout : Layout) (rows : List Row) → asked.now.call.now ≡ BarrierCall →
+        ensures { (layout : Layout) (rows : List Row) → action_of asked.now.call.now ≡ MeetsAction →
             asked.now.step ≡ Leave →
             KeepsState layout asked.now.ranks rows self.now →
             decision_of result ≡ decide asked.now.ranks rows (row_asked asked.now) }

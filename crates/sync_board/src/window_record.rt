@@ -24,7 +24,7 @@ use crate::region_table::RegionTable;
 use crate::round_table::RoundTable;
 use crate::side_table::SideTable;
 use crate::truths::truths_of;
-use rma_types::{Asserts, Flavor, Group, NoMemory, Part};
+use rma_types::{Asserts, Flavor, NoMemory, Part, Ranks};
 use std::alloc::Global;
 
 /// The tables of one window. Each is empty until it is used.
@@ -59,7 +59,12 @@ impl Idle for WindowRecord {
 
 impl WindowRecord {
     /// The rank has posted to a group.
-    pub(crate) fn post(&mut self, alloc: Global, rank: u8, group: &Group) -> Result<(), NoMemory>
+    pub(crate) fn post(
+        &mut self,
+        alloc: Global,
+        rank: u8,
+        group: &Ranks<'_>,
+    ) -> Result<(), NoMemory>
         ensures ok { OnOk result ((layout : Layout) (q : Question) (number : ℕ) (step : Step)
             (win : ℕ)
             (asserts : Asserts) → q.rank ≡ rank → action_of q.call ≡ Synchronises win (Posts group.now asserts) →
@@ -73,7 +78,12 @@ impl WindowRecord {
     }
 
     /// The rank has started to a group.
-    pub(crate) fn start(&mut self, alloc: Global, rank: u8, group: &Group) -> Result<(), NoMemory>
+    pub(crate) fn start(
+        &mut self,
+        alloc: Global,
+        rank: u8,
+        group: &Ranks<'_>,
+    ) -> Result<(), NoMemory>
         ensures ok { OnOk result ((layout : Layout) (q : Question) (number : ℕ) (step : Step)
             (win : ℕ)
             (asserts : Asserts) → q.rank ≡ rank → action_of q.call ≡ Synchronises win (Starts group.now asserts) →
