@@ -1,10 +1,13 @@
 #!/usr/bin/env python3
 """Measures adds to shared cells and turns on several threads, beside the same work in plain Rust; run by hand.
 
-The program of thread_times/ is built by rt try in a copy of the repository, and thread_times/plain.rs by rustc -O. Of
-some runs the least whole time and the least processor time, less those of a run that does nothing.
+In a copy of the repository the crate of thread_times/ is put among the crates, and rt run proves and builds it; its
+files end in .txt here, since rt ci takes no source that crates.txt doesn't list. thread_times/plain.rs is built by
+rustc -O. Of some runs the least whole time and the least processor time, less those of a run that does nothing.
 
-    threads.py [RUNS]    by default 5 runs; a machine that does nothing else
+    threads.py [RUNS]           by default 5 runs; a machine that does nothing else
+    threads.py --keep FOLDER    builds both programs into the folder, as proved and plain
+    threads.py --of FOLDER [RUNS]    measures the programs that were kept there
 """
 import os
 import shutil
@@ -13,14 +16,10 @@ import sys
 import tempfile
 import time
 
-from tried import tried_program
-
 HERE = os.path.dirname(os.path.abspath(__file__))
 TOP = os.path.join(HERE, "..")
 CRATE = "thread_times"
-NEEDS = "rma_types call_rules cell_face cell_words listed_values turn_lock atomic_table"
-# So long that rt try's run is found before it ends.
-LONG = ["turns", "2", "3000000"]
+NEEDS = "rma_types call_rules cell_face cell_words listed_values turn_lock"
 # What is done, on how many threads, and how often on each.
 CASES = [
     ("own", 1, 1000000),
@@ -30,7 +29,7 @@ CASES = [
     ("one", 16, 1000000),
     ("turns", 1, 1000000),
     ("turns", 4, 20000),
-    ("turns", 16, 5000),
+    ("turns", 16, 20000),
 ]
 NAMES = {"own": "adds, a cell for each thread", "one": "adds, one cell for all", "turns": "turns"}
 
@@ -40,28 +39,44 @@ def ignored(folder, names):
     return [name for name in names if name == "out"]
 
 
+def put_crate(crate):
+    """Puts the files of thread_times/ into the folder of a crate, without the ending .txt."""
+    source = os.path.join(HERE, CRATE)
+    for folder, _, names in os.walk(source):
+        for name in names:
+            stem, ending = os.path.splitext(name)
+            if ending != ".txt":
+                continue
+            where = os.path.join(crate, os.path.relpath(folder, source))
+            os.makedirs(where, exist_ok=True)
+            shutil.copy(os.path.join(folder, name), os.path.join(where, stem))
+
+
 def build_proved(program):
-    """Builds the program of thread_times/ in a copy of the repository."""
+    """Proves and builds the program of thread_times/ in a copy of the repository."""
     with tempfile.TemporaryDirectory() as copy:
+        crate = os.path.join(copy, "crates", CRATE)
         shutil.copytree(os.path.join(TOP, "crates"), os.path.join(copy, "crates"), ignore=ignored)
-        source = os.path.join(copy, "crates", CRATE, "src")
-        os.makedirs(source)
-        # rt ci takes no source that crates.txt doesn't list, so the file ends in .txt here
-        shutil.copy(os.path.join(HERE, CRATE, "src", "main.rt.txt"), os.path.join(source, "main.rt"))
+        put_crate(crate)
         shutil.copy(os.path.join(TOP, "HANDLES"), copy)
         shutil.copy(os.path.join(TOP, "crates.txt"), copy)
         with open(os.path.join(copy, "crates.txt"), "a") as file:
             file.write("%s: %s\n" % (CRATE, NEEDS))
-        code = tried_program([CRATE, "--"] + LONG, os.path.join(copy, "crates", CRATE), "")
-    with open(program, "wb") as file:
-        file.write(code)
-    os.chmod(program, 0o755)
+        if subprocess.run(["rt", "run", "--", "own", "1", "0"], cwd=crate).returncode != 0:
+            sys.exit("rt run did not prove, build and run %s" % CRATE)
+        shutil.copy(os.path.join(crate, "out", CRATE), program)
 
 
 def build_plain(program):
     """Builds the same in plain Rust."""
     source = os.path.join(HERE, CRATE, "plain.rs")
     subprocess.run(["rustc", "-O", "--edition", "2021", source, "-o", program], check=True)
+
+
+def build_both(folder):
+    """Builds both programs into a folder."""
+    build_plain(os.path.join(folder, "plain"))
+    build_proved(os.path.join(folder, "proved"))
 
 
 def run(program, what, threads, times):
@@ -90,23 +105,31 @@ def for_each(program, case, runs):
     return (whole - idle_whole) / each, (used - idle_used) / each
 
 
+def measure(folder, runs):
+    """Prints a table of what the two programs in a folder take."""
+    print("Load before: %.1f" % os.getloadavg()[0])
+    print("| what | threads | each | whole time for one, in ns | processor time for one, in ns "
+          "| plain Rust: whole | plain Rust: processor |")
+    print("|---|---|---|---|---|---|---|")
+    for case in CASES:
+        what, threads, times = case
+        ours = for_each(os.path.join(folder, "proved"), case, runs)
+        theirs = for_each(os.path.join(folder, "plain"), case, runs)
+        print("| %s | %d | %d | %.1f | %.1f | %.1f | %.1f |" % (
+            NAMES[what], threads, times, *ours, *theirs), flush=True)
+
+
 def main():
-    runs = int(sys.argv[1]) if len(sys.argv) > 1 else 5
-    with tempfile.TemporaryDirectory() as folder:
-        proved = os.path.join(folder, "proved")
-        plain = os.path.join(folder, "plain")
-        build_plain(plain)
-        build_proved(proved)
-        print("Load before: %.1f" % os.getloadavg()[0])
-        print("| what | threads | each | whole time for one, in ns | processor time for one, in ns "
-              "| plain Rust: whole | plain Rust: processor |")
-        print("|---|---|---|---|---|---|---|")
-        for case in CASES:
-            what, threads, times = case
-            ours = for_each(proved, case, runs)
-            theirs = for_each(plain, case, runs)
-            print("| %s | %d | %d | %.0f | %.0f | %.0f | %.0f |" % (
-                NAMES[what], threads, times, *ours, *theirs), flush=True)
+    words = sys.argv[1:]
+    if words[:1] == ["--keep"]:
+        os.makedirs(words[1], exist_ok=True)
+        build_both(words[1])
+    elif words[:1] == ["--of"]:
+        measure(words[1], int(words[2]) if len(words) > 2 else 5)
+    else:
+        with tempfile.TemporaryDirectory() as folder:
+            build_both(folder)
+            measure(folder, int(words[0]) if words else 5)
 
 
 if __name__ == "__main__":

@@ -1,4 +1,4 @@
-//! The same work as `src/main.rt` in plain Rust: atomic words that lie beside each other, and a mutex for the turn.
+//! The same work as `src/main.rt` in plain Rust: 256 atomic words, and a mutex for the turn.
 use std::sync::Mutex;
 use std::sync::atomic::{AtomicU64, Ordering};
 use std::thread::scope;
@@ -7,12 +7,12 @@ fn main() {
     let words: Vec<String> = std::env::args().collect();
     let threads: usize = words[2].parse().unwrap();
     let times: u32 = words[3].parse().unwrap();
-    let cells: Vec<AtomicU64> = (0..threads).map(|_| AtomicU64::new(0)).collect();
+    let cells: Vec<AtomicU64> = (0..256).map(|_| AtomicU64::new(0)).collect();
     let value = Mutex::new(Vec::<u32>::new());
     scope(|all| {
         for at in 0..threads {
             let cell = match words[1].as_str() {
-                "own" => Some(&cells[at]),
+                "own" => Some(&cells[at * 16]),
                 "one" => Some(&cells[0]),
                 _ => None,
             };
