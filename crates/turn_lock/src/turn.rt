@@ -104,8 +104,11 @@ impl<V: Listed> Turn<V> {
             None => {}
             Some(_) => unreachable!(),
         }
-        shared.fetch_add::<HandOn>(&mut seat.place, SERVED, 1);
-        shared.wake_all(SERVED);
+        let served = shared.fetch_add::<HandOn>(&mut seat.place, SERVED, 1);
+        // whoever draws a ticket after this look finds the turn handed on
+        if shared.peek(TICKET) != served.wrapping_add(1) {
+            shared.wake_all(SERVED);
+        }
     }
 
     /// Learns what another seat knows, without waiting: afterwards this seat knows the longer of the two lists.
