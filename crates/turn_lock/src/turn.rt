@@ -25,10 +25,13 @@ const SERVED: usize = 1;
 /// The only slot.
 const VALUE: usize = 0;
 
-/// How often a waiter who is next looks again before it sleeps.
+/// How far from the turn a waiter may be and still yield before it sleeps.
+const NEAR: u64 = 3;
+
+/// How often it looks again before it sleeps.
 const LOOKS: u64 = 64;
 
-/// How long a waiter sleeps for each one that stands before the next: 20 microseconds.
+/// How long a waiter sleeps for each one that stands before it: 20 microseconds.
 const PAUSE: u64 = 20_000;
 
 /// The most of them that count for the length of a sleep.
@@ -183,20 +186,20 @@ impl<V: Listed> Turn<V> {
         }
     }
 
-    // Waits a little, unless it is its turn by now: who is next yields, and then sleeps until the turn is handed on;
-    // the others sleep the longer the more stand before them.
+    // Waits a little, unless it is its turn by now. Who is near yields some times, and then sleeps: who is next until
+    // the turn is handed on, another the longer the more stand before it.
     fn pause<R: Wait>(&self, ticket: u64, looks: u64, rt: &R) {
         let shared = &self.round.shared;
         let served = shared.peek(SERVED);
         let before = ticket.wrapping_sub(served);
-        if before > 1 {
+        if before <= NEAR && looks < LOOKS {
+            thread::yield_now();
+        } else if before == 1 {
+            shared.park(rt, SERVED, low_half(served));
+        } else if before > 1 {
             let tickets = shared.peek(TICKET);
             let nanos = PAUSE * before.min(MOST);
             shared.park_timeout(rt, TICKET, low_half(tickets), Duration::from_nanos(nanos));
-        } else if before == 1 && looks >= LOOKS {
-            shared.park(rt, SERVED, low_half(served));
-        } else if before == 1 {
-            thread::yield_now();
         }
     }
 }
