@@ -9,6 +9,11 @@ pub record Round : Type 0 where
   pub table : TableId
   pub first : BoardState
 
+-- a turn as its seats share it: which it is, and how many seats it has
+pub record SharedTurn : Type 0 where
+  pub round : Round
+  pub seats : ℕ
+
 -- a seat: the turn that it is at, its number, the entries as it last had them, and whether it has the board
 pub record Place : Type 0 where
   pub turn : Round

@@ -12,14 +12,14 @@ pub struct BoardTurn<N: Token> {
 
 impl<N: Token> Model for BoardTurn<N> {
     ghost use Rattle.sync_board.specs.Boards.{before_entries};
-    ghost use Rattle.turn_lock.specs.Seats.{name_of, origin_of};
-    ghost use Rattle.board_turns.specs.Places.{Round};
+    ghost use Rattle.turn_lock.specs.Seats.{name_of, origin_of, seats_of};
+    ghost use Rattle.board_turns.specs.Places.{SharedTurn};
 
-    ghost Value = { Round };
+    ghost Value = { SharedTurn };
 
     ghost view = { λ it. record {
-      table = name_of it.turn;
-      first = origin_of before_entries it.turn;
+      round = record { table = name_of it.turn; first = origin_of before_entries it.turn };
+      seats = seats_of it.turn;
     } };
 }
 

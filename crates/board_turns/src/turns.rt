@@ -1,5 +1,7 @@
 //! What a turn round a board does.
-ghost use Rattle.std.specs.Prelude.{◌≡◌, ◌<◌, ℕ, [], length, slice_get, Some, IfOk};
+ghost use Rattle.std.specs.Prelude.{◌≡◌, ◌<◌, ℕ, [], false, length, slice_get, Some, All, IfOk};
+ghost use mathlib.Core.List.{IsPrefix};
+ghost use Rattle.sync_board.specs.Boards.{rank_of};
 ghost use Rattle.board_turns.specs.Places.{new_place};
 
 use crate::seats::{BoardSeat, BoardTurn};
@@ -20,10 +22,11 @@ impl<N: Token> BoardTurn<N> {
     ) -> Result<(BoardTurn<N>, Vec<BoardSeat<N>>), NoMemory>
         requires seats { 0 < seats }
         requires empty { board.entries ≡ [] }
-        ensures first { IfOk result (λ made. made.0.first ≡ board) }
+        ensures first { IfOk result (λ made. made.0.round.first ≡ board) }
+        ensures seats { IfOk result (λ made. made.0.seats ≡ seats) }
         ensures count { IfOk result (λ made. length made.1.items ≡ seats) }
         ensures new { IfOk result (λ made. (k : ℕ) → k < seats →
-            slice_get made.1.items k ≡ Some (new_place made.0 k)) }
+            slice_get made.1.items k ≡ Some (new_place made.0.round k)) }
     {
         let (turn, free) = Turn::new(alloc, board, seats)?;
         let mut places = Vec::with_capacity(alloc, seats as usize).map_err(|_| NoMemory)?;
@@ -32,12 +35,30 @@ impl<N: Token> BoardTurn<N> {
         }
         Ok((BoardTurn { turn }, places))
     }
+
+    /// Ends the turn with all its seats, and hands the board back. Each of its entries is of a rank that is the number of
+    /// one of the seats, and they begin with those that a seat knows.
+    pub fn close(self, alloc: Global, seats: Vec<BoardSeat<N>>) -> Result<Board<N>, NoMemory>
+        requires turn { All (λ seat. seat.turn ≡ self.round) seats.items }
+        requires rest { All (λ seat. seat.holds ≡ false) seats.items }
+        requires count { length seats.items ≡ self.seats }
+        ensures owners { IfOk result (λ board.
+            All (λ one. rank_of one < self.seats) board.entries) }
+        ensures known { IfOk result (λ board.
+            All (λ seat. IsPrefix seat.known board.entries) seats.items) }
+    {
+        let mut places = Vec::with_capacity(alloc, seats.len()).map_err(|_| NoMemory)?;
+        for seat in seats {
+            places.push_reserved(seat.seat);
+        }
+        Ok(self.turn.close(places))
+    }
 }
 
 impl<N: Token + Send> Turning<N> for BoardTurn<N> {
     type Seat = BoardSeat<N>;
 
-    ghost round = { λ turn. turn };
+    ghost round = { λ turn. turn.round };
 
     ghost place = { λ seat. seat };
 
