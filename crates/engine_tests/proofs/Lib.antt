@@ -1,0 +1,3 @@
+-- The proofs.
+pub mod KeptSeats
+pub mod LastTwo

@@ -1,0 +1,2 @@
+-- A rank that takes steps at a board.
+pub mod Seated
